@@ -1,0 +1,10 @@
+pub mod Ascii
+pub mod Classes
+pub mod Compare
+pub mod Scan
+pub mod Numbers
+pub mod Lists
+pub mod Cases
+pub mod Scans
+pub mod Sames
+pub mod Runs
