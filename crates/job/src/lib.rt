@@ -1,0 +1,1 @@
+// The job, read line by line.
