@@ -1,0 +1,1 @@
+// The Tcl-subset reader.
