@@ -45,3 +45,17 @@ pub fn num(s: &[u32], i: usize) -> u32
     }
     0
 }
+
+// A number as a place.
+pub fn wide(x: u32) -> usize
+    ensures { λ r. ⌜ r ≡ x ⌝ }
+{
+    x as usize
+}
+
+// The number at i, as a place.
+pub fn place(s: &[u32], i: usize) -> usize
+    ensures { λ r. ⌜ r ≡ getD (now (s .entry)) i 0 ⌝ }
+{
+    wide(num(s, i))
+}
