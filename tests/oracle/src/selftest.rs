@@ -57,8 +57,9 @@ impl Test {
         self.same(&format!("{name}: {part}"), glue.matches(part).count(), times);
     }
 
-    /// The listed paths of the first domain.
+    /// The listed paths of the first domain, which are also ours.
     fn paths(&mut self, name: &str, job: &[u8], want: &[&str]) {
+        self.answer(name, job, (0, 0));
         let job = job::parse(job).expect("a well formed job");
         let listed = rust_paths(&job).and_then(|p| p.ok()).unwrap_or_default();
         let got = listed.into_iter().next().and_then(|d| d.1);
@@ -66,8 +67,9 @@ impl Test {
         self.same(name, got, Some(want));
     }
 
-    /// A line of the records.
+    /// A line of the records, which are also ours.
     fn record(&mut self, name: &str, job: &[u8], want: &str) {
+        self.answer(name, job, (0, 0));
         let job = job::parse(job).expect("a well formed job");
         let all = rust_reading(&job).map(|r| layers::records(&r.records));
         let all = all.unwrap_or_default();

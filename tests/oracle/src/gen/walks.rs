@@ -87,21 +87,15 @@ fn type_calls(all: &mut Vec<Case>) {
     put(all, "type not found by 4,096 calls", job(&searched(62, &[])), 11, 0);
     put(all, "type not found by 4,097 calls", job(&searched(63, &[])), 13, 0);
     // An unlisted module is not called.
-    put(
-        all,
-        "type not found by 4,096 calls and an unlisted module",
-        job(&searched(62, &[("ghost", 1)])),
-        11,
-        0,
-    );
+    let ghost = job(&searched(62, &[("ghost", 1)]));
+    put(all, "type not found by 4,096 calls and an unlisted module", ghost, 11, 0);
     // 13 before 12: the type is found, its module is not listed.
     let unlisted = |n: usize| searched(n, &[("kind", 1)]).replace("module=kind\nstyle=empty\n", "");
     put(all, "unlisted type found by 4,096 calls", job(&unlisted(62)), 12, 0);
     put(all, "unlisted type found by 4,097 calls", job(&unlisted(63)), 13, 0);
-    // The search ends at the first instance of the type.
-    let early = searched(63, &[])
-        .replace("inst=0 u0 a\n", "inst=0 k kind\ninst=0 u0 a\n")
-        .replace("inst=0 u63 b\n", "");
+    // The search ends at the first instance of the type; behind it are more than 8,000 modules.
+    let rest = [module("a", &[("leaf", 64)]), module("leaf", &[("tip", 1)]), module("tip", &[])].concat();
+    let early = [module("top", &[("kind", 1), ("a", 63)]), module("kind", &[]), rest].concat();
     put(all, "type found by the first instance", job(&early), 0, 0);
     // With an override, or for the top itself, nothing is searched.
     let over = Sheet::new("set_design_top kind").mods(&searched(63, &[("kind", 1)])).over("/").bytes();
