@@ -23,6 +23,7 @@ fn words(t: &mut Test) {
     t.words("a quoted `\\$`", r#""\$W""#, &w, &[&["v"]]);
     t.words("a plain `\\$`", r"\$W", &w, &[&[r"\v"]]);
     t.words("names", "$W-${W}x${W-$X-${}-${X}-$", &w, &[&["v-vxv-$X-${}-${X}-$"]]);
+    t.words("a brace that is not the name's", "$W} ${W}}", &w, &[&["v}", "v}"]]);
     t.words("a comment goes on", "# c \\\nputs a\nputs b", &[], &[&["puts", "b"]]);
     t.words("joined lines", "a\\\nb\\\r\nc\\\rd", &[], &[&["a", "b", "c\\", "d"]]);
     t.words("`;` ends a command", "a;b;;c d;#x;y\ne", &[], &[&["a"], &["b"], &["c", "d"], &["e"]]);
