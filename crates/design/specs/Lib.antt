@@ -1,0 +1,7 @@
+pub mod Limits
+pub mod Lists
+pub mod Lookup
+pub mod Search
+pub mod Ports
+pub mod Connections
+pub mod Paths
