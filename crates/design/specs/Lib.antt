@@ -5,3 +5,4 @@ pub mod Search
 pub mod Ports
 pub mod Connections
 pub mod Paths
+pub mod Examples
