@@ -6,3 +6,5 @@ pub mod Ports
 pub mod Connections
 pub mod Paths
 pub mod Examples
+pub mod Laws
+pub mod Losables
