@@ -8,3 +8,4 @@ pub mod Paths
 pub mod Examples
 pub mod Laws
 pub mod Losables
+pub mod AcceptedNames
