@@ -1,0 +1,4 @@
+pub mod Limits
+pub mod Walk
+pub mod Reach
+pub mod Listed
