@@ -94,10 +94,10 @@ mem-flat f {a = a} {b = b} (here {x = x} {xs = l} e) n = on-left (flatMap f l) (
 mem-flat f {a = a} {b = b} (there {x = x} {xs = l} m) n = on-right (f x) (mem-flat f m n)
 
 -- two functions that agree on a list's members
-pub flat-same : {A B : Type 0} (f g : A → List B) (l : List A) → ((a : A) → f a ≡ g a) → flatMap f l ≡ flatMap g l
+pub flat-same : {A B : Type 0} (f g : A → List B) (l : List A) → ((a : A) → Mem a l → f a ≡ g a) → flatMap f l ≡ flatMap g l
 unfolding flatMap
 flat-same f g [] h = refl
-flat-same f g (x ∷ l) h = rw (h x, flat-same f g l h)
+flat-same f g (x ∷ l) h = rw (h x (here refl), flat-same f g l (λ a m. h a (there m)))
 
 pub some-mem : {A B : Type 0} (o : Option A) (f : A → List B) {b : B} → Mem b (onSome o [] f) → (a : A) × (o ≡ some a) × Mem b (f a)
 some-mem none f m = absurd (not-nil m)
@@ -140,6 +140,15 @@ first-mem {A} t (x ∷ l) {a} e = go (t x) (first-mem t l) e
     go : (b : Bool) → (first t l ≡ some a → Mem a l) → cond b (some x) (first t l) ≡ some a → Mem a (x ∷ l)
     go true ih e = here {x = x} (cc)
     go false ih e = there (ih e)
+
+pub first-passes : {A : Type 0} (t : A → Bool) (l : List A) {a : A} → first t l ≡ some a → t a ≡ true
+unfolding first
+first-passes t [] e = let z : _≡_ {A = ℕ} 0 1 = cc in absurd (omega arith)
+first-passes {A} t (x ∷ l) {a} e = go (t x) refl (first-passes t l) e
+  where
+    go : (b : Bool) → t x ≡ b → (first t l ≡ some a → t a ≡ true) → cond b (some x) (first t l) ≡ some a → t a ≡ true
+    go true h ih e = let s : x ≡ a = cc in ap t (sym s) ∙ h
+    go false h ih e = ih e
 
 -- ---- what is added where it is new
 

@@ -2,3 +2,5 @@ pub mod Limits
 pub mod Walk
 pub mod Reach
 pub mod Listed
+pub mod Chains
+pub mod Retained

@@ -5,9 +5,9 @@ use mathlib.Core.Path.{_≡_}
 use mathlib.Core.Bool.{false}
 use mathlib.Core.Logic.{_⊎_}
 use mathlib.Core.Option.{some}
-use mathlib.Core.List.{List, [], _∷_, map, List·Memᴰ as Mem}
+use mathlib.Core.List.{List, [], _∷_, _++_, map, List·Memᴰ as Mem}
 use lib.ListN.{length}
-use Rattle.text.specs.Ascii.{Bytes}
+use Rattle.text.specs.Ascii.{Bytes, byte}
 use Rattle.job.specs.Job.{Inst, Module, Job}
 use Rattle.job.specs.Parse.{parse, accepted}
 use Rattle.design.specs.Lookup.{instances, moduleNamed, moduleAt}
@@ -57,6 +57,12 @@ pub record DomainReaches (d : List Module) (base : Module) (scope entries es : L
   pub element : Bytes
   pub has : Mem element es
   pub reached : ElementReaches d base scope entries element q
+
+-- ---- paths beneath a path
+
+-- q lies beneath v: v and a dot are its first bytes; all paths lie beneath the empty one, which is the top's
+abbrev pub Beneath : Bytes → Bytes → Type 0
+Beneath v q = (v ≡ []) ⊎ ((rest : Bytes) × (q ≡ v ++ byte "." ∷ rest))
 
 -- ---- lists and their numbers
 
