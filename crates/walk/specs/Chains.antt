@@ -43,7 +43,7 @@ two-cuts (a ∷ p) w (x ∷ v) rest e le =
     ⊎-map (λ s. ap₂ _∷_ (sym (cons-inj e .0)) s) (λ r. r) (two-cuts p w v rest (cons-inj e .1) (omega arith))
 
 -- a cut that lies in the first part
-cut-before : (a u v rest : Bytes) → a ++ u ≡ v ++ dot ∷ rest → length v < length a → (w : Bytes) × (a ≡ v ++ dot ∷ w)
+pub cut-before : (a u v rest : Bytes) → a ++ u ≡ v ++ dot ∷ rest → length v < length a → (w : Bytes) × (a ≡ v ++ dot ∷ w)
 cut-before [] u v rest e lt = absurd (omega arith)
 cut-before (x ∷ a) u [] rest e lt = (a, ap₂ _∷_ (cons-inj e .0) refl)
 cut-before (x ∷ a) u (y ∷ v) rest e lt =
@@ -61,7 +61,7 @@ child-longer [] n = omega arith
 child-longer (x ∷ p) n = omega (arith, length-append p (dot ∷ n))
 
 -- a path below p begins with p
-begins : (p : Bytes) (chain : List Inst) (n : Bytes) → (u : Bytes) × (childPath (endOf p chain) n ≡ p ++ u)
+pub begins : (p : Bytes) (chain : List Inst) (n : Bytes) → (u : Bytes) × (childPath (endOf p chain) n ≡ p ++ u)
 begins [] [] n = (n, refl)
 begins (x ∷ p) [] n = (dot ∷ n, refl)
 begins [] (i ∷ is) n = (childPath (endOf (i .name) is) n, refl)

@@ -4,3 +4,5 @@ pub mod Reach
 pub mod Listed
 pub mod Chains
 pub mod Retained
+pub mod Three
+pub mod Demand

@@ -1,6 +1,6 @@
 -- What it is that an element reaches a path: said by a chain of instances, apart from the walk.
 -- Assumes nothing.
-use Prim.Native.Nat.{ℕ, _≤_}
+use Prim.Native.Nat.{ℕ, _≤_, _<_}
 use mathlib.Core.Path.{_≡_}
 use mathlib.Core.Bool.{false}
 use mathlib.Core.Logic.{_⊎_}
@@ -60,9 +60,9 @@ pub record DomainReaches (d : List Module) (base : Module) (scope entries es : L
 
 -- ---- paths beneath a path
 
--- q lies beneath v: v and a dot are its first bytes; all paths lie beneath the empty one, which is the top's
+-- q lies beneath v: it begins with v and a dot; beneath the empty path, which is the top's, lies every other
 abbrev pub Beneath : Bytes → Bytes → Type 0
-Beneath v q = (v ≡ []) ⊎ ((rest : Bytes) × (q ≡ v ++ byte "." ∷ rest))
+Beneath v q = ((v ≡ []) × (0 < length q)) ⊎ ((rest : Bytes) × (q ≡ v ++ byte "." ∷ rest))
 
 -- ---- lists and their numbers
 

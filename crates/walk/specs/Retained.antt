@@ -15,16 +15,16 @@ use Rattle.text.specs.Compare.{same}
 use Rattle.text.specs.Scan.{any}
 use Rattle.text.specs.Sames.{differ}
 use Rattle.job.specs.Job.{Inst, Module}
-use Rattle.design.specs.Lists.{onSome, isIn}
+use Rattle.design.specs.Lists.{onSome, isIn, addAll}
 use Rattle.design.specs.Lookup.{instances, moduleAt}
 use Rattle.design.specs.Paths.{childPath, scopePath, dotOf, dotted, elementPath, retainedPath, filledParts}
 use Rattle.design.specs.Laws.{le-or-lt, mem-isIn, map-mem, flat-same}
-use Rattle.design.specs.Losables.{moduleAt-mem}
+use Rattle.design.specs.Losables.{named-mem, moduleAt-mem}
 use Rattle.design.specs.AcceptedNames.{Plain}
 use Rattle.walk.specs.Walk.{entered, own, corruptible, retainedPaths, elementList, domainList}
 use Rattle.walk.specs.Reach.{Leads, endOf, onWay, Reaches, ElementReaches, DomainReaches, Beneath}
-use Rattle.walk.specs.Chains.{Dotless, child-longer, way-first, way-of-cut, leads-mem, leads-all}
-use Rattle.walk.specs.Listed.{listed-reached, reached-listed}
+use Rattle.walk.specs.Chains.{Dotless, child-longer, cut-before, begins, way-first, way-of-cut, leads-mem, leads-all}
+use Rattle.walk.specs.Listed.{entered-inv}
 
 -- ---- more retained entries
 
@@ -75,30 +75,37 @@ element-ends d base scope entries e h = go (moduleAt d base (filledParts e))
     go none = refl
     go (some m) = ends-here d (retainedPaths scope entries) 32 m (elementPath scope e) h
 
--- an element that reaches a path beneath a retained one begins deeper than it
-pub begins-deeper : (d : List Module) (base : Module) (scope entries : List Bytes) (e q v : Bytes) → Plain d → Mem base d → ElementReaches d base scope entries e q → Mem v (retainedPaths scope entries) → Beneath v q → length v < length (elementPath scope e)
-begins-deeper d base scope entries e q v ok at r ret below =
-    ⊎-elim (λ le. absurd (r .reaches .clear v (⊎-elim (top le) (cut le) below) ret)) (λ lt. lt) (le-or-lt (length p) (length v))
+-- an element that reaches a path beneath a retained one lies beneath it too
+pub from-beneath : (d : List Module) (base : Module) (scope entries : List Bytes) (e q v : Bytes) → Plain d → Mem base d → ElementReaches d base scope entries e q → Mem v (retainedPaths scope entries) → Beneath v q → Beneath v (elementPath scope e)
+from-beneath d base scope entries e q v ok at r ret below =
+    ⊎-elim (λ le. absurd (r .reaches .clear v (met le below) ret)) (λ lt. deeper lt below) (le-or-lt (length p) (length v))
   where
     p : Bytes
     p = elementPath scope e
 
-    top : length p ≤ length v → v ≡ [] → Mem v (onWay p (r .reaches .chain))
-    top le z = go p le
-      where
-        go : (u : Bytes) → length u ≤ length v → Mem v (onWay u (r .reaches .chain))
-        go [] h = cast z (way-first [] (r .reaches .chain))
-        go (x ∷ u) h = absurd (omega (arith, ap length z))
+    chain : List Inst
+    chain = r .reaches .chain
 
     start-at : Mem (r .start) d
     start-at = moduleAt-mem d base (filledParts e) at (r .found)
 
-    cut : length p ≤ length v → (rest : Bytes) × (q ≡ v ++ byte "." ∷ rest) → Mem v (onWay p (r .reaches .chain))
-    cut le c =
-        way-of-cut p (r .reaches .chain) (r .reaches .name) v (c .0)
-        (leads-all d (λ i. Dotless (i .name)) (ok .inst-dotless) (r .start) (r .reaches .chain) (r .reaches .last) start-at (r .reaches .leads))
-        (ok .name-dotless (r .reaches .last) (leads-mem d (r .start) (r .reaches .chain) (r .reaches .last) start-at (r .reaches .leads)) (r .reaches .name) (r .reaches .loses))
+    top : v ≡ [] → (u : Bytes) → length u ≤ length v → Mem v (onWay u chain)
+    top z [] h = cast z (way-first [] chain)
+    top z (x ∷ u) h = absurd (omega (arith, ap length z))
+
+    met : length p ≤ length v → Beneath v q → Mem v (onWay p chain)
+    met le (inl z) = top (z .0) p le
+    met le (inr c) =
+        way-of-cut p chain (r .reaches .name) v (c .0)
+        (leads-all d (λ i. Dotless (i .name)) (ok .inst-dotless) (r .start) chain (r .reaches .last) start-at (r .reaches .leads))
+        (ok .name-dotless (r .reaches .last) (leads-mem d (r .start) chain (r .reaches .last) start-at (r .reaches .leads)) (r .reaches .name) (r .reaches .loses))
         le (sym (r .reaches .written) ∙ c .1)
+
+    deeper : length v < length p → Beneath v q → Beneath v p
+    deeper lt (inl z) = inl (z .0, omega arith)
+    deeper lt (inr c) =
+        let b = begins p chain (r .reaches .name) in
+        inr (cut-before p (b .0) v (c .0) (sym (b .1) ∙ sym (r .reaches .written) ∙ c .1) lt)
 
 -- ---- retained paths that no module on the way has
 
@@ -159,3 +166,50 @@ below-walked d base scope E F r rest = go (moduleAt d base (filledParts e))
         (λ m p h. other-entry scope E F r p (λ z. omega arith))
         (λ m p i m′ h at is. omega (arith, child-longer p (i .name)))
         32 m (elementPath scope e) (below-longer scope r rest)
+
+-- ---- the empty entry under a scope
+
+child-two : (p n : Bytes) → 0 < length p → 0 < length n → length p + 2 ≤ length (childPath p n)
+child-two [] n hp hn = absurd (omega arith)
+child-two (x ∷ p) n hp hn = omega (arith, length-append p (byte "." ∷ n))
+
+child-one : (p : Bytes) → 0 < length p → length (childPath p []) ≡ length p + 1
+child-one [] h = absurd (omega arith)
+child-one (x ∷ p) h = omega (arith, length-append p (byte "." ∷ []))
+
+element-lengths : (scope : List Bytes) (e : Bytes) → 0 < length (scopePath scope) → (length (elementPath scope e) ≡ length (scopePath scope)) ⊎ (length (scopePath scope) + 2 ≤ length (elementPath scope e))
+element-lengths scope [] h = inl refl
+element-lengths scope (c ∷ e) h = inr (child-two (scopePath scope) (dotted (c ∷ e)) h (omega (arith, length-dotted (c ∷ e))))
+
+module _ (d : List Module) (base : Module) (scope : List Bytes) (ok : Plain d) (at : Mem base d) (long : 0 < length (scopePath scope)) where
+  -- the paths that the walk comes to are as long as the scope's, or longer by a dot and a byte
+  Q : Module → Bytes → Type 0
+  Q m p = Mem m d × ((length p ≡ length (scopePath scope)) ⊎ (length (scopePath scope) + 2 ≤ length p))
+
+  further : (m : Module) (p : Bytes) (i : Inst) (m′ : Module) → Q m p → Mem i (instances m) → entered d i ≡ some m′ → Q m′ (childPath p (i .name))
+  unfolding Q
+  further m p i m′ h has is =
+      let filled = ok .inst-filled m (h .0) i has in (
+        named-mem d (i .type) (entered-inv d i is .1),
+        inr (⊎-elim (λ e. omega (arith, e, child-two p (i .name) (omega (arith, e)) filled)) (λ l. omega (arith, l, child-two p (i .name) (omega (arith, l)) filled)) (h .1)),
+      )
+
+  not-empty-entry : (p : Bytes) → (length p ≡ length (scopePath scope)) ⊎ (length (scopePath scope) + 2 ≤ length p) → length p ≡ length (retainedPath scope []) → ⊥
+  not-empty-entry p h e = ⊎-elim (λ x. omega (arith, child-one (scopePath scope) long, x, e)) (λ x. omega (arith, child-one (scopePath scope) long, x, e)) h
+
+  -- it changes nothing, wherever it stands
+  pub empty-element : (E F : List Bytes) (e : Bytes) → elementList d base scope (E ++ [] ∷ F) e ≡ elementList d base scope (E ++ F) e
+  unfolding elementList Q
+  empty-element E F e = go (moduleAt d base (filledParts e)) refl
+    where
+      go : (o : Option Module) → moduleAt d base (filledParts e) ≡ o → onSome o [] (λ m. corruptible d (retainedPaths scope (E ++ [] ∷ F)) 32 m (elementPath scope e)) ≡ onSome o [] (λ m. corruptible d (retainedPaths scope (E ++ F)) 32 m (elementPath scope e))
+      go none f = refl
+      go (some m) f =
+          walks-agree d (retainedPaths scope (E ++ [] ∷ F)) (retainedPaths scope (E ++ F)) Q
+          (λ m p h. other-entry scope E F [] p (not-empty-entry p (h .1)))
+          further 32 m (elementPath scope e) (moduleAt-mem d base (filledParts e) at f, element-lengths scope e long)
+
+  pub empty-domain : (E F es : List Bytes) → domainList d base scope (E ++ [] ∷ F) es ≡ domainList d base scope (E ++ F) es
+  unfolding domainList
+  empty-domain E F es =
+      ap (addAll []) (flat-same (elementList d base scope (E ++ [] ∷ F)) (elementList d base scope (E ++ F)) es (λ e has. empty-element E F e))
