@@ -11,7 +11,6 @@ use Rattle.text.specs.Compare.{same}
 use Rattle.text.specs.Scan.{any, splitAt}
 use Rattle.job.specs.Fields.{empty}
 use Rattle.job.specs.Job.{Inst, Module}
-use Rattle.job.specs.Lines.{no-inst}
 use Rattle.job.specs.Parse.{Parsed, accepted, refused}
 use Rattle.job.specs.Examples.{run}
 use Rattle.design.specs.Lists.{onSome, first, those, addNew, addAll}
@@ -115,47 +114,47 @@ both-losable = refl
 
 -- ---- connections
 
--- the net of a port of the instance `u`, whose module has the header a, b, c; the lines are its connections
-unfoldable pub actual : String → String → Option Bytes
+-- the net of a port of the top's instance `u`, whose module has the header a, b, c; the lines are its connections
+unfoldable pub actual : String → String → Option (Option Bytes)
 unfolding the design first decided any same
 actual conns port =
     let d = design ("module=top\nstyle=empty\ninst=0 u sub\n" ++ conns ++ "module=sub\nstyle=ansi\nport=out a\nport=out b\nport=out c\n") in
-    outputActual (onSome (instanceNamed (the d "top") (ascii "u")) no-inst λ i. i) (the d "sub") (ascii port)
+    Option·map (λ (i : Inst). outputActual i (the d "sub") (ascii port)) (instanceNamed (the d "top") (ascii "u"))
 
-by-star : actual "conn=star\n" "a" ≡ some (ascii "a")
+by-star : actual "conn=star\n" "a" ≡ some (some (ascii "a"))
 unfolding actual
 by-star = refl
 
-by-nothing : actual "" "a" ≡ none
+by-nothing : actual "" "a" ≡ some none
 unfolding actual
 by-nothing = refl
 
-by-implicit : actual "conn=implicit a\n" "a" ≡ some (ascii "a")
+by-implicit : actual "conn=implicit a\n" "a" ≡ some (some (ascii "a"))
 unfolding actual
 by-implicit = refl
 
 -- the first one decides
-by-name : actual "conn=named a x\nconn=named a y\n" "a" ≡ some (ascii "x")
+by-name : actual "conn=named a x\nconn=named a y\n" "a" ≡ some (some (ascii "x"))
 unfolding actual
 by-name = refl
 
--- not a plain identifier: it decides, also before `star`
-by-expression : actual "conn=star\nconn=named a -\nconn=named a y\n" "a" ≡ none
+-- not a plain identifier: it decides, also beside `star`
+by-expression : actual "conn=star\nconn=named a -\nconn=named a y\n" "a" ≡ some none
 unfolding actual
 by-expression = refl
 
 -- `star` comes last
-star-last : actual "conn=star\nconn=named a x\n" "a" ≡ some (ascii "x")
+star-last : actual "conn=star\nconn=named a x\n" "a" ≡ some (some (ascii "x"))
 unfolding actual
 star-last = refl
 
 -- `pos` counts all connections before it
-by-place : actual "conn=star\nconn=named a x\nconn=pos y\n" "c" ≡ some (ascii "y")
+by-place : actual "conn=star\nconn=named a x\nconn=pos y\n" "c" ≡ some (some (ascii "y"))
 unfolding actual
 by-place = refl
 
--- past the header it is no port's
-past-header : actual "conn=pos x\nconn=pos x\nconn=pos x\nconn=pos y\n" "" ≡ none
+-- past the header it is no port's, not that of the empty name either
+past-header : actual "conn=pos x\nconn=pos x\nconn=pos x\nconn=pos y\n" "" ≡ some none
 unfolding actual
 past-header = refl
 

@@ -6,3 +6,4 @@ pub mod Chains
 pub mod Retained
 pub mod Three
 pub mod Demand
+pub mod Examples

@@ -33,11 +33,12 @@ corruptible d retained (suc left) m path =
     cond (isIn path retained) []
     (own m path ++ flatMap (λ i. onSome (entered d i) [] λ m′. corruptible d retained left m′ (childPath path (i .name))) (instances m))
 
--- "modules entered .., each time counted, none at a retained path or past depth 32"
+-- a sum over a list
 unfoldable pub sumOver : {A : Type 0} → (A → ℕ) → List A → ℕ
 sumOver f [] = 0
 sumOver f (x ∷ xs) = f x + sumOver f xs
 
+-- "modules entered .., each time counted, none at a retained path or past depth 32"
 unfoldable pub modulesEntered : List Module → List Bytes → ℕ → Module → Bytes → ℕ
 modulesEntered d retained zero m path = cond (isIn path retained) 0 1
 modulesEntered d retained (suc left) m path =
@@ -46,6 +47,7 @@ modulesEntered d retained (suc left) m path =
 
 -- ---- one domain
 
+-- the retained entries as paths below the scope
 abbrev pub retainedPaths : List Bytes → List Bytes → List Bytes
 retainedPaths scope entries = map (retainedPath scope) entries
 
