@@ -1,13 +1,13 @@
 -- The names in the module lines of an accepted job are NAMEs: of its ports, declarations and instances. So none of them has a dot or is empty.
 -- Assumes nothing.
 use Prim.Native.Nat.{ℕ, zero, suc, _+_, _<_}
-use mathlib.Core.Path.{_≡_, refl, sym, ap, subst, _∙_}
-use mathlib.Core.Logic.{_⊎_, inl, inr, ⊎-elim}
+use mathlib.Core.Path.{_≡_, refl, sym, subst}
+use mathlib.Core.Logic.{⊎-elim}
 use mathlib.Core.Bool.{Bool, true, false, cond, not, _&&_}
 use mathlib.Core.Option.{Option, none, some, Option·map}
 use mathlib.Core.List.{List, [], _∷_, _++_, map}
 use mathlib.Core.List.{List·Memᴰ as Mem, List·Memᴰ·head as here, List·Memᴰ·tail as there, List·Memᴰ·not-nil as not-nil, List·Memᴰ·cases-cons as cases-cons}
-use mathlib.Core.List.{Memᴰ·cast as cast, List·Memᴰ·append-cases as append-cases, List·Memᴰ·eq-of-singleton as eq-single}
+use mathlib.Core.List.{List·Memᴰ·append-cases as append-cases, List·Memᴰ·eq-of-singleton as eq-single}
 use native.Mathlib.Omega.{arith}
 use lib.Dec.{leb, ltb}
 use lib.ListN.{length, take, drop}
@@ -21,7 +21,7 @@ use Rattle.text.specs.Sames.{both, no-true}
 use Rattle.job.specs.Limits.{most-name, most-bytes, most-files, most-modules, most-ports, most-decls, most-insts, most-conns}
 use Rattle.job.specs.Fields.{Dir, Kind, Style, isName, isPath, dirOf, dimsOf, kindOf, styleOf}
 use Rattle.job.specs.Job.{File, Port, Decl, Conn, Inst, Module, Job, no-job}
-use Rattle.job.specs.Lines.{Due, due-top, due-override, due-start, due-file, due-bytes, due-more, due-style, due-ports, due-decls, due-insts, due-nothing, Read, refuse, on, Checked, bad, good, check, andThen, checks, unlimited, any-value, when, keyed, onLast, withFiles, withModules, addPort, addDecl, withInsts, addInst, addConn, orElse, firstOf, kindsDue, isBody, thisModule, thisInst, fields, mayHave, asPort, asDecl, asInst}
+use Rattle.job.specs.Lines.{Due, due-top, due-override, due-start, due-file, due-bytes, due-more, due-style, due-ports, due-decls, due-insts, due-nothing, Read, refuse, on, Checked, bad, good, check, andThen, checks, unlimited, any-value, when, keyed, onLast, withFiles, withModules, addPort, addDecl, withInsts, addInst, addConn, orElse, isBody, thisModule, thisInst, fields, mayHave, asPort, asDecl, asInst}
 use Rattle.job.specs.Lines.{topLine, overrideLine, startLine, fileRead, fileLine, bytesLine, moduleRead, moduleLine, styleLine, portOf, portLine, declOf, declLine, instOf, instRead, instLine, connOf, connLine, endLine, readLine}
 use Rattle.job.specs.Parse.{Parsed, accepted, refused, isNothing, hasLine, firstLine, behindLine, carryOn, lines, listed, parse}
 use Rattle.design.specs.Ports.{losable}

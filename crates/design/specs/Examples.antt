@@ -4,7 +4,7 @@ use Prim.Native.Nat.{ℕ, zero, suc}
 use Prim.Native.String.{String, _++_}
 use mathlib.Core.Path.{_≡_, refl}
 use mathlib.Core.Bool.{false}
-use mathlib.Core.List.{List, [], _∷_, map, flatMap}
+use mathlib.Core.List.{List, [], _∷_, flatMap}
 use mathlib.Core.Option.{Option, none, some, Option·map}
 use Rattle.text.specs.Ascii.{Bytes, ascii, byte}
 use Rattle.text.specs.Compare.{same}
@@ -15,7 +15,7 @@ use Rattle.job.specs.Parse.{Parsed, accepted, refused}
 use Rattle.job.specs.Examples.{run}
 use Rattle.design.specs.Lists.{onSome, first, those, addNew, addAll}
 use Rattle.design.specs.Lookup.{moduleNamed, instanceNamed, moduleAt}
-use Rattle.design.specs.Search.{Search, amongInstances, searchFrom, searchType, findByType}
+use Rattle.design.specs.Search.{Search, amongInstances, searchFrom, searchType}
 use Rattle.design.specs.Ports.{portOrder, directed, outputPorts, inputPorts, losable}
 use Rattle.design.specs.Connections.{decided, outputActual}
 use Rattle.design.specs.Paths.{elementPath, retainedPath, parts, filledParts}

@@ -1,3 +1,4 @@
+-- Definitions, in document 01's words.
 pub mod Limits
 pub mod Lists
 pub mod Lookup
@@ -6,6 +7,7 @@ pub mod Ports
 pub mod Connections
 pub mod Paths
 pub mod Examples
+-- Laws.
 pub mod Laws
 pub mod Losables
 pub mod AcceptedNames

@@ -1,21 +1,20 @@
 -- Laws: what is losable, said by membership; a lookup stays in the module lines.
 -- Assumes nothing.
-use mathlib.Core.Path.{_≡_, refl, sym, ap, _∙_}
+use mathlib.Core.Path.{_≡_, refl, ap, _∙_}
 use mathlib.Core.Logic.{_⊎_, inl, inr, ⊎-elim, _↔_}
-use mathlib.Core.Bool.{Bool, true, false, not, _&&_}
-use mathlib.Core.Option.{Option, none, some}
-use mathlib.Core.List.{List, [], _∷_, _++_, map, flatMap}
+use mathlib.Core.Bool.{Bool, not, _&&_}
+use mathlib.Core.Option.{none, some}
+use mathlib.Core.List.{List, [], _∷_, _++_}
 use mathlib.Core.List.{List·Memᴰ as Mem, List·Memᴰ·head as here, List·Memᴰ·not-nil as not-nil, List·Memᴰ·cases-cons as cases-cons, List·Memᴰ·tail as there}
 use mathlib.Core.List.{Memᴰ·cast as cast, Memᴰ·map as mem-map, Memᴰ·append-left as on-left, Memᴰ·append-right as on-right, List·Memᴰ·append-cases as append-cases, List·Memᴰ·eq-of-singleton as eq-single}
 use Rattle.text.specs.Ascii.{Bytes}
-use Rattle.text.specs.Sames.{both}
 use Rattle.text.specs.Compare.{same}
 use Rattle.job.specs.Fields.{Dir, input, output, Style, Kind, net, variable, body}
 use Rattle.job.specs.Job.{Port, Decl, Inst, Module}
-use Rattle.design.specs.Lists.{onSome, those, isIn, addAll}
-use Rattle.design.specs.Lookup.{instances, moduleNamed, instanceNamed, moduleAt}
+use Rattle.design.specs.Lists.{onSome, those, isIn}
+use Rattle.design.specs.Lookup.{moduleNamed, instanceNamed, moduleAt}
 use Rattle.design.specs.Ports.{taken, directed, headerPorts, bodyPort, bodyPorts, isOutput, outputs, outputPorts, inputPorts, isSignal, signals, losable}
-use Rattle.design.specs.Laws.{not-is-true, isIn-out, out-isIn, map-mem, mem-flat, flat-mem, those-mem, mem-those, first-mem, some-of, addAll-old, addAll-new, addAll-inv}
+use Rattle.design.specs.Laws.{not-is-true, isIn-out, out-isIn, map-mem, mem-flat, flat-mem, those-mem, mem-those, first-mem, some-of, addAll-new, addAll-inv}
 
 -- "Losable in a module: output ports, and `net` and `data` names with D 0; never a name that is also a non-output port."
 pub losable-iff : (m : Module) (n : Bytes) → Mem n (losable m) ↔ ((Mem n (outputPorts m) ⊎ Mem n (signals (m .decls))) × (Mem n (inputPorts m) → ⊥))

@@ -1,7 +1,7 @@
 -- Laws: the paths of the modules on the way. Where names have no dot, they are those parts of the reached path, as long as the first path or
 -- longer, that a dot follows; so of two chains to one path the one that begins at the longer path meets only what the other meets.
 -- Assumes nothing.
-use Prim.Native.Nat.{ℕ, zero, suc, _+_, _≤_, _<_}
+use Prim.Native.Nat.{ℕ, _+_, _≤_, _<_}
 use mathlib.Core.Path.{_≡_, refl, sym, ap, ap₂, subst, _∙_}
 use mathlib.Core.Logic.{_⊎_, inl, inr, ⊎-elim, ⊎-map}
 use mathlib.Core.List.{List, [], _∷_, _++_, append-assoc}
@@ -12,11 +12,10 @@ use native.Mathlib.Nat.{le-trans}
 use lib.ListN.{length, length-append}
 use Rattle.text.specs.Ascii.{Bytes, byte}
 use Rattle.job.specs.Job.{Inst, Module}
-use Rattle.design.specs.Lookup.{instances, moduleNamed}
+use Rattle.design.specs.Lookup.{instances}
 use Rattle.design.specs.Paths.{childPath}
 use Rattle.design.specs.Laws.{le-or-lt}
 use Rattle.design.specs.Losables.{named-mem}
-use Rattle.design.specs.AcceptedNames.{Plain}
 use Rattle.walk.specs.Reach.{Leads, endOf, onWay}
 
 abbrev dot : ℕ

@@ -7,12 +7,16 @@ use mathlib.Core.List.{List, [], _∷_, flatMap}
 use Rattle.text.specs.Ascii.{Bytes, ascii}
 use Rattle.text.specs.Compare.{same}
 use Rattle.text.specs.Scan.{any, splitAt}
+use Rattle.job.specs.Job.{Job, no-job}
+use Rattle.job.specs.Parse.{Parsed, accepted, refused}
+use Rattle.job.specs.Examples.{run}
 use Rattle.design.specs.Lists.{onSome, first, those, addNew, addAll}
 use Rattle.design.specs.Lookup.{moduleAt}
 use Rattle.design.specs.Ports.{directed}
 use Rattle.design.specs.Paths.{childPath}
 use Rattle.design.specs.Examples.{design, names, the}
 use Rattle.walk.specs.Walk.{entered, corruptible, modulesEntered, sumOver, elementList, elementEntered, domainList, domainEntered}
+use Rattle.walk.specs.Reach.{Scope}
 
 -- the list of a domain: the module lines of a job whose top is `top`, the scope's names, the retained entries, the elements
 unfoldable pub lost : String → List Bytes → List Bytes → List Bytes → List Bytes
@@ -149,3 +153,21 @@ depth-32 = refl
 depth-entered : counted deep [] [] blank ≡ 33
 unfolding counted
 depth-entered = refl
+
+-- ---- what the promises of an accepted job ask for can be met
+
+abbrev marked-job : String
+marked-job = "top=top\noverride=\nstart=p\nfile=p\nbytes=0\n\n" ++ marked ++ "end=\n"
+
+abbrev jobOf : Parsed → Job
+jobOf (accepted j) = j
+jobOf (refused x n) = no-job
+
+-- the scope at the top, and at `u1`
+top-scope : Scope (ascii marked-job) (jobOf (run marked-job)) [] (the (design marked) "top")
+unfolding run the design first same moduleAt
+top-scope = record { accepts = refl; top = the (design marked) "top"; is-top = refl; exists = refl }
+
+u1-scope : Scope (ascii marked-job) (jobOf (run marked-job)) (names "u1") (the (design marked) "core")
+unfolding run the design names first same moduleAt
+u1-scope = record { accepts = refl; top = the (design marked) "top"; is-top = refl; exists = refl }

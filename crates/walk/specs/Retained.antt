@@ -1,28 +1,27 @@
 -- Laws: retained paths. More of them never add a path; a module at one ends its branch; an element below one is walked.
 -- Assumes nothing.
 use Prim.Native.Nat.{ℕ, zero, suc, _+_, _≤_, _<_}
-use mathlib.Core.Path.{_≡_, refl, sym, ap, subst, _∙_}
+use mathlib.Core.Path.{_≡_, refl, sym, ap, _∙_}
 use mathlib.Core.Logic.{_⊎_, inl, inr, ⊎-elim}
-use mathlib.Core.Bool.{Bool, true, false, cond}
+use mathlib.Core.Bool.{cond}
 use mathlib.Core.Option.{Option, none, some}
-use mathlib.Core.List.{List, [], _∷_, _++_, map, flatMap}
-use mathlib.Core.List.{List·Memᴰ as Mem, List·Memᴰ·head as here, List·Memᴰ·tail as there, List·Memᴰ·not-nil as not-nil, List·Memᴰ·cases-cons as cases-cons}
-use mathlib.Core.List.{Memᴰ·cast as cast, Memᴰ·map as mem-map, List·Memᴰ·eq-of-singleton as eq-single}
+use mathlib.Core.List.{List, [], _∷_, _++_}
+use mathlib.Core.List.{List·Memᴰ as Mem}
+use mathlib.Core.List.{Memᴰ·cast as cast, Memᴰ·map as mem-map}
 use native.Mathlib.Omega.{arith}
 use lib.ListN.{length, length-append}
 use Rattle.text.specs.Ascii.{Bytes, byte}
-use Rattle.text.specs.Compare.{same}
 use Rattle.text.specs.Scan.{any}
 use Rattle.text.specs.Sames.{differ}
 use Rattle.job.specs.Job.{Inst, Module}
 use Rattle.design.specs.Lists.{onSome, isIn, addAll}
 use Rattle.design.specs.Lookup.{instances, moduleAt}
-use Rattle.design.specs.Paths.{childPath, scopePath, dotOf, dotted, elementPath, retainedPath, filledParts}
+use Rattle.design.specs.Paths.{childPath, scopePath, dotted, elementPath, retainedPath, filledParts}
 use Rattle.design.specs.Laws.{le-or-lt, mem-isIn, map-mem, flat-same}
 use Rattle.design.specs.Losables.{named-mem, moduleAt-mem}
 use Rattle.design.specs.AcceptedNames.{Plain}
 use Rattle.walk.specs.Walk.{entered, own, corruptible, retainedPaths, elementList, domainList}
-use Rattle.walk.specs.Reach.{Leads, endOf, onWay, Reaches, ElementReaches, DomainReaches, Beneath}
+use Rattle.walk.specs.Reach.{onWay, Reaches, ElementReaches, DomainReaches, Beneath}
 use Rattle.walk.specs.Chains.{Dotless, child-longer, cut-before, begins, way-first, way-of-cut, leads-mem, leads-all}
 use Rattle.walk.specs.Listed.{entered-inv}
 

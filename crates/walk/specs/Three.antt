@@ -1,13 +1,13 @@
 -- Laws: three retention lists, the third being the two others joined. Of two chains to one path the one that begins deeper is clear of both lists.
 -- Assumes nothing.
 use Prim.Native.Nat.{ℕ, _≤_}
-use mathlib.Core.Path.{_≡_, sym, _∙_}
-use mathlib.Core.Logic.{_⊎_, inl, inr, ⊎-elim, ⊎-map, ⊎-swap}
-use mathlib.Core.List.{List, map, List·Memᴰ as Mem, Memᴰ·cast as cast, Memᴰ·map as mem-map}
+use mathlib.Core.Path.{sym, _∙_}
+use mathlib.Core.Logic.{_⊎_, ⊎-elim, ⊎-map, ⊎-swap}
+use mathlib.Core.List.{List, List·Memᴰ as Mem, Memᴰ·cast as cast, Memᴰ·map as mem-map}
 use native.Mathlib.Nat.{le-of-lt}
 use lib.ListN.{length}
 use Rattle.text.specs.Ascii.{Bytes}
-use Rattle.job.specs.Job.{Inst, Module}
+use Rattle.job.specs.Job.{Module}
 use Rattle.design.specs.Paths.{elementPath, retainedPath, filledParts}
 use Rattle.design.specs.Laws.{le-or-lt, map-mem}
 use Rattle.design.specs.Losables.{moduleAt-mem}
