@@ -1,0 +1,1 @@
+// Design resolution: lookups in the module lines, ports, connections and paths.

@@ -1,0 +1,1 @@
+// The walk: the signals that a domain loses.
