@@ -1,0 +1,6 @@
+pub mod Limits
+pub mod Records
+pub mod Scope
+pub mod Names
+pub mod Commands
+pub mod Within
