@@ -6,3 +6,5 @@ pub mod Substitution
 pub mod Lists
 pub mod Arguments
 pub mod Examples
+pub mod Rewrites
+pub mod Machines

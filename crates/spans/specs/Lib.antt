@@ -1,0 +1,4 @@
+pub mod Span
+pub mod Area
+pub mod Frame
+pub mod Writes

@@ -1,0 +1,4 @@
+pub mod Runs
+pub mod Pieces
+pub mod Names
+pub mod Writing

@@ -1,0 +1,5 @@
+pub mod Written
+pub mod Piece
+pub mod Stored
+pub mod Put
+pub mod Puts
