@@ -1,0 +1,9 @@
+pub mod Limits
+pub mod Scope
+pub mod Setting
+pub mod Supplies
+pub mod Switches
+pub mod Isolation
+pub mod Domains
+pub mod Texts
+pub mod Examples
