@@ -18,12 +18,12 @@ use Rattle.text.specs.Compare.{same, startsWith}
 use Rattle.text.specs.Numbers.{isDecimal, valueFrom}
 use Rattle.text.specs.Scan.{all, any}
 use Rattle.text.specs.Sames.{both, no-true}
-use Rattle.job.specs.Limits.{most-name, most-bytes, most-files, most-modules, most-ports, most-decls, most-insts, most-conns}
-use Rattle.job.specs.Fields.{Dir, Kind, Style, isName, isPath, dirOf, dimsOf, kindOf, styleOf}
-use Rattle.job.specs.Job.{File, Port, Decl, Conn, Inst, Module, Job, no-job}
-use Rattle.job.specs.Lines.{Due, due-top, due-override, due-start, due-file, due-bytes, due-more, due-style, due-ports, due-decls, due-insts, due-nothing, Read, refuse, on, Checked, bad, good, check, andThen, checks, unlimited, any-value, when, keyed, onLast, withFiles, withModules, addPort, addDecl, withInsts, addInst, addConn, orElse, isBody, thisModule, thisInst, fields, mayHave, asPort, asDecl, asInst}
-use Rattle.job.specs.Lines.{topLine, overrideLine, startLine, fileRead, fileLine, bytesLine, moduleRead, moduleLine, styleLine, portOf, portLine, declOf, declLine, instOf, instRead, instLine, connOf, connLine, endLine, readLine}
-use Rattle.job.specs.Parse.{Parsed, accepted, refused, isNothing, hasLine, firstLine, behindLine, carryOn, lines, listed, parse}
+use Rattle.fields.specs.Limits.{most-name, most-bytes, most-files, most-modules, most-ports, most-decls, most-insts, most-conns}
+use Rattle.fields.specs.Fields.{Dir, Kind, Style, isName, isPath, dirOf, dimsOf, kindOf, styleOf}
+use Rattle.joblines.specs.Job.{File, Port, Decl, Conn, Inst, Module, Job, no-job}
+use Rattle.joblines.specs.Lines.{Due, due-top, due-override, due-start, due-file, due-bytes, due-more, due-style, due-ports, due-decls, due-insts, due-nothing, Read, refuse, on, Checked, bad, good, check, andThen, checks, unlimited, any-value, when, keyed, onLast, withFiles, withModules, addPort, addDecl, withInsts, addInst, addConn, orElse, isBody, thisModule, thisInst, fields, mayHave, asPort, asDecl, asInst}
+use Rattle.joblines.specs.Lines.{topLine, overrideLine, startLine, fileRead, fileLine, bytesLine, moduleRead, moduleLine, styleLine, portOf, portLine, declOf, declLine, instOf, instRead, instLine, connOf, connLine, endLine, readLine}
+use Rattle.joblines.specs.Parse.{Parsed, accepted, refused, isNothing, hasLine, firstLine, behindLine, carryOn, lines, listed, parse}
 use Rattle.design.specs.Ports.{losable}
 use Rattle.design.specs.Losables.{losable-name}
 

@@ -6,8 +6,8 @@ use mathlib.Core.Option.{Option, none, some}
 use Rattle.text.specs.Ascii.{Bytes, ascii}
 use Rattle.text.specs.Compare.{same}
 use Rattle.text.specs.Scan.{any}
-use Rattle.job.specs.Job.{Conn, Inst, Module}
-use Rattle.job.specs.Lines.{when}
+use Rattle.joblines.specs.Job.{Conn, Inst, Module}
+use Rattle.joblines.specs.Lines.{when}
 use Rattle.design.specs.Lists.{onSome}
 use Rattle.design.specs.Ports.{portOrder}
 

@@ -9,10 +9,10 @@ use mathlib.Core.Option.{Option, none, some, Option·map}
 use Rattle.text.specs.Ascii.{Bytes, ascii, byte}
 use Rattle.text.specs.Compare.{same}
 use Rattle.text.specs.Scan.{any, splitAt}
-use Rattle.job.specs.Fields.{empty}
-use Rattle.job.specs.Job.{Inst, Module}
-use Rattle.job.specs.Parse.{Parsed, accepted, refused}
-use Rattle.job.specs.Examples.{run}
+use Rattle.fields.specs.Fields.{empty}
+use Rattle.joblines.specs.Job.{Inst, Module}
+use Rattle.joblines.specs.Parse.{Parsed, accepted, refused}
+use Rattle.joblines.specs.Examples.{run}
 use Rattle.design.specs.Lists.{onSome, first, those, addNew, addAll}
 use Rattle.design.specs.Lookup.{moduleNamed, instanceNamed, moduleAt}
 use Rattle.design.specs.Search.{Search, amongInstances, searchFrom, searchType}

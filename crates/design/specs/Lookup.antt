@@ -4,7 +4,7 @@ use mathlib.Core.List.{List, [], _∷_}
 use mathlib.Core.Option.{Option, none, some}
 use Rattle.text.specs.Ascii.{Bytes}
 use Rattle.text.specs.Compare.{same}
-use Rattle.job.specs.Job.{Inst, Module}
+use Rattle.joblines.specs.Job.{Inst, Module}
 use Rattle.design.specs.Lists.{onSome, first}
 
 -- "Instances of plain generate regions stand in source order.": the instances of a module are its `inst` lines, in order

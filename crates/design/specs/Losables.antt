@@ -9,8 +9,8 @@ use mathlib.Core.List.{List·Memᴰ as Mem, List·Memᴰ·head as here, List·Me
 use mathlib.Core.List.{Memᴰ·cast as cast, Memᴰ·map as mem-map, Memᴰ·append-left as on-left, Memᴰ·append-right as on-right, List·Memᴰ·append-cases as append-cases, List·Memᴰ·eq-of-singleton as eq-single}
 use Rattle.text.specs.Ascii.{Bytes}
 use Rattle.text.specs.Compare.{same}
-use Rattle.job.specs.Fields.{Dir, input, output, Style, Kind, net, variable, body}
-use Rattle.job.specs.Job.{Port, Decl, Inst, Module}
+use Rattle.fields.specs.Fields.{Dir, input, output, Style, Kind, net, variable, body}
+use Rattle.joblines.specs.Job.{Port, Decl, Inst, Module}
 use Rattle.design.specs.Lists.{onSome, those, isIn}
 use Rattle.design.specs.Lookup.{moduleNamed, instanceNamed, moduleAt}
 use Rattle.design.specs.Ports.{taken, directed, headerPorts, bodyPort, bodyPorts, isOutput, outputs, outputPorts, inputPorts, isSignal, signals, losable}

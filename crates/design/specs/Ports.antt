@@ -3,9 +3,9 @@
 use mathlib.Core.Bool.{Bool, true, false, cond, not, _&&_}
 use mathlib.Core.List.{List, [], _∷_, _++_, map, flatMap}
 use Rattle.text.specs.Ascii.{Bytes}
-use Rattle.job.specs.Fields.{Dir, input, Style, Kind}
-use Rattle.job.specs.Job.{Port, Decl, Module}
-use Rattle.job.specs.Lines.{isNone}
+use Rattle.fields.specs.Fields.{Dir, input, Style, Kind}
+use Rattle.joblines.specs.Job.{Port, Decl, Module}
+use Rattle.joblines.specs.Lines.{isNone}
 use Rattle.design.specs.Lists.{those, isIn, addAll}
 
 -- the names of the header, in order: for `pos` connections

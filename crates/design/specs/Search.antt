@@ -7,7 +7,7 @@ use mathlib.Core.List.{List, [], _∷_}
 use mathlib.Core.Option.{Option, none, some, Option·map}
 use Rattle.text.specs.Ascii.{Bytes}
 use Rattle.text.specs.Compare.{same}
-use Rattle.job.specs.Job.{Inst, Module}
+use Rattle.joblines.specs.Job.{Inst, Module}
 use Rattle.design.specs.Limits.{search-depth}
 use Rattle.design.specs.Lists.{onSome}
 use Rattle.design.specs.Lookup.{instances, moduleNamed}

@@ -5,7 +5,7 @@ use mathlib.Core.List.{List, [], _∷_}
 use mathlib.Core.Option.{Option, none, some}
 use Rattle.text.specs.Ascii.{Bytes, ascii}
 use Rattle.text.specs.Compare.{same, startsWith}
-use Rattle.job.specs.Fields.{among}
+use Rattle.fields.specs.Fields.{among}
 
 -- a command that moves no scope
 pub data Command : Type 0 where

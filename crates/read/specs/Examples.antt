@@ -15,7 +15,7 @@ use Rattle.tcl.specs.Commands.{reading as splitting}
 use Rattle.tcl.specs.Substitution.{lookup, known, opensBy, closesBy, pieceMore, pieceName, escape, costs}
 use Rattle.tcl.specs.Lists.{together}
 use Rattle.tcl.specs.Arguments.{isOption, roleOf, positionalsFrom, optionFrom, hasFlagFrom, statesFrom}
-use Rattle.job.specs.Job.{File, Job}
+use Rattle.joblines.specs.Job.{File, Job}
 use Rattle.model.specs.Records.{Model}
 use Rattle.model.specs.Scope.{scoped, up, moved, entered}
 use Rattle.model.specs.Names.{commandNamed}

@@ -12,7 +12,7 @@ use Rattle.tcl.specs.Words.{Word}
 use Rattle.tcl.specs.Commands.{commands}
 use Rattle.tcl.specs.Substitution.{Variable, values, costs}
 use Rattle.tcl.specs.Arguments.{optionOf, nameOf}
-use Rattle.job.specs.Job.{File, Job}
+use Rattle.joblines.specs.Job.{File, Job}
 use Rattle.model.specs.Limits.{most-depth}
 use Rattle.model.specs.Records.{Model, no-records, with-scope, with-design-top}
 use Rattle.model.specs.Scope.{below, up, entered}

@@ -14,8 +14,8 @@ use Rattle.text.specs.Scan.{any}
 use Rattle.out.specs.Emit.{_⊕_}
 use Rattle.out.specs.Fill.{fill, format1, format2, format3, format5}
 use Rattle.out.specs.Items.{each, joined}
-use Rattle.job.specs.Fields.{among}
-use Rattle.job.specs.Job.{Inst, Module}
+use Rattle.fields.specs.Fields.{among}
+use Rattle.joblines.specs.Job.{Inst, Module}
 use Rattle.design.specs.Lists.{onSome, first, those, isIn}
 use Rattle.design.specs.Lookup.{moduleAt, instanceNamed}
 use Rattle.design.specs.Ports.{outputPorts}

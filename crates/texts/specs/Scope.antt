@@ -8,7 +8,7 @@ use lib.Dec.{eqb, leb}
 use Rattle.text.specs.Ascii.{Bytes, byte}
 use Rattle.text.specs.Compare.{same}
 use Rattle.text.specs.Scan.{splitAt}
-use Rattle.job.specs.Job.{Module, Job}
+use Rattle.joblines.specs.Job.{Module, Job}
 use Rattle.design.specs.Limits.{most-calls}
 use Rattle.design.specs.Lists.{those}
 use Rattle.design.specs.Lookup.{moduleAt}

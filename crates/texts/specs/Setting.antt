@@ -6,7 +6,7 @@ use Rattle.text.specs.Ascii.{Bytes, ascii}
 use Rattle.out.specs.Bytewise.{mangle}
 use Rattle.out.specs.Emit.{_⊕_}
 use Rattle.out.specs.Items.{each}
-use Rattle.job.specs.Job.{Module}
+use Rattle.joblines.specs.Job.{Module}
 use Rattle.design.specs.Paths.{elementPath}
 use Rattle.model.specs.Records.{Model}
 

@@ -7,8 +7,8 @@ use mathlib.Core.Option.{Option, none, some}
 use lib.Dec.{leb}
 use lib.ListN.{length, replicate}
 use Rattle.text.specs.Ascii.{Bytes}
-use Rattle.job.specs.Job.{Module, Job}
-use Rattle.job.specs.Parse.{Parsed, parse}
+use Rattle.joblines.specs.Job.{Module, Job}
+use Rattle.joblines.specs.Parse.{Parsed, parse}
 use Rattle.design.specs.Lookup.{moduleNamed}
 use Rattle.model.specs.Records.{Model}
 use Rattle.read.specs.Reading.{Reading, reading}

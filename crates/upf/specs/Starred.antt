@@ -20,10 +20,10 @@ use Rattle.tcl.specs.Commands.{reading as splitting}
 use Rattle.tcl.specs.Substitution.{lookup, known, opensBy, closesBy, pieceMore, pieceName, escape, costs}
 use Rattle.tcl.specs.Lists.{together}
 use Rattle.tcl.specs.Arguments.{isOption, roleOf, positionalsFrom, optionFrom, hasFlagFrom, statesFrom}
-use Rattle.job.specs.Fields.{isName, isPart, isPath, dimsOf, dirOf, kindOf as declKind, styleOf, isNet}
-use Rattle.job.specs.Job.{Module, Job}
-use Rattle.job.specs.Lines.{topLine, overrideLine, startLine, fileLine, fileRead, bytesLine, moduleLine, styleLine, portLine, portOf, declLine, declOf, instLine, instOf, instRead, connLine, connOf, endLine, readLine, moduleRead}
-use Rattle.job.specs.Parse.{Parsed, lines, parse}
+use Rattle.fields.specs.Fields.{isName, isPart, isPath, dimsOf, dirOf, kindOf as declKind, styleOf, isNet}
+use Rattle.joblines.specs.Job.{Module, Job}
+use Rattle.joblines.specs.Lines.{topLine, overrideLine, startLine, fileLine, fileRead, bytesLine, moduleLine, styleLine, portLine, portOf, declLine, declOf, instLine, instOf, instRead, connLine, connOf, endLine, readLine, moduleRead}
+use Rattle.joblines.specs.Parse.{Parsed, lines, parse}
 use Rattle.design.specs.Lists.{first, those, addNew, addAll}
 use Rattle.design.specs.Lookup.{moduleNamed, moduleAt}
 use Rattle.design.specs.Search.{amongInstances, searchFrom}

@@ -11,7 +11,7 @@ use native.Mathlib.Omega.{arith}
 use native.Mathlib.Nat.{le-trans}
 use lib.ListN.{length, length-append}
 use Rattle.text.specs.Ascii.{Bytes, byte}
-use Rattle.job.specs.Job.{Inst, Module}
+use Rattle.joblines.specs.Job.{Inst, Module}
 use Rattle.design.specs.Lookup.{instances}
 use Rattle.design.specs.Paths.{childPath}
 use Rattle.design.specs.Laws.{le-or-lt}

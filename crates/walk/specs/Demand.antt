@@ -11,7 +11,7 @@ use lib.ListN.{length, length-append}
 use Rattle.text.specs.Ascii.{Bytes, byte}
 use Rattle.text.specs.Compare.{same}
 use Rattle.text.specs.Sames.{same-eq}
-use Rattle.job.specs.Job.{Inst, Module, Job}
+use Rattle.joblines.specs.Job.{Inst, Module, Job}
 use Rattle.design.specs.Lists.{onSome}
 use Rattle.design.specs.Lookup.{instances, moduleNamed, instanceNamed, moduleAt}
 use Rattle.design.specs.Paths.{elementPath, scopePath}

@@ -7,9 +7,9 @@ use mathlib.Core.List.{List, [], _∷_, flatMap}
 use Rattle.text.specs.Ascii.{Bytes, ascii}
 use Rattle.text.specs.Compare.{same}
 use Rattle.text.specs.Scan.{any, splitAt}
-use Rattle.job.specs.Job.{Job, no-job}
-use Rattle.job.specs.Parse.{Parsed, accepted, refused}
-use Rattle.job.specs.Examples.{run}
+use Rattle.joblines.specs.Job.{Job, no-job}
+use Rattle.joblines.specs.Parse.{Parsed, accepted, refused}
+use Rattle.joblines.specs.Examples.{run}
 use Rattle.design.specs.Lists.{onSome, first, those, addNew, addAll}
 use Rattle.design.specs.Lookup.{moduleAt}
 use Rattle.design.specs.Ports.{directed}

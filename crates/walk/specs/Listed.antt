@@ -13,7 +13,7 @@ use lib.ListN.{length}
 use Rattle.text.specs.Ascii.{Bytes}
 use Rattle.text.specs.Compare.{same}
 use Rattle.text.specs.Sames.{same-eq}
-use Rattle.job.specs.Job.{Inst, Module}
+use Rattle.joblines.specs.Job.{Inst, Module}
 use Rattle.design.specs.Lists.{onSome, isIn, addNew, addAll}
 use Rattle.design.specs.Lookup.{instances, moduleNamed, moduleAt}
 use Rattle.design.specs.Ports.{losable}

@@ -8,8 +8,8 @@ use mathlib.Core.Option.{some}
 use mathlib.Core.List.{List, [], _∷_, _++_, map, List·Memᴰ as Mem}
 use lib.ListN.{length}
 use Rattle.text.specs.Ascii.{Bytes, byte}
-use Rattle.job.specs.Job.{Inst, Module, Job}
-use Rattle.job.specs.Parse.{parse, accepted}
+use Rattle.joblines.specs.Job.{Inst, Module, Job}
+use Rattle.joblines.specs.Parse.{parse, accepted}
 use Rattle.design.specs.Lookup.{instances, moduleNamed, moduleAt}
 use Rattle.design.specs.Ports.{losable}
 use Rattle.design.specs.Paths.{childPath, elementPath, retainedPath, parts, filledParts}

@@ -13,7 +13,7 @@ use lib.ListN.{length, length-append}
 use Rattle.text.specs.Ascii.{Bytes, byte}
 use Rattle.text.specs.Scan.{any}
 use Rattle.text.specs.Sames.{differ}
-use Rattle.job.specs.Job.{Inst, Module}
+use Rattle.joblines.specs.Job.{Inst, Module}
 use Rattle.design.specs.Lists.{onSome, isIn, addAll}
 use Rattle.design.specs.Lookup.{instances, moduleAt}
 use Rattle.design.specs.Paths.{childPath, scopePath, dotted, elementPath, retainedPath, filledParts}

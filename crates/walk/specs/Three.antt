@@ -7,7 +7,7 @@ use mathlib.Core.List.{List, List·Memᴰ as Mem, Memᴰ·cast as cast, Memᴰ·
 use native.Mathlib.Nat.{le-of-lt}
 use lib.ListN.{length}
 use Rattle.text.specs.Ascii.{Bytes}
-use Rattle.job.specs.Job.{Module}
+use Rattle.joblines.specs.Job.{Module}
 use Rattle.design.specs.Paths.{elementPath, retainedPath, filledParts}
 use Rattle.design.specs.Laws.{le-or-lt, map-mem}
 use Rattle.design.specs.Losables.{moduleAt-mem}

@@ -8,7 +8,7 @@ use mathlib.Core.List.{List, [], _∷_, _++_, map, flatMap}
 use lib.Dec.{leb}
 use lib.ListN.{length}
 use Rattle.text.specs.Ascii.{Bytes}
-use Rattle.job.specs.Job.{Inst, Module}
+use Rattle.joblines.specs.Job.{Inst, Module}
 use Rattle.design.specs.Lists.{onSome, isIn, addAll}
 use Rattle.design.specs.Lookup.{instances, moduleNamed, moduleAt}
 use Rattle.design.specs.Ports.{losable}

@@ -1,0 +1,23 @@
+use Rattle.text.specs.Cases.{cases}
+use borrow.Author.Needs.{needs}
+use Rattle.fields.proofs.body_kind.Statement.{statement}
+use Rattle.fields.proofs.body_kind.Tie as tie
+
+pub body-kind-spec : {M : Type 1} → statement M
+unfolding Rattle.fields.specs.Meant.bodyOf
+body-kind-spec =
+    tie.close
+    (tie.spec
+    (λ c. search needs)  -- slice-aggregate-same
+    (λ c κs. search needs)  -- same-requires
+    (λ c. search cases)  -- returns
+    (λ c. search needs)  -- slice-aggregate-same-2
+    (λ c κs. search needs)  -- same-requires-2
+    (λ c. search cases)  -- returns-2
+    (λ c. search needs)  -- slice-aggregate-same-3
+    (λ c κs. search needs)  -- same-requires-3
+    (λ c. search cases)  -- returns-3
+    (λ c. search needs)  -- slice-aggregate-same-4
+    (λ c κs. search needs)  -- same-requires-4
+    (λ c. search cases)  -- returns-4
+    (λ c. search cases))  -- returns-5

@@ -1,0 +1,5 @@
+pub mod Limits
+pub mod Fields
+pub mod Meant
+pub mod Splits
+pub mod Names

@@ -1,1 +1,0 @@
-// The job, read line by line.

@@ -1,0 +1,4 @@
+pub mod Index
+pub mod Stores
+pub mod Looks
+pub mod Rows
