@@ -4,9 +4,9 @@ use Prim.Native.Nat.{ℕ, zero, suc, _+_, _-_, _*_, _≤_, _<_, max}
 use mathlib.Core.Path.{_≡_, refl, sym, ap, _∙_}
 use mathlib.Core.List.{List, [], _∷_, _++_, map, append-assoc}
 use native.Mathlib.Omega.{arith}
-use native.Mathlib.Nat.{add-zero}
-use lib.ListN.{length, take, drop, getD, length-take, length-append, length-drop, drop-of-length-le}
-use lib.Seq.{drop-drop, take-take, take-all, getD-take, take-append-le, length-take-le}
+use native.Mathlib.Nat.{add-zero, zero-add}
+use lib.ListN.{length, take, drop, getD, length-take, length-append, length-drop, drop-of-length-le, length-set, set}
+use lib.Seq.{drop-drop, take-take, take-all, getD-take, take-append-le, length-take-le, drop-set-lt, getD-drop, getD-set-other, getD-set-same}
 use Rattle.text.specs.Ascii.{Bytes}
 use Rattle.text.specs.Lists.{drop-take, drop-two, take-two, take-none}
 use Rattle.spans.specs.Span.{_⋯_, bytes, pairAt, pairs, strings}
@@ -98,3 +98,43 @@ pairs-last l k (suc n) =
     let q : k + 1 + n ≡ k + suc n = omega arith in
     let e : suc n + 1 ≡ suc (n + 1) = omega arith in
     rw e (ap (λ (t : List Span). pairAt l k ∷ t) (pairs-last l (k + 1) n ∙ rw q))
+
+pub lastEnd-push : (ss : List Span) (s : Span) → lastEnd (ss ++ (s ∷ [])) ≡ max (lastEnd ss) (s .at + s .len)
+unfolding lastEnd
+lastEnd-push [] s = omega arith
+lastEnd-push (u ∷ ss) s = rw (lastEnd-push ss s) (omega arith)
+
+-- a pair stored behind the first n
+module _ (l : List ℕ) (n a b : ℕ) (h : 2 * n + 1 < length l) where
+  push-below : (i : ℕ) → i < 2 * n → getD (set (set l (2 * n) a) (2 * n + 1) b) i 0 ≡ getD l i 0
+  push-below i g =
+      let x : i ≡ 2 * n + 1 → ⊥ = λ e. absurd (omega arith) in
+      let y : i ≡ 2 * n → ⊥ = λ e. absurd (omega arith) in
+      getD-set-other (set l (2 * n) a) (2 * n + 1) i b 0 x ∙ getD-set-other l (2 * n) i a 0 y
+
+  push-at : pairAt (set (set l (2 * n) a) (2 * n + 1) b) n ≡ a ⋯ b
+  push-at =
+      let x : 2 * n ≡ 2 * n + 1 → ⊥ = λ e. absurd (omega arith) in
+      let g : 2 * n < length l = omega arith in
+      let k : 2 * n + 1 < length (set l (2 * n) a) = rw length-set h in
+      rw (getD-set-same (set l (2 * n) a) (2 * n + 1) b 0 k, getD-set-other (set l (2 * n) a) (2 * n + 1) (2 * n) b 0 x, getD-set-same l (2 * n) a 0 g)
+
+  pub pairs-push : pairs (set (set l (2 * n) a) (2 * n + 1) b) 0 (n + 1) ≡ pairs l 0 n ++ ((a ⋯ b) ∷ [])
+  pairs-push =
+      pairs-last (set (set l (2 * n) a) (2 * n + 1) b) 0 n
+      ∙ rw (zero-add, push-at, pairs-same l (set (set l (2 * n) a) (2 * n + 1) b) 0 n (λ i g k. push-below i (omega arith)))
+
+  pub push-back : drop (2 * (n + 1)) (set (set l (2 * n) a) (2 * n + 1) b) ≡ drop (2 * (n + 1)) l
+  push-back =
+      let x : 2 * n + 1 < 2 * (n + 1) = omega arith in
+      let y : 2 * n < 2 * (n + 1) = omega arith in
+      drop-set-lt (2 * (n + 1)) (set l (2 * n) a) (2 * n + 1) b x ∙ drop-set-lt (2 * (n + 1)) l (2 * n) a y
+
+-- pairs read from numbers that are kept from 2 k on
+pub pairs-kept : (l l′ : List ℕ) (k n : ℕ) → drop (2 * k) l′ ≡ drop (2 * k) l → pairs l′ k n ≡ pairs l k n
+pairs-kept l l′ k n e =
+    pairs-same l l′ k n
+    (λ i h g.
+    let q : 2 * k + (i - 2 * k) ≡ i = omega arith in
+    let f : getD (drop (2 * k) l′) (i - 2 * k) 0 ≡ getD (drop (2 * k) l) (i - 2 * k) 0 = ap (λ (t : List ℕ). getD t (i - 2 * k) 0) e in
+    rw q at (sym (getD-drop (2 * k) l′ (i - 2 * k) 0) ∙ f ∙ getD-drop (2 * k) l (i - 2 * k) 0))

@@ -97,10 +97,12 @@ abbrev pub left : List Variable → Bool → List ℕ → ℕ → List ℕ
 left vs q body i = rewrite pieceMore (image vs) 0 (written q (drop i body))
 
 module _ (vs : List Variable) (q : Bool) (body l₀ l all : List ℕ) (at limit i o : ℕ) (w : Written l₀ at all (left vs q body i) l o) where
-  module _ (p : Piece) (k : IsPiece q body (i + 1) (written q (drop i body)) p) (files vars : List ℕ) (n : ℕ) (e : vs ≡ variables (files ++ take at l₀) vars n) (l′ : List ℕ) (r : Put)
-      (u : Puts l l′ o limit (image (variables (files ++ take at l) vars n) (written q (drop i body))) r) where
-    same-vs : variables (files ++ take at l) vars n ≡ vs
-    same-vs = rw (written-kept l₀ at all (left vs q body i) l o w) (sym e)
+  module _ (p : Piece) (k : IsPiece q body (i + 1) (written q (drop i body)) p) (files vars : List ℕ) (n m : ℕ) (e : vs ≡ variables (files ++ take m l₀) vars n) (d : m ≤ at) (l′ : List ℕ) (r : Put)
+      (u : Puts l l′ o limit (image (variables (files ++ take m l) vars n) (written q (drop i body))) r) where
+    same-vs : variables (files ++ take m l) vars n ≡ vs
+    same-vs =
+        let k : take m l ≡ take m l₀ = sym (take-take m at l d) ∙ ap (take m) (written-kept l₀ at all (left vs q body i) l o w) ∙ take-take m at l₀ d in
+        rw k (sym e)
 
     some : 0 < length (written q (drop i body))
     some = omega (arith, k .fits, k .sized)

@@ -97,7 +97,7 @@ fn put_piece(
     }
 }
 
-// Writes a written word with its variables substituted to the area from `at` on, up to a limit. The values may lie in the files or before `at` in the area.
+// Writes a written word with its variables substituted to the area from `at` on, up to a limit. The variables lie in the files or before m in the area.
 pub fn substitute(
     files: &[u8],
     vars: &[u32],
@@ -105,17 +105,18 @@ pub fn substitute(
     body: &[u8],
     quoted: bool,
     area: &mut [u8],
+    m: usize,
     at: usize,
     limit: usize,
 ) -> Put
-    requires { ⌜ (at ≤ limit) × (limit ≤ length (now area)) ⌝ }
-    ensures { λ r. ⌜ Puts (now (area .entry)) (now (area .exit)) at limit (Substitution·substitute (variables (now (files .entry) ++ take at (now (area .entry))) (now (vars .entry)) n) (written quoted (now (body .entry)))) r ⌝ }
+    requires { ⌜ (m ≤ at) × ((at ≤ limit) × (limit ≤ length (now area))) ⌝ }
+    ensures { λ r. ⌜ Puts (now (area .entry)) (now (area .exit)) at limit (Substitution·substitute (variables (now (files .entry) ++ take m (now (area .entry))) (now (vars .entry)) n) (written quoted (now (body .entry)))) r ⌝ }
 {
     let mut i = 0;
     let mut o = at;
     while i < body.len() {
         let p = next_piece(body, i, quoted);
-        match put_piece(files, vars, n, body, quoted, i, p, area, at, o, limit) {
+        match put_piece(files, vars, n, body, quoted, i, p, area, m, o, limit) {
             Put::Full => return Put::Full,
             Put::Done(e) => {
                 o = e;

@@ -3,19 +3,19 @@ use Prim.Native.Nat.{_-_, _≤_}
 use mathlib.Core.List.{_++_}
 use lib.ListN.{length, take}
 use borrow.Author.Needs.{needs}
-use Rattle.tcl.specs.Substitution.{substitute}
 use Rattle.spans.specs.Writes.{Written, written-none}
 use Rattle.substitution.specs.Written.{written}
 use Rattle.substitution.proofs.Writing.{left, words}
+use Rattle.tcl.specs.Substitution.{substitute}
 use Rattle.substitution.specs.Stored.{variables}
 use Rattle.substitution.proofs.put.substitute.Statement.{statement}
 use Rattle.substitution.proofs.put.substitute.Tie as tie
 
 abbrev Inv-loop : tie.InvT-loop
-Inv-loop files vars n body quoted area₀ at limit i₀ o₀ area i o = (o ≤ limit) × Written area₀ at (substitute (variables (files ++ take at area₀) vars n) (written quoted body)) (left (variables (files ++ take at area₀) vars n) quoted body i) area o
+Inv-loop files vars n body quoted area₀ m at limit i₀ o₀ area i o = (o ≤ limit) × Written area₀ at (substitute (variables (files ++ take m area₀) vars n) (written quoted body)) (left (variables (files ++ take m area₀) vars n) quoted body i) area o
 
 abbrev μ-loop : tie.MeasureT-loop
-μ-loop files vars n body quoted area₀ at limit i₀ o₀ area i o = length body - i
+μ-loop files vars n body quoted area₀ m at limit i₀ o₀ area i o = length body - i
 
 pub substitute-spec : {M : Type 1} → statement M
 substitute-spec =

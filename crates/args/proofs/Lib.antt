@@ -1,0 +1,3 @@
+pub mod Roles
+pub mod Loops
+pub mod Keys

@@ -1,0 +1,5 @@
+pub mod Readings
+pub mod Splitting
+pub mod Placing
+pub mod Resolving
+pub mod Nexts
