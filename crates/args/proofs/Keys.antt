@@ -1,22 +1,21 @@
 -- The states of a command's words: laws as the needs ask them. Assumes nothing.
-use Prim.Native.Nat.{ℕ, zero, suc, _+_, _-_, _≤_, _<_, _^_}
-use mathlib.Core.Path.{_≡_, refl, sym, ap, _∙_}
-use mathlib.Core.Bool.{Bool, true, false, cond, not, _&&_, _||_}
+use Prim.Native.Nat.{ℕ, suc, _+_, _-_, _≤_, _<_, _^_}
+use mathlib.Core.Path.{_≡_, refl}
+use mathlib.Core.Bool.{Bool, true, false, cond}
 use mathlib.Core.List.{List, [], _∷_}
-use mathlib.Core.Option.{Option, none, some}
+use mathlib.Core.Option.{Option}
 use native.Mathlib.Omega.{arith}
 use lib.ListN.{length}
-use lib.Dec.{eqb, leb}
+use lib.Dec.{leb}
 use borrow.Author.Needs.{needs}
 use borrow.Author.Tests.{leb-true, leb-false}
 use Rattle.text.specs.Ascii.{Bytes}
 use Rattle.text.specs.Compare.{same}
-use Rattle.spans.specs.Span.{_⋯_, bytes, pairAt, pairs, strings}
-use Rattle.spans.specs.Frame.{lastEnd}
+use Rattle.spans.specs.Span.{bytes, pairAt, strings}
 use Rattle.spans.specs.declared.span.Span.{Span}
-use Rattle.tcl.specs.Arguments.{stateOf, statesFrom, isKey}
+use Rattle.tcl.specs.Arguments.{stateOf, statesFrom}
 use Rattle.tcl.specs.Arguments as arguments
-use Rattle.args.specs.View.{wordsFrom, pick, stateAs, statesAs, stateEnd, StateHere, States}
+use Rattle.args.specs.View.{wordsFrom, pick, StateHere, States}
 use Rattle.args.specs.Laws.{words-all, words-none, words-here, word-ends}
 use Rattle.args.specs.declared.state.State.{State}
 use Rattle.args.specs.declared.state.State.the-variants.{At, None}

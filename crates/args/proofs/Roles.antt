@@ -1,24 +1,22 @@
 -- What a word is, and what stands behind it: laws as the needs ask them. Assumes nothing.
-use Prim.Native.Nat.{ℕ, zero, suc, _+_, _-_, _≤_, _<_}
-use mathlib.Core.Path.{_≡_, refl, sym, ap, _∙_}
+use Prim.Native.Nat.{ℕ, _+_, _-_, _≤_, _<_}
+use mathlib.Core.Path.{_≡_, _∙_}
 use mathlib.Core.Bool.{Bool, true, false, cond, not, _&&_}
-use mathlib.Core.List.{List, [], _∷_}
+use mathlib.Core.List.{List}
 use native.Mathlib.Omega.{arith}
-use lib.Dec.{eqb, leb}
+use lib.Dec.{eqb}
 use borrow.Author.Needs.{needs}
-use borrow.Author.Tests.{leb-true, leb-false}
 use Rattle.text.specs.Ascii.{Bytes, byte}
 use Rattle.text.specs.Classes.{isDigit}
 use Rattle.spans.specs.Span.{bytes, gotOf, pairAt}
 use Rattle.spans.specs.declared.span.Span.{Span}
 use Rattle.spans.specs.declared.span.Got.{Got}
 use Rattle.spans.specs.declared.span.Got.the-variants.{Yes, No}
-use Rattle.tcl.specs.Arguments.{isOption, withValue, roleOf, positionalsFrom, optionFrom, hasFlagFrom}
+use Rattle.tcl.specs.Arguments.{isOption, withValue, roleOf}
 use Rattle.tcl.specs.Arguments as arguments
 use Rattle.args.specs.View.{wordsFrom, roleAs}
 use Rattle.args.specs.Laws.{words-none, words-here}
 use Rattle.args.specs.declared.role.Role.{Role}
-use Rattle.args.specs.declared.role.Role.the-variants.{Positional, Flag, Option}
 
 -- ---- whether a word is like an option
 

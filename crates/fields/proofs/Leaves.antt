@@ -20,6 +20,7 @@ use Rattle.text.specs.Scan.{all, upTo, Ends}
 use Rattle.text.specs.Lists.{here}
 use Rattle.text.specs.Sames.{differ}
 use Rattle.fields.specs.Fields.{isName, isPart, isPath, isNet}
+use Rattle.fields.specs.Alls.{all-end, all-stop, all-step}
 use Rattle.fields.specs.Splits.{cut-from, cut-more, cut-last}
 
 pub name-none : (w : List ℕ) → length w ≡ 0 → false ≡ isName w
@@ -41,21 +42,6 @@ pub name-opens : (w : List ℕ) (r : Bool) → (length w ≡ 0 → ⊥) → leng
 unfolding isName
 name-opens [] r h k e g = absurd (h refl)
 name-opens (x ∷ xs) r h k e g = simp (sym e ∙ not-false r g, le-leb (suc (length xs)) 64 k, and-true)
-
--- every byte from i on
-module _ (p : ℕ → Bool) (s : List ℕ) (i : ℕ) (a : Bool) (inv : a ≡ all p (drop i s)) where
-  pub all-end : length s ≤ i → true ≡ a
-  unfolding all
-  all-end h = sym (inv ∙ rw (drop-of-length-le s {i = i} h))
-
-  module _ (r : Bool) (h : i < length s) (e : r ≡ p (getD s i 0)) where
-    pub all-stop : not r ≡ true → false ≡ a
-    unfolding all
-    all-stop t = sym (inv ∙ rw (here s i h, ← e, not-true r t))
-
-    pub all-step : not r ≡ false → a ≡ all p (drop (i + 1) s)
-    unfolding all
-    all-step t = inv ∙ rw (here s i h, ← e, not-false r t)
 
 pub ruleset alls = (needs, name-none, name-long, name-not, name-opens, all-end, all-stop, all-step)
 

@@ -3,3 +3,4 @@ pub mod Fields
 pub mod Meant
 pub mod Splits
 pub mod Names
+pub mod Alls

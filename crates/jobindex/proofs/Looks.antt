@@ -112,10 +112,7 @@ module _ (f : ℕ → Bytes) (count : ℕ) (line : Bytes) (t : Bool) (et : t ≡
         inst-new q =
             record {
               says = sym (ap nameOf inst-is ∙ rw (e, lt-ltb count 64 g, ← ep, row-any f p count, ← er, le-ltb 0 r q, ep, ev));
-              within =
-                  let w : InstIn v (inst.Inst d n l k) = rw e at (em .1) in
-                  let z : length v ≡ length line - 5 = rw ev (length-drop 5 line) in
-                  (omega arith, omega arith);
+              within = rw (← ev) (rw e at (em .1));
             }
 
 pub ruleset instLines = (needs, inst-other, inst-bad, inst-many, inst-old, inst-new)

@@ -31,7 +31,7 @@ instSaid line (look.Good n l) = some (good (take l (drop n (drop 5 line))))
 abbrev pub InstWithin : Bytes → InstLook → Type 0
 InstWithin line look.Other = Unit {0}
 InstWithin line (look.Refused n) = Unit {0}
-InstWithin line (look.Good n l) = (n ≤ length line) × (l ≤ length line)
+InstWithin line (look.Good n l) = n + l ≤ length (drop 5 line)
 
 pub record InstSeen (line : Bytes) (names : List Bytes) (r : InstLook) : Type 0 where
   pub says : instSaid line r ≡ nameOf (instRead names line)

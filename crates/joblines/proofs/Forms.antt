@@ -173,6 +173,9 @@ module _ (v : Bytes) (a : ℕ) (at : Ends (0 + upTo space (drop 0 v)) (length v)
     pub second-from : a + 1 ≤ b
     second-from = cut-from space v (a + 1) b bt
 
+    pub name-within : a + 1 + (b - (a + 1)) ≤ length v
+    name-within = omega (arith, second-from, bt .within)
+
     module _ (h : b ≡ length v → ⊥) (p : Bytes) (ep : p ≡ take a (drop 0 v)) where
       module _ (kind : Kind·code) (ek : kindMeant kind ≡ kindOf p) (x : Bool) (ex : x ≡ isSome (kindMeant kind)) where
         pub decl-kind : not x ≡ true → none ≡ declOf (fields v)

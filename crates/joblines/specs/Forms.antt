@@ -1,6 +1,6 @@
 -- What the answers of the code say. A form has the offsets of its fields in the line's value v.
 -- Assumes nothing.
-use Prim.Native.Nat.{ℕ, _≤_}
+use Prim.Native.Nat.{ℕ, _+_, _≤_}
 use mathlib.Core.Bool.{Bool, true, false, cond, _&&_}
 use mathlib.Core.List.{List, [], _∷_}
 use mathlib.Core.Option.{Option, none, some, Option·map}
@@ -41,7 +41,7 @@ instMeant v (inst.Inst d n l m) = some (record { dims = dimsIs d; name = take l 
 -- the name lies in the value
 abbrev pub InstIn : Bytes → InstForm → Type 0
 InstIn v inst.Bad = Unit {0}
-InstIn v (inst.Inst d n l m) = (n ≤ length v) × (l ≤ length v)
+InstIn v (inst.Inst d n l m) = n + l ≤ length v
 
 abbrev pub connMeant : Bytes → ConnForm → Option Conn
 connMeant v conn.Bad = none

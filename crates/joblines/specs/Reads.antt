@@ -70,7 +70,7 @@ module _ {A : Type 0} (r : Option (Checked A)) where
       go (some (good a)) h = (a, refl)
 
 -- ---- the kinds without newness, by what the line comes to
-map-when : {A B : Type 0} (g : A → B) (b : Bool) (x : A) → Option·map g (when b x) ≡ when b (g x)
+pub map-when : {A B : Type 0} (g : A → B) (b : Bool) (x : A) → Option·map g (when b x) ≡ when b (g x)
 map-when g true x = refl
 map-when g false x = refl
 

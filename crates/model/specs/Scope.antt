@@ -6,15 +6,8 @@ use lib.ListN.{length, take, drop}
 use Rattle.text.specs.Ascii.{Bytes, ascii, byte}
 use Rattle.text.specs.Compare.{same, startsWith}
 use Rattle.text.specs.Scan.{splitAt}
-
--- a name below a scope: at the root as it is
-abbrev pub below : Bytes → Bytes → Bytes
-below [] name = name
-below (b ∷ scope) name = (b ∷ scope) ++ (byte "/" ∷ name)
-
--- the same, and the scope itself for `.`
-unfoldable pub scoped : Bytes → Bytes → Bytes
-scoped scope name = cond (same name (ascii ".")) scope (below scope name)
+pub use Rattle.names.specs.Scoped.{below}
+unfoldable pub use Rattle.names.specs.Scoped.{scoped}
 
 -- what stands before the last `/`; nothing where there is none
 unfoldable pub up : Bytes → Bytes

@@ -1,16 +1,13 @@
 -- Power domains: their wires, their two blocks, report lines and warnings.
 -- Assumes nothing.
-use Prim.Native.Nat.{ℕ}
-use Prim.Native.String.{String}
-use mathlib.Core.Bool.{Bool, true, false, cond, not, _&&_, _||_}
-use mathlib.Core.List.{List, [], _∷_, _++_, map, flatMap}
-use mathlib.Core.Option.{Option, none, some}
+use mathlib.Core.Bool.{Bool, true, false, cond, not, _&&_}
+use mathlib.Core.List.{List, [], _∷_, map, flatMap}
 use lib.ListN.{length}
 use Rattle.text.specs.Ascii.{Bytes, ascii}
 use Rattle.text.specs.Compare.{same, less}
-use Rattle.text.specs.Scan.{any, all}
+use Rattle.text.specs.Scan.{any}
 use Rattle.out.specs.Emit.{_⊕_}
-use Rattle.out.specs.Fill.{fill, format1, format2, format3, format4, format5}
+use Rattle.out.specs.Fill.{format1, format2, format3, format4, format5}
 use Rattle.out.specs.Items.{each, joined}
 use Rattle.out.specs.Number.{decimal}
 use Rattle.design.specs.Lists.{onSome, those}

@@ -1,27 +1,24 @@
 -- Isolation: which ports are isolated, by which strategy, and the processes that clamp them (document 01, "The walk and the glue").
 -- Assumes nothing.
 use Prim.Native.Nat.{ℕ, _+_, _-_}
-use Prim.Native.String.{String}
 use mathlib.Core.Bool.{Bool, true, false, cond, not, _&&_, _||_}
 use mathlib.Core.List.{List, [], _∷_, _++_, map, flatMap}
-use mathlib.Core.Option.{Option, none, some, Option·map}
-use lib.ListN.{length, take, drop}
-use lib.Dec.{eqb}
+use mathlib.Core.Option.{Option, none, some}
 use Rattle.text.specs.Ascii.{Bytes, ascii, byte}
 use Rattle.text.specs.Classes.{within}
 use Rattle.text.specs.Compare.{same}
-use Rattle.text.specs.Scan.{any}
+use Rattle.text.specs.Scan.{any, is}
 use Rattle.out.specs.Emit.{_⊕_}
-use Rattle.out.specs.Fill.{fill, format1, format2, format3, format5}
+use Rattle.out.specs.Fill.{format1, format2, format3, format4, format5}
 use Rattle.out.specs.Items.{each, joined}
-use Rattle.fields.specs.Fields.{among}
-use Rattle.joblines.specs.Job.{Inst, Module}
+use Rattle.joblines.specs.Job.{Module}
 use Rattle.design.specs.Lists.{onSome, first, those, isIn}
 use Rattle.design.specs.Lookup.{moduleAt, instanceNamed}
 use Rattle.design.specs.Ports.{outputPorts}
 use Rattle.design.specs.Connections.{outputActual}
 use Rattle.design.specs.Paths.{parts}
 use Rattle.model.specs.Records.{Domain, Isolation, Model}
+use Rattle.model.specs.Scope.{up}
 use Rattle.texts.specs.Setting.{Setting, hier, slashPath}
 
 -- a port that a strategy keeps
@@ -46,7 +43,7 @@ pub record Target : Type 0 where
 
 -- a letter in lower case
 abbrev pub lower : ℕ → ℕ
-lower b = cond (within (byte "A") (byte "Z") b) (b + 32) b
+lower b = cond (within (byte "A") (byte "Z") b) (byte "a" + (b - byte "A")) b
 
 abbrev pub lowered : Bytes → Bytes
 lowered w = map lower w
@@ -63,30 +60,7 @@ domainNamed m n = first (λ (d : Domain). same (d .name) n) (m .domains)
 
 -- ---- what a strategy aims at
 
--- "An element with `/` is an instance and a port.": the last part is the port
-abbrev pub lastSlash : List Bytes → ℕ
-lastSlash [] = 0
-lastSlash (p ∷ []) = 0
-lastSlash (p ∷ q ∷ []) = length p
-lastSlash (p ∷ q ∷ r ∷ ps) = length p + 1 + lastSlash (q ∷ r ∷ ps)
-
-abbrev pub isOne : List Bytes → Bool
-isOne [] = true
-isOne (p ∷ []) = true
-isOne (p ∷ q ∷ ps) = false
-
--- all output ports of the module that an element leads to below the scope; an element's empty parts lead to none
-abbrev pub outputsOf : Setting → Bytes → List Target
-outputsOf s e = onSome (moduleAt (s .design) (s .base) (parts e)) [] λ m. map (λ p. record { inst = e; port = p }) (outputPorts m)
-
-abbrev pub elementTargets : Setting → Bytes → List Target
-elementTargets s e =
-    cond (isOne (parts e)) (outputsOf s e)
-    (record { inst = take (lastSlash (parts e)) e; port = drop (lastSlash (parts e) + 1) e } ∷ [])
-
--- ---- a port, resolved
-
--- the last of the instance names, and those before it
+-- the last of the parts, and those before it
 abbrev pub lastPart : List Bytes → Bytes
 lastPart [] = []
 lastPart (p ∷ []) = p
@@ -96,6 +70,16 @@ abbrev pub frontParts : List Bytes → List Bytes
 frontParts [] = []
 frontParts (p ∷ []) = []
 frontParts (p ∷ q ∷ ps) = p ∷ frontParts (q ∷ ps)
+
+-- all output ports of the module that an element leads to below the scope; an element's empty parts lead to none
+abbrev pub outputsOf : Setting → Bytes → List Target
+outputsOf s e = onSome (moduleAt (s .design) (s .base) (parts e)) [] λ m. map (λ p. record { inst = e; port = p }) (outputPorts m)
+
+-- "An element with `/` is an instance and a port.": the port stands behind the last `/`
+abbrev pub elementTargets : Setting → Bytes → List Target
+elementTargets s e = cond (any (is (byte "/")) e) (record { inst = up e; port = lastPart (parts e) } ∷ []) (outputsOf s e)
+
+-- ---- a port, resolved
 
 -- what a target comes to: nothing; a port without a plain net; or the parent's net, below the scope
 pub data Resolved : Type 0 where
@@ -136,24 +120,23 @@ no-cover = record { keys = []; ports = []; report = []; warnings = [] }
 abbrev pub remarked : Cover → Bytes → Cover
 remarked c t = record { keys = c .keys; ports = c .ports; report = c .report; warnings = c .warnings ++ (t ∷ []) }
 
--- a port of a strategy with its signal
+-- the port as the strategy with this signal isolates it, at the parent's net n
+abbrev pub isolatedBy : Setting → Isolation → Bytes → Target → Bytes → Isolated
+isolatedBy s i sig t n =
+    record {
+      strategy = i .name;
+      port = slashPath s (keyOf t);
+      parent = hier s n;
+      clamp = lowered (i .clamp);
+      signal = hier s sig;
+      active = activeOf i;
+    }
+
 abbrev pub kept : Setting → Isolation → Bytes → Target → Cover → Resolved → Cover
 kept s i sig t c Resolved.absent = c
 kept s i sig t c Resolved.not-plain = remarked c (format3 "isolation strategy '{0}': port '{1}/{2}' actual is not a plain net; not simulated" (i .name) (t .inst) (t .port))
 kept s i sig t c (Resolved.net n) =
-    record {
-      keys = c .keys ++ (keyOf t ∷ []);
-      ports = c .ports ++ (record {
-        strategy = i .name;
-        port = slashPath s (keyOf t);
-        parent = hier s n;
-        clamp = lowered (i .clamp);
-        signal = hier s sig;
-        active = activeOf i;
-      } ∷ []);
-      report = c .report;
-      warnings = c .warnings;
-    }
+    record { keys = c .keys ++ (keyOf t ∷ []); ports = c .ports ++ (isolatedBy s i sig t n ∷ []); report = c .report; warnings = c .warnings }
 
 -- only a resolved port counts as covered
 unfoldable pub covering : Setting → Isolation → Bytes → List Target → Cover → Cover
@@ -199,11 +182,11 @@ strategies s (i ∷ is) c = strategies s is (withSignal s i c (i .signal))
 
 -- "Strategies with elements go first, otherwise in order of creation"
 abbrev pub hasElements : Isolation → Bool
-hasElements i = none-there (i .elements)
+hasElements i = some-there (i .elements)
   where
-    none-there : List Bytes → Bool
-    none-there [] = false
-    none-there (e ∷ es) = true
+    some-there : List Bytes → Bool
+    some-there [] = false
+    some-there (e ∷ es) = true
 
 abbrev pub inRounds : List Isolation → List Isolation
 inRounds is = those hasElements is ++ those (λ i. not (hasElements i)) is
@@ -225,9 +208,6 @@ abbrev pub clampOn : Isolated → Bytes
 clampOn p =
     format4 "      force {0} = '{1};\n      $display(\"[UPF] Time: %0t, Isolation enabled (strategy {2}) on port '{3}', clamp {1}\", $time);\n"
     (p .parent) (p .clamp) (p .strategy) (p .port)
-  where
-    format4 : String → Bytes → Bytes → Bytes → Bytes → Bytes
-    format4 t a b c d = fill (ascii t) a b c d []
 
 abbrev pub clampOff : Isolated → Bytes
 clampOff p = format3 "      release {0};\n      $display(\"[UPF] Time: %0t, Isolation disabled (strategy {1}) on port '{2}'\", $time);\n" (p .parent) (p .strategy) (p .port)

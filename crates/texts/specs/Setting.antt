@@ -1,12 +1,9 @@
 -- What the texts are made of: the top's name, the scope, the module lines and the records; and how names are written in them.
 -- Assumes nothing.
-use Prim.Native.Nat.{ℕ}
 use mathlib.Core.List.{List, [], _∷_, _++_}
 use Rattle.text.specs.Ascii.{Bytes, ascii}
-use Rattle.out.specs.Bytewise.{mangle}
-use Rattle.out.specs.Emit.{_⊕_}
 use Rattle.out.specs.Items.{each}
-use Rattle.joblines.specs.Job.{Module}
+use Rattle.joblines.specs.Job.{Module, Job}
 use Rattle.design.specs.Paths.{elementPath}
 use Rattle.model.specs.Records.{Model}
 
@@ -32,8 +29,6 @@ slashed (b ∷ rel) = ascii "/" ++ (b ∷ rel)
 abbrev pub slashPath : Setting → Bytes → Bytes
 slashPath s rel = ascii "/" ++ (s .top ++ (each (λ n. ascii "/" ++ n) (s .scope) ++ slashed rel))
 
--- a piece of report, glue or package that generation adds, and its warnings
-pub record Part : Type 0 where
-  pub glue : Bytes
-  pub report : Bytes
-  pub warnings : List Bytes
+-- the setting of a job: its scope's path and module, and the records that its commands left
+abbrev pub settingOf : Job → List Bytes → Module → Model → Setting
+settingOf j path base m = record { top = j .top; scope = path; base = base; design = j .modules; records = m }

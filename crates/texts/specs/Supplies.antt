@@ -1,15 +1,11 @@
 -- The supply nets, in the Rust's order, and what glue and package have for each.
 -- Assumes nothing.
-use Prim.Native.Nat.{ℕ}
-use Prim.Native.String.{String}
-use mathlib.Core.Bool.{Bool, cond, not}
+use mathlib.Core.Bool.{cond, not}
 use mathlib.Core.List.{List, [], _∷_, _++_, map, flatMap}
-use mathlib.Core.Option.{Option, none, some}
-use Rattle.text.specs.Ascii.{Bytes, ascii}
+use Rattle.text.specs.Ascii.{Bytes}
 use Rattle.text.specs.Compare.{same}
 use Rattle.out.specs.Bytewise.{dotted}
-use Rattle.out.specs.Emit.{_⊕_}
-use Rattle.out.specs.Fill.{fill, format2, format4, format5}
+use Rattle.out.specs.Fill.{format2, format4}
 use Rattle.out.specs.Items.{each}
 use Rattle.design.specs.Lists.{those, addAll}
 use Rattle.model.specs.Records.{SupplyPort, Connection, Switch, Model}

@@ -1,23 +1,21 @@
 -- Power switches: their conditions (the Rust's `bool_expr`), their glue, report lines and warnings.
 -- Assumes nothing.
-use Prim.Native.Nat.{ℕ, _+_, _-_}
-use Prim.Native.String.{String}
-use mathlib.Core.Bool.{Bool, true, false, cond, not, _&&_}
+use Prim.Native.Nat.{ℕ, _+_}
+use mathlib.Core.Bool.{cond}
 use mathlib.Core.List.{List, [], _∷_, _++_, map, flatMap}
 use mathlib.Core.Option.{Option, none, some}
-use lib.ListN.{length, take, drop, getD}
-use lib.Dec.{eqb}
+use lib.ListN.{take}
 use Rattle.text.specs.Ascii.{Bytes, ascii}
 use Rattle.text.specs.Classes.{isDigit, isVariable}
 use Rattle.text.specs.Compare.{same}
 use Rattle.text.specs.Scan.{all, before}
 use Rattle.out.specs.Emit.{_⊕_}
-use Rattle.out.specs.Fill.{fill, format1, format2, format3, format4}
+use Rattle.out.specs.Fill.{format1, format2, format3, format4}
 use Rattle.out.specs.Items.{each, joined}
 use Rattle.tcl.specs.Rewrite.{rewrite}
 use Rattle.tcl.specs.Substitution.{no-variable}
-use Rattle.model.specs.Records.{Control, OnState, Switch, Model}
-use Rattle.texts.specs.Setting.{Setting, hier, Part}
+use Rattle.model.specs.Records.{Control, OnState, Switch}
+use Rattle.texts.specs.Setting.{Setting, hier}
 
 -- ---- conditions: words of letters, digits and `_` are control ports, numbers, or unknown; every other byte stays
 
@@ -31,6 +29,10 @@ unfoldable pub wordMore : Bytes → ℕ
 wordMore [] = 0
 wordMore (b ∷ t) = cond (isVariable b) (before no-variable t) 0
 
+-- the word at the head
+abbrev pub wordAt : Bytes → Bytes
+wordAt t = take (1 + wordMore t) t
+
 abbrev pub unknownText : Bytes → Bytes
 unknownText w = cond (all isDigit w) w (ascii "1'bx")
 
@@ -41,7 +43,7 @@ wordText none w = unknownText w
 -- what stands for the piece at the head
 unfoldable pub pieceText : Setting → List Control → Bytes → Bytes
 pieceText s cs [] = []
-pieceText s cs (b ∷ t) = cond (isVariable b) (wordText (signalOf s cs (take (1 + wordMore (b ∷ t)) (b ∷ t)) none) (take (1 + wordMore (b ∷ t)) (b ∷ t))) (b ∷ [])
+pieceText s cs (b ∷ t) = cond (isVariable b) (wordText (signalOf s cs (wordAt (b ∷ t)) none) (wordAt (b ∷ t))) (b ∷ [])
 
 abbrev pub condition : Setting → List Control → Bytes → Bytes
 condition s cs e = rewrite wordMore (pieceText s cs) 0 e
@@ -54,7 +56,7 @@ unlessKnown none w = cond (all isDigit w) [] (format1 "power switch state uses u
 unfoldable pub unknowns : Setting → List Control → ℕ → Bytes → List Bytes
 unknowns s cs skip [] = []
 unknowns s cs ℕ.zero (b ∷ t) =
-    cond (isVariable b) (unlessKnown (signalOf s cs (take (1 + wordMore (b ∷ t)) (b ∷ t)) none) (take (1 + wordMore (b ∷ t)) (b ∷ t))) []
+    cond (isVariable b) (unlessKnown (signalOf s cs (wordAt (b ∷ t)) none) (wordAt (b ∷ t))) []
     ++ unknowns s cs (wordMore (b ∷ t)) t
 unknowns s cs (ℕ.suc skip) (b ∷ t) = unknowns s cs skip t
 

@@ -1,24 +1,21 @@
 -- The three texts of generation, each a concatenation of named parts in the Rust's order, and the limits (check 9).
 -- Assumes nothing.
-use Prim.Native.Nat.{ℕ}
-use Prim.Native.String.{String}
-use mathlib.Core.Bool.{Bool, cond, _&&_}
-use mathlib.Core.List.{List, [], _∷_, _++_, map, flatMap}
-use mathlib.Core.Option.{Option}
+use mathlib.Core.Bool.{Bool, _&&_}
+use mathlib.Core.List.{List, [], _++_, map, flatMap}
 use lib.Dec.{leb}
 use lib.ListN.{length}
 use Rattle.text.specs.Ascii.{Bytes, ascii}
 use Rattle.text.specs.Scan.{all}
 use Rattle.out.specs.Emit.{_⊕_}
-use Rattle.out.specs.Fill.{fill, format1, format2, format3, format4}
+use Rattle.out.specs.Fill.{format1, format2, format3, format4}
 use Rattle.out.specs.Items.{each, joined}
 use Rattle.out.specs.Number.{decimal}
-use Rattle.model.specs.Records.{Domain, Switch, Shifter, TableState, Table, Model}
+use Rattle.model.specs.Records.{Shifter, TableState, Table}
 use Rattle.texts.specs.Limits.{most-isolated, most-all-warnings}
 use Rattle.texts.specs.Setting.{Setting, slashPath}
 use Rattle.texts.specs.Supplies.{supplyNets, netBlocks, cases, applyCase, stateCase, voltageCase}
 use Rattle.texts.specs.Switches.{switchGlue, switchLine, switchWarnings}
-use Rattle.texts.specs.Isolation.{Isolated, Cover, isolation, processes}
+use Rattle.texts.specs.Isolation.{isolation, processes}
 use Rattle.texts.specs.Domains.{domainGlue, domainLine, domainWarnings, domainFits}
 
 -- ---- warnings, in order: of reading, of switches, of isolation, of domains

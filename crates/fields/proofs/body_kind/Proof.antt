@@ -1,3 +1,5 @@
+-- `fields::body_kind` meets its contract.
+-- Assumes nothing.
 use Rattle.text.specs.Cases.{cases}
 use borrow.Author.Needs.{needs}
 use Rattle.fields.proofs.body_kind.Statement.{statement}

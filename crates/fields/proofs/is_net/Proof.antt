@@ -1,3 +1,5 @@
+-- `fields::is_net` meets its contract.
+-- Assumes nothing.
 use Rattle.fields.proofs.Leaves.{net-name, net-rest}
 use borrow.Author.Needs.{needs}
 use Rattle.fields.proofs.is_net.Statement.{statement}

@@ -1,3 +1,5 @@
+-- `fields::is_part` meets its contract.
+-- Assumes nothing.
 use Rattle.fields.proofs.Leaves.{part-none, part-dot, part-rest}
 use borrow.Author.Needs.{needs}
 use Rattle.fields.proofs.is_part.Statement.{statement}

@@ -1,3 +1,5 @@
+-- `fields::is_path` meets its contract. The loop's invariant: w is a PATH when what stands from i on is one.
+-- Assumes nothing.
 use Prim.Native.Nat.{_+_, _≤_, _-_}
 use mathlib.Core.Path.{_≡_}
 use lib.ListN.{length, drop}

@@ -1,3 +1,5 @@
+-- `fields::style_number` meets its contract.
+-- Assumes nothing.
 use Rattle.text.specs.Cases.{cases}
 use borrow.Author.Needs.{needs}
 use Rattle.fields.proofs.style_number.Statement.{statement}

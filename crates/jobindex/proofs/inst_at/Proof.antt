@@ -1,3 +1,5 @@
+-- `jobindex::inst_at` meets its contract.
+-- Assumes nothing.
 use borrow.Author.Needs.{needs}
 use Rattle.jobindex.proofs.inst_at.Statement.{statement}
 use Rattle.jobindex.proofs.inst_at.Tie as tie

@@ -1,3 +1,5 @@
+-- `jobindex::inst_row` meets its contract. The loop's invariant: the row among all is the row among the first k.
+-- Assumes nothing.
 use Prim.Native.Nat.{_≤_}
 use mathlib.Core.Path.{_≡_}
 use Rattle.jobindex.specs.Index.{instAt, rowOf}

@@ -1,3 +1,5 @@
+-- `jobindex::name_at` meets its contract.
+-- Assumes nothing.
 use borrow.Author.Needs.{needs}
 use Rattle.jobindex.proofs.name_at.Statement.{statement}
 use Rattle.jobindex.proofs.name_at.Tie as tie

@@ -1,3 +1,5 @@
+-- `jobindex::path_at` meets its contract.
+-- Assumes nothing.
 use borrow.Author.Needs.{needs}
 use Rattle.jobindex.proofs.path_at.Statement.{statement}
 use Rattle.jobindex.proofs.path_at.Tie as tie

@@ -1,3 +1,5 @@
+-- `joblines::conn_line` meets its contract.
+-- Assumes nothing.
 use Rattle.joblines.proofs.Looks.{connLines}
 use Rattle.joblines.proofs.conn_line.Statement.{statement}
 use Rattle.joblines.proofs.conn_line.Tie as tie

@@ -1,3 +1,5 @@
+-- `joblines::decl_line` meets its contract.
+-- Assumes nothing.
 use Rattle.joblines.proofs.Looks.{declLines}
 use Rattle.joblines.proofs.decl_line.Statement.{statement}
 use Rattle.joblines.proofs.decl_line.Tie as tie

@@ -1,3 +1,5 @@
+-- `joblines::is_start` meets its contract.
+-- Assumes nothing.
 use Rattle.joblines.proofs.Looks.{ands}
 use Rattle.joblines.proofs.is_start.Statement.{statement}
 use Rattle.joblines.proofs.is_start.Tie as tie

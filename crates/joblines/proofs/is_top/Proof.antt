@@ -1,3 +1,5 @@
+-- `joblines::is_top` meets its contract.
+-- Assumes nothing.
 use Rattle.joblines.proofs.Looks.{ands}
 use Rattle.joblines.proofs.is_top.Statement.{statement}
 use Rattle.joblines.proofs.is_top.Tie as tie

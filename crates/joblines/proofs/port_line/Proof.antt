@@ -1,3 +1,5 @@
+-- `joblines::port_line` meets its contract.
+-- Assumes nothing.
 use Rattle.joblines.proofs.Looks.{portLines}
 use Rattle.joblines.proofs.port_line.Statement.{statement}
 use Rattle.joblines.proofs.port_line.Tie as tie

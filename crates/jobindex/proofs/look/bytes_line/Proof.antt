@@ -1,3 +1,5 @@
+-- `jobindex::look::bytes_line` meets its contract.
+-- Assumes nothing.
 use Rattle.jobindex.proofs.Looks.{bytesLines}
 use borrow.Author.Needs.{needs}
 use Rattle.jobindex.proofs.look.bytes_line.Statement.{statement}

@@ -1,3 +1,5 @@
+-- `jobindex::look::file_line` meets its contract.
+-- Assumes nothing.
 use Rattle.jobindex.proofs.Looks.{fileLines}
 use Rattle.jobindex.proofs.look.file_line.Statement.{statement}
 use Rattle.jobindex.proofs.look.file_line.Tie as tie

@@ -1,3 +1,5 @@
+-- `jobindex::look::inst_line` meets its contract.
+-- Assumes nothing.
 use Rattle.jobindex.proofs.Looks.{instLines}
 use Rattle.jobindex.proofs.look.inst_line.Statement.{statement}
 use Rattle.jobindex.proofs.look.inst_line.Tie as tie

@@ -1,3 +1,5 @@
+-- `jobindex::look::module_line` meets its contract.
+-- Assumes nothing.
 use Rattle.jobindex.proofs.Looks.{moduleLines}
 use Rattle.jobindex.proofs.look.module_line.Statement.{statement}
 use Rattle.jobindex.proofs.look.module_line.Tie as tie

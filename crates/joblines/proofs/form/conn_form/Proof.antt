@@ -1,3 +1,5 @@
+-- `joblines::form::conn_form` meets its contract.
+-- Assumes nothing.
 use Rattle.joblines.proofs.Forms.{conns}
 use Rattle.joblines.proofs.form.conn_form.Statement.{statement}
 use Rattle.joblines.proofs.form.conn_form.Tie as tie

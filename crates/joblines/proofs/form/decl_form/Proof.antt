@@ -1,3 +1,5 @@
+-- `joblines::form::decl_form` meets its contract.
+-- Assumes nothing.
 use Rattle.joblines.proofs.Forms.{decls}
 use Rattle.joblines.proofs.form.decl_form.Statement.{statement}
 use Rattle.joblines.proofs.form.decl_form.Tie as tie

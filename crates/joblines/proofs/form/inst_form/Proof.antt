@@ -1,5 +1,7 @@
+-- `joblines::form::inst_form` meets its contract.
+-- Assumes nothing.
 use borrow.Author.Needs.{needs}
-use Rattle.joblines.proofs.Forms.{insts}
+use Rattle.joblines.proofs.Forms.{insts, name-within}
 use Rattle.joblines.proofs.form.inst_form.Statement.{statement}
 use Rattle.joblines.proofs.form.inst_form.Tie as tie
 
@@ -24,4 +26,4 @@ inst-form-spec =
     (λ c κs. search insts)  -- rest-requires
     (λ c κs. search insts)  -- is-name-requires-2
     (λ c. search insts)  -- returns-5
-    (λ c. (search insts, (search needs, search needs))))  -- returns-6
+    (λ c. (search insts, search (needs, name-within))))  -- returns-6

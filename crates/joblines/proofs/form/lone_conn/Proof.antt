@@ -1,3 +1,5 @@
+-- `joblines::form::lone_conn` meets its contract.
+-- Assumes nothing.
 use Rattle.text.specs.Cases.{cases}
 use borrow.Author.Needs.{needs}
 use Rattle.joblines.proofs.form.lone_conn.Statement.{statement}

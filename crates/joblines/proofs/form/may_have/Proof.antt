@@ -1,3 +1,5 @@
+-- `joblines::form::may_have` meets its contract.
+-- Assumes nothing.
 use Rattle.joblines.proofs.Looks.{mays}
 use Rattle.joblines.proofs.form.may_have.Statement.{statement}
 use Rattle.joblines.proofs.form.may_have.Tie as tie

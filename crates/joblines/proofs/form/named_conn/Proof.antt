@@ -1,3 +1,5 @@
+-- `joblines::form::named_conn` meets its contract.
+-- Assumes nothing.
 use Rattle.joblines.proofs.Forms.{nameds}
 use Rattle.joblines.proofs.form.named_conn.Statement.{statement}
 use Rattle.joblines.proofs.form.named_conn.Tie as tie

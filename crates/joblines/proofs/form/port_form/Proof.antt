@@ -1,3 +1,5 @@
+-- `joblines::form::port_form` meets its contract.
+-- Assumes nothing.
 use Rattle.joblines.proofs.Forms.{ports}
 use Rattle.joblines.proofs.form.port_form.Statement.{statement}
 use Rattle.joblines.proofs.form.port_form.Tie as tie

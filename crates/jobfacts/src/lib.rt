@@ -1,0 +1,1 @@
+// No code: what holds of every accepted job is stated and proved in specs/.

@@ -1,0 +1,5 @@
+pub mod Cutting
+pub mod Heads
+pub mod Between
+pub mod Bodies
+pub mod Within

@@ -1,0 +1,5 @@
+pub mod Firsts
+pub mod Streams
+pub mod Sames
+pub mod Parted
+pub mod Written
