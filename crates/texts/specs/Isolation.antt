@@ -132,6 +132,7 @@ isolatedBy s i sig t n =
       active = activeOf i;
     }
 
+-- what a target comes to, once it is resolved
 abbrev pub kept : Setting → Isolation → Bytes → Target → Cover → Resolved → Cover
 kept s i sig t c Resolved.absent = c
 kept s i sig t c Resolved.not-plain = remarked c (format3 "isolation strategy '{0}': port '{1}/{2}' actual is not a plain net; not simulated" (i .name) (t .inst) (t .port))
