@@ -156,7 +156,13 @@ pub extern "C" fn tclc_flag<'a>(
 
 // The next byte of an entry from i on.
 #[no_mangle]
-pub extern "C" fn tclc_byte(raw: &[u8], i: usize, quoted: bool, byte: &mut u8, next: &mut usize) -> u32
+pub extern "C" fn tclc_byte(
+    raw: &[u8],
+    i: usize,
+    quoted: bool,
+    byte: &mut u8,
+    next: &mut usize,
+) -> u32
     ensures { λ r. ⌜ entryBytes quoted (drop i (now (raw .entry))) ≡ nextOf quoted (now (raw .entry)) (readBy r (now (byte .exit)) (now (next .exit))) ⌝ }
 {
     let r = entries::byte::next_byte(raw, i, quoted);
