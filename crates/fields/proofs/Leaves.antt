@@ -1,12 +1,11 @@
 -- NAME and PATH, byte by byte and part by part.
 -- Assumes nothing.
-use mathlib.Core.Path.{_≡_, refl, ap, _∙_, sym}
+use mathlib.Core.Path.{_≡_, refl, _∙_, sym}
 use Prim.Native.Nat.{ℕ, suc, _+_, _-_, _<_, _≤_}
 use native.Mathlib.Omega.{arith}
-use mathlib.Core.Bool.{Bool, true, false, not, _&&_, and-false, and-true}
+use mathlib.Core.Bool.{Bool, true, false, not, and-false, and-true}
 use mathlib.Core.List.{List, [], _∷_}
-use lib.ListN.{length, take, drop, getD, drop-of-length-le}
-use lib.Dec.{leb}
+use lib.ListN.{length, take, drop, getD}
 use borrow.Author.Needs.{needs}
 use borrow.Author.Tests.{le-leb, lt-leb, not-true, not-false}
 use Rattle.text.specs.Classes.{opensName, inName}
@@ -17,7 +16,6 @@ use lib.Seq.{take-all}
 use Rattle.text.specs.Ascii.{ascii, byte}
 use Rattle.text.specs.Compare.{same}
 use Rattle.text.specs.Scan.{all, upTo, Ends}
-use Rattle.text.specs.Lists.{here}
 use Rattle.text.specs.Sames.{differ}
 use Rattle.fields.specs.Fields.{isName, isPart, isPath, isNet}
 use Rattle.fields.specs.Alls.{all-end, all-stop, all-step}

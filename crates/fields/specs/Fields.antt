@@ -1,6 +1,5 @@
 -- The fields of a job's lines: NAME, PATH, D, DIR, KIND, style, NET (document 01, "The job comes in").
 -- Assumes nothing.
-use Prim.Native.Nat.{ℕ}
 use Prim.Native.String.{String}
 use mathlib.Core.Bool.{Bool, true, false, cond, not, _&&_, _||_}
 use mathlib.Core.List.{List, [], _∷_}

@@ -1,6 +1,6 @@
 -- Laws: a byte string cut at a byte, part by part, in the code's own words: i is where a part begins, e where it ends.
 -- Assumes nothing.
-use mathlib.Core.Path.{_≡_, refl, ap, _∙_, sym}
+use mathlib.Core.Path.{_≡_, refl, _∙_}
 use Prim.Native.Nat.{ℕ, suc, _+_, _-_, _<_, _≤_}
 use native.Mathlib.Nat.{suc-add}
 use native.Mathlib.Omega.{arith}
@@ -10,8 +10,7 @@ use lib.ListN.{length, take, drop, length-drop}
 use lib.Dec.{ltb, eqb, leb·suc-suc}
 use lib.Seq.{drop-drop, take-all}
 use borrow.Author.Tests.{lt-ltb, le-ltb}
-use Rattle.text.specs.Scan.{before, is, upTo, onto, splitAt, Ends}
-use Rattle.text.specs.Scans.{before-le}
+use Rattle.text.specs.Scan.{before, upTo, onto, splitAt, Ends}
 
 -- the first part, and the parts after it
 pub split-step : (b : ℕ) (xs : List ℕ) → splitAt b xs ≡ take (upTo b xs) xs ∷ cond (ltb (upTo b xs) (length xs)) (splitAt b (drop (upTo b xs + 1) xs)) []

@@ -1,13 +1,11 @@
 -- What is due says which step is asked, and the step says what the line comes to.
 -- Assumes nothing.
-use mathlib.Core.Path.{_≡_, refl, ap, _∙_, sym}
-use Prim.Native.Nat.{ℕ, _+_, _-_, _<_, _≤_}
+use mathlib.Core.Path.{_≡_, refl}
+use Prim.Native.Nat.{ℕ, _+_, _-_}
 use mathlib.Core.List.{List, [], _∷_}
-use lib.ListN.{length, take, drop}
-use borrow.Author.Needs.{needs}
+use lib.ListN.{drop}
 use Rattle.text.specs.Ascii.{Bytes}
-use Rattle.joblines.specs.Job.{Job}
-use Rattle.joblines.specs.Lines.{Read, refuse, firstOf, readLine, topLine, overrideLine, startLine, fileLine, bytesLine, moduleLine, styleLine, portLine, declLine, instLine, connLine, endLine}
+use Rattle.joblines.specs.Lines.{firstOf, readLine, topLine, overrideLine, startLine, fileLine, bytesLine, moduleLine, styleLine, portLine, declLine, instLine, connLine, endLine}
 use Rattle.jobindex.specs.declared.Header.{Header}
 use Rattle.jobindex.specs.declared.Open.{Open}
 use Rattle.jobindex.specs.Index.{bytesAt, jobOf}

@@ -1,36 +1,34 @@
 -- The reading goes on: what is left of the job is read to what the whole job is read to. The loop's invariant, and its turns.
 -- Assumes nothing.
 use mathlib.Core.Path.{_≡_, refl, ap, _∙_, sym}
-use Prim.Native.Nat.{ℕ, zero, suc, _+_, _-_, _^_, _<_, _≤_}
+use Prim.Native.Nat.{ℕ, suc, _+_, _-_, _<_, _≤_}
 use native.Mathlib.Numerals.{add-one}
 use native.Mathlib.Omega.{arith}
-use mathlib.Core.Bool.{Bool, true, false, not, cond}
-use mathlib.Core.List.{List, [], _∷_}
+use mathlib.Core.Bool.{Bool, true, false, cond}
+use mathlib.Core.List.{List, []}
 use lib.ListN.{length, take, drop, length-drop, drop-of-length-le}
 use lib.Dec.{ltb, eqb}
 use lib.Seq.{drop-drop}
-use borrow.Author.Needs.{needs}
-use borrow.Author.Tests.{lt-ltb, le-ltb, ltb-true, ltb-false, eq-eqb, ne-eqb, eqb-true, eqb-false, not-true, not-false}
-use Rattle.text.specs.Ascii.{Bytes, byte}
+use borrow.Author.Tests.{lt-ltb, le-ltb, ltb-true, ltb-false, eqb-true, eqb-false}
+use Rattle.text.specs.Ascii.{Bytes}
 use Rattle.text.specs.Compare.{same}
-use Rattle.text.specs.Scan.{upTo}
-use Rattle.text.specs.Sames.{differ, no-true, same-refl}
+use Rattle.text.specs.Sames.{differ, same-refl}
 use Rattle.place.specs.declared.Place.{Place}
 use Rattle.place.specs.declared.Cut.{Cut}
 use Rattle.place.specs.declared.Cut.the-variants.{Line, Missing}
 use Rattle.place.specs.Cut.{endOf, cutAt, movedOn, In}
 use Rattle.joblines.specs.Job.{Job, no-job}
-use Rattle.joblines.specs.Lines.{Read, refuse, on, due-top, due-override, due-start, due-file, due-bytes, due-more, due-style, due-ports, due-decls, due-insts, due-nothing, readLine}
+use Rattle.joblines.specs.Lines.{due-top, due-override, due-start, due-file, due-bytes, due-more, due-style, due-ports, due-decls, due-insts, due-nothing, readLine}
 use Rattle.joblines.specs.Lines as Lines
-use Rattle.joblines.specs.Parse.{Parsed, accepted, refused, isNothing, lineSize, hasLine, firstLine, behindLine, carryOn, lines}
+use Rattle.joblines.specs.Parse.{accepted, refused, isNothing, lineSize, hasLine, firstLine, behindLine, carryOn, lines}
 use Rattle.jobindex.specs.declared.Header.{Header}
 use Rattle.jobindex.specs.declared.Open.{Open}
-use Rattle.jobindex.specs.Index.{index-size, section, jobOf, rows}
+use Rattle.jobindex.specs.Index.{index-size, jobOf, rows}
 use Rattle.jobsteps.specs.declared.Due.{Due}
 use Rattle.jobsteps.specs.declared.Due.the-variants as due
 use Rattle.jobsteps.specs.declared.Step.{Step}
 use Rattle.jobsteps.specs.declared.Step.the-variants as step
-use Rattle.jobsteps.specs.State.{dueOf, jobNow, meant, lineOf, IsLine, Outside, Stands, Asked, Stepped}
+use Rattle.jobsteps.specs.State.{dueOf, jobNow, lineOf, IsLine, Stands, Asked, Stepped}
 use Rattle.job.specs.declared.Answer.{Answer}
 use Rattle.job.specs.declared.Answer.the-variants as answer
 use Rattle.job.specs.Reader.{readOf, Bounded, LinesRead}

@@ -1,29 +1,27 @@
 -- The checks of the whole job: its end, its bytes, and whether `start` and `top` are listed.
 -- Assumes nothing.
 use mathlib.Core.Path.{_≡_, refl, ap, _∙_, sym}
-use Prim.Native.Nat.{ℕ, zero, suc, _+_, _-_, _<_, _≤_}
+use Prim.Native.Nat.{ℕ, _-_, _<_, _≤_}
 use native.Mathlib.Omega.{arith}
-use mathlib.Core.Bool.{Bool, true, false, not, cond, _&&_, _||_, and-false}
+use mathlib.Core.Bool.{Bool, true, false, not, cond, and-false}
 use mathlib.Core.List.{List, [], _∷_, map}
 use lib.ListN.{length, take, drop}
-use lib.Dec.{leb, ltb, eqb}
-use borrow.Author.Needs.{needs}
-use borrow.Author.Tests.{lt-ltb, le-ltb, le-leb, lt-leb, eq-eqb, ne-eqb, not-true, not-false}
+use lib.Dec.{ltb, eqb}
+use borrow.Author.Tests.{lt-ltb, le-leb, lt-leb, eq-eqb, ne-eqb, not-true, not-false}
 use Rattle.text.specs.Ascii.{Bytes}
 use Rattle.text.specs.Classes.{isAscii}
 use Rattle.text.specs.Compare.{same}
 use Rattle.text.specs.Scan.{all, any}
-use Rattle.joblines.specs.Job.{File, Module, Job, no-job}
-use Rattle.joblines.specs.Lines.{due-top}
-use Rattle.joblines.specs.Parse.{Parsed, accepted, refused, isNothing, lines, listed, parse}
+use Rattle.joblines.specs.Job.{File, Module, Job}
+use Rattle.joblines.specs.Parse.{isNothing, listed, parse}
 use Rattle.jobindex.specs.declared.Header.{Header}
-use Rattle.jobindex.specs.Index.{index-size, bytesAt, pathAt, fileAt, nameAt, moduleRow, rows, rowOf, jobOf, Indexed}
+use Rattle.jobindex.specs.Index.{pathAt, fileAt, nameAt, moduleRow, rowOf, jobOf}
 use Rattle.jobindex.specs.Rows.{rows-map, row-any, row-le, row-is}
 use Rattle.jobsteps.specs.declared.Due.{Due}
 use Rattle.jobsteps.specs.State.{dueOf}
 use Rattle.job.specs.declared.Answer.{Answer}
 use Rattle.job.specs.declared.Answer.the-variants.{Taken, Refused}
-use Rattle.job.specs.Reader.{readOf, Found, Bounded, LinesRead, Listed, JobRead}
+use Rattle.job.specs.Reader.{readOf, LinesRead, Listed, JobRead}
 
 -- ---- there is no further line
 module _ (job : Bytes) (at line : ℕ) (d : Due) (head : Header) (t : Bool) (et : t ≡ isNothing (dueOf [] d)) where

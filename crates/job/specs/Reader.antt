@@ -1,11 +1,11 @@
 -- What the reader promises of the whole job.
 -- Assumes nothing.
-use Prim.Native.Nat.{ℕ, _+_, _≤_, _<_}
+use Prim.Native.Nat.{ℕ, _+_, _≤_}
 use mathlib.Core.Path.{_≡_}
 use mathlib.Core.List.{List}
 use lib.ListN.{length, drop}
 use Rattle.text.specs.Ascii.{Bytes}
-use Rattle.joblines.specs.Job.{Job, no-job}
+use Rattle.joblines.specs.Job.{no-job}
 use Rattle.joblines.specs.Lines.{due-top}
 use Rattle.joblines.specs.Parse.{Parsed, accepted, refused, lines, listed, parse}
 use Rattle.jobindex.specs.declared.Header.{Header}

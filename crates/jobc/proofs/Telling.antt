@@ -1,8 +1,7 @@
 -- What the reader's answer is told as.
 -- Assumes nothing.
-use mathlib.Core.Path.{_≡_, refl, ap, _∙_, sym}
-use Prim.Native.Nat.{ℕ, _+_, _*_, _^_, _<_, _≤_}
-use native.Mathlib.Omega.{arith}
+use mathlib.Core.Path.{_≡_}
+use Prim.Native.Nat.{ℕ, _+_, _*_, _<_, _≤_}
 use mathlib.Core.List.{List}
 use lib.ListN.{length}
 use borrow.Author.Tests.{le-leb, lt-leb}
@@ -10,7 +9,7 @@ use Rattle.jobindex.specs.declared.Header.{Header}
 use Rattle.job.specs.declared.Answer.{Answer}
 use Rattle.job.specs.declared.Answer.the-variants.{Taken, Refused}
 use Rattle.job.specs.Reader.{JobRead}
-use Rattle.jobc.specs.Told.{told, checked}
+use Rattle.jobc.specs.Told.{checked}
 
 module _ (job index : List ℕ) where
   pub tell-short : length index < 1280 → 4294967296 ≡ checked (length index) job

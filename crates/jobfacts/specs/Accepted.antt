@@ -1,10 +1,10 @@
 -- Every accepted job is well formed.
 -- Assumes nothing.
-use mathlib.Core.Path.{_≡_, refl, ap, _∙_, sym}
+use mathlib.Core.Path.{_≡_, refl, ap, _∙_}
 use Prim.Native.Nat.{ℕ, zero, suc, _+_}
 use native.Mathlib.Omega.{arith}
 use mathlib.Core.Bool.{Bool, true, false, cond, _&&_, _||_}
-use mathlib.Core.List.{List, [], _∷_, map}
+use mathlib.Core.List.{List, [], _∷_}
 use mathlib.Core.Option.{Option, none, some}
 use lib.ListN.{length}
 use lib.Dec.{leb}
@@ -19,7 +19,7 @@ use Rattle.joblines.specs.Job.{File, Module, Job, no-job}
 use Rattle.joblines.specs.Lines.{Read, refuse, on, Due, due-top, due-override, due-start, due-file, due-bytes, due-more, due-style, due-ports, due-decls, due-insts, due-nothing, orElse, firstOf, kindsDue, readLine}
 use Rattle.joblines.specs.Parse.{Parsed, accepted, refused, isNothing, hasLine, firstLine, behindLine, carryOn, lines, listed, parse}
 use Rattle.jobfacts.specs.WellFormed.{All, distinct, GoodFile, GoodModule, GoodLists, WellFormed}
-use Rattle.jobfacts.specs.Kept.{Pending, Goes, top-kept, override-kept, start-kept, file-kept, bytes-kept, module-kept, style-kept, port-kept, decl-kept, inst-kept, conn-kept, end-kept}
+use Rattle.jobfacts.specs.Kept.{Goes, top-kept, override-kept, start-kept, file-kept, bytes-kept, module-kept, style-kept, port-kept, decl-kept, inst-kept, conn-kept, end-kept}
 
 -- ---- one line
 abbrev Keeps : Due → (Job → Bytes → Bytes → Option Read) → Type 0

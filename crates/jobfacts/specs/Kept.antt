@@ -1,7 +1,7 @@
 -- Each line kind keeps a job good.
 -- Assumes nothing.
 use mathlib.Core.Path.{_≡_, refl, ap, _∙_, sym}
-use Prim.Native.Nat.{ℕ, zero, suc, _+_, _<_, _≤_}
+use Prim.Native.Nat.{ℕ, suc, _+_, _<_}
 use native.Mathlib.Omega.{arith}
 use mathlib.Core.Bool.{Bool, true, false, cond, not, _&&_, _||_}
 use mathlib.Core.List.{List, [], _∷_, _++_, map}
@@ -16,9 +16,9 @@ use Rattle.text.specs.Numbers.{isDecimal, valueFrom}
 use Rattle.text.specs.Sames.{both, no-true, same-eq, same-refl}
 use Rattle.fields.specs.Fields.{Dir, Kind, Style, isName, isPath, isNet, dirOf, kindOf, dimsOf, styleOf}
 use Rattle.joblines.specs.Job.{File, Port, Decl, Conn, star, implicit, named, pos, Inst, Module, Job}
-use Rattle.joblines.specs.Lines.{Checked, bad, good, check, andThen, Read, refuse, on, Due, due-top, due-override, due-start, due-file, due-bytes, due-more, due-style, due-ports, due-decls, due-insts, due-nothing, when, keyed, fields, mayHave, asPort, portOf, asDecl, declOf, asInst, instOf, connOf, isBody, topLine, overrideLine, startLine, fileRead, fileLine, bytesLine, moduleRead, moduleLine, styleLine, portLine, declLine, instRead, instLine, connLine, endLine, thisModule, thisInst, withFiles, withModules, withInsts, onLast, lastOr, no-module, no-inst, addPort, addDecl, addInst, addConn}
+use Rattle.joblines.specs.Lines.{Checked, bad, good, check, andThen, Read, on, Due, due-top, due-override, due-start, due-file, due-bytes, due-more, due-style, due-ports, due-decls, due-insts, due-nothing, when, fields, mayHave, asPort, portOf, asDecl, declOf, asInst, instOf, connOf, isBody, topLine, overrideLine, startLine, fileRead, fileLine, bytesLine, moduleRead, moduleLine, styleLine, portLine, declLine, instRead, instLine, connLine, endLine, thisModule, thisInst, withFiles, withModules, withInsts, onLast, lastOr, no-module, no-inst, addPort, addDecl, addInst, addConn}
 use Rattle.joblines.specs.Forms.{portRead, declRead, connRead}
-use Rattle.joblines.specs.Reads.{Goods, read-good, when-is, map-when, port-line-is, decl-line-is, conn-line-is, inst-fresh, last-is}
+use Rattle.joblines.specs.Reads.{read-good, when-is, map-when, port-line-is, decl-line-is, conn-line-is, inst-fresh}
 use Rattle.jobfacts.specs.WellFormed.{All, distinct, GoodPort, GoodDecl, GoodConn, GoodInst, GoodModule, GoodFile, GoodLists}
 
 -- ---- lists

@@ -1,6 +1,6 @@
 -- What every accepted job has: its names are NAMEs, its counts are within their limits, what has to be new is distinct, `start` and `top` are listed.
 -- Assumes nothing.
-use Prim.Native.Nat.{ℕ, _≤_}
+use Prim.Native.Nat.{_≤_}
 use mathlib.Core.Path.{_≡_}
 use mathlib.Core.Bool.{Bool, true, not, _&&_}
 use mathlib.Core.List.{List, [], _∷_, map}

@@ -1,12 +1,10 @@
 -- What lines come to beside the index, from the tests that the code makes: t is whether the line has the key, v its value.
 -- Assumes nothing.
-use mathlib.Core.Path.{_≡_, refl, ap, _∙_, sym}
-use Prim.Native.Nat.{ℕ, _+_, _-_, _<_, _≤_}
-use native.Mathlib.Omega.{arith}
-use mathlib.Core.Bool.{Bool, true, false, not, cond}
-use mathlib.Core.List.{List, [], _∷_}
-use mathlib.Core.Option.{Option, none, some}
-use lib.ListN.{length, take, drop, length-drop}
+use mathlib.Core.Path.{_≡_, ap, _∙_, sym}
+use Prim.Native.Nat.{ℕ, _-_, _<_, _≤_}
+use mathlib.Core.Bool.{Bool, true, false, not}
+use mathlib.Core.Option.{some}
+use lib.ListN.{take, drop}
 use lib.Dec.{ltb}
 use borrow.Author.Needs.{needs}
 use borrow.Author.Tests.{not-true, not-false, lt-ltb, le-ltb}
@@ -17,19 +15,16 @@ use Rattle.text.specs.Numbers.{numberOf}
 use Rattle.text.specs.declared.number.Num.{Num}
 use Rattle.text.specs.declared.number.Num.the-variants.{Bad}
 use Rattle.fields.specs.Fields.{isName, isPath}
-use Rattle.fields.specs.Meant.{dimsIs}
 use Rattle.fields.specs.declared.Dims.{Dims}
 use Rattle.joblines.specs.Job.{Inst}
-use Rattle.joblines.specs.Lines.{Checked, bad, good, check, when, fields, fileRead, moduleRead, instOf, instRead}
+use Rattle.joblines.specs.Lines.{check, fields, fileRead, moduleRead, instOf, instRead}
 use Rattle.joblines.specs.Forms.{instMeant, InstIn, verdict}
-use Rattle.joblines.specs.declared.Look.{Look}
 use Rattle.joblines.specs.declared.Look.the-variants.{Other, Refused, Good}
 use Rattle.joblines.specs.declared.form.InstForm.{InstForm}
 use Rattle.joblines.specs.declared.form.InstForm.the-variants as inst
-use Rattle.jobindex.specs.declared.look.InstLook.{InstLook}
 use Rattle.jobindex.specs.declared.look.InstLook.the-variants as look
 use Rattle.jobindex.specs.Index.{rows, rowOf}
-use Rattle.jobindex.specs.Looks.{nameOf, instSaid, InstWithin, InstSeen, bytesOf}
+use Rattle.jobindex.specs.Looks.{nameOf, InstSeen, bytesOf}
 use Rattle.jobindex.specs.Rows.{rows-length, row-any}
 
 -- ---- file=PATH

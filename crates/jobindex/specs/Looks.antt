@@ -1,6 +1,6 @@
 -- What lines come to beside the index: an instance line with its name, a bytes line with its number.
 -- Assumes nothing.
-use Prim.Native.Nat.{ℕ, _+_, _≤_}
+use Prim.Native.Nat.{_+_, _≤_}
 use mathlib.Core.Path.{_≡_}
 use mathlib.Core.Bool.{cond}
 use mathlib.Core.List.{List}

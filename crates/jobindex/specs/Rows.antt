@@ -7,7 +7,7 @@ use native.Mathlib.Nat.{add-zero}
 use native.Mathlib.Omega.{arith}
 use mathlib.Core.Bool.{Bool, true, false, cond, _||_, or-false, or-true}
 use mathlib.Core.List.{List, [], _∷_, _++_, map}
-use lib.ListN.{length, take, drop, getD, set, length-append, length-set, drop-of-length-le}
+use lib.ListN.{length, drop, set, length-append, length-set, drop-of-length-le}
 use lib.Dec.{ltb, eqb}
 use lib.Seq.{getD-set-same, getD-set-other, drop-set-lt, drop-append-le, drop-at}
 use borrow.Author.Needs.{needs}
@@ -15,10 +15,9 @@ use borrow.Author.Tests.{lt-ltb, eqb-true, eqb-false}
 use Rattle.text.specs.Ascii.{Bytes}
 use Rattle.text.specs.Compare.{same}
 use Rattle.text.specs.Scan.{any}
-use Rattle.text.specs.Sames.{no-true, same-eq}
-use Rattle.joblines.specs.Job.{File, Module, Job}
+use Rattle.text.specs.Sames.{same-eq}
 use Rattle.jobindex.specs.declared.Open.{Open}
-use Rattle.jobindex.specs.Index.{num, bytesAt, pathAt, bodyAt, fileAt, moduleOf, rowAt, nameAt, moduleRow, instAt, rows, rowOf}
+use Rattle.jobindex.specs.Index.{num, bytesAt, pathAt, bodyAt, fileAt, moduleOf, rowAt, moduleRow, instAt, rows, rowOf}
 use Rattle.jobindex.specs.Stores.{withFile, withModule, withName}
 
 -- ---- rows
@@ -231,10 +230,9 @@ module _ (job : Bytes) (index : List ℕ) (k : ℕ) (o : Open) (few : k < 128) (
       let z : rowAt k + 1 + 1 ≡ rowAt k + 2 = omega arith in
       let y : rowAt k + 2 + 1 ≡ rowAt k + 3 = omega arith in
       let x : rowAt k + 3 + 1 ≡ rowAt k + 4 = omega arith in
-      let w : rowAt k + 4 + 1 ≡ rowAt k + 5 = omega arith in
-      let v : rowAt k + 5 + 1 ≡ rowAt k + 6 = omega arith in
-      let u : rowAt k + 6 + 1 ≡ rowAt k + 7 = omega arith in
-      rw (z, y, x, w, v, u)
+      let w : rowAt k + 4 + 1 + 1 ≡ rowAt k + 4 + 2 = omega arith in
+      let v : rowAt k + 4 + 2 + 1 ≡ rowAt k + 4 + 3 = omega arith in
+      rw (z, y, x, w, v)
 
   pub module-in : (c : ℕ) → c < 8 → num moduled (rowAt k + c) ≡ num numbers c
   module-in c h = rw module-puts (puts-in index (rowAt k) numbers c h (omega arith))

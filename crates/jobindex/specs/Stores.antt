@@ -6,13 +6,16 @@ use lib.ListN.{set}
 use Rattle.jobindex.specs.declared.Open.{Open}
 use Rattle.jobindex.specs.Index.{rowAt}
 
+-- four numbers, from i on
+abbrev pub withFour : List ℕ → ℕ → ℕ → ℕ → ℕ → ℕ → List ℕ
+withFour index i a b c d = set (set (set (set index i a) (i + 1) b) (i + 2) c) (i + 3) d
+
 abbrev pub withFile : List ℕ → ℕ → ℕ → ℕ → ℕ → ℕ → List ℕ
-withFile index k at len body size = set (set (set (set index (4 * k) at) (4 * k + 1) len) (4 * k + 2) body) (4 * k + 3) size
+withFile index k at len body size = withFour index (4 * k) at len body size
 
 abbrev pub withModule : List ℕ → ℕ → Open → List ℕ
 withModule index k o =
-    set (set (set (set (set (set (set (set index (rowAt k) (o .name .at)) (rowAt k + 1) (o .name .len)) (rowAt k + 2) (o .style)) (rowAt k + 3) (o .ports))
-    (rowAt k + 4) (o .decls)) (rowAt k + 5) (o .insts)) (rowAt k + 6) (o .end)) (rowAt k + 7) (o .ninsts)
+    withFour (withFour index (rowAt k) (o .name .at) (o .name .len) (o .style) (o .ports)) (rowAt k + 4) (o .decls) (o .insts) (o .end) (o .ninsts)
 
 abbrev pub withName : List ℕ → ℕ → ℕ → ℕ → List ℕ
 withName index k at len = set (set index (1152 + 2 * k) at) (1152 + 2 * k + 1) len

@@ -5,10 +5,10 @@
 //   1152 to 1279   64 names of the instances of the module that is being read, 2 numbers each: name at, name length
 // Places are offsets in the job. The lines of ports, declarations, instances and connections are not indexed: their sections are scanned.
 ghost use mathlib.Core.Path.{_≡_};
-ghost use Prim.Native.Nat.{_≤_, _<_, _^_};
+ghost use Prim.Native.Nat.{_+_, _≤_, _<_, _^_};
 ghost use lib.ListN.{length};
 ghost use Rattle.jobindex.specs.Index.{index-size, pathAt, nameAt, instAt, rowOf};
-ghost use Rattle.jobindex.specs.Stores.{Fits, withFile, withModule, withName};
+ghost use Rattle.jobindex.specs.Stores.{Fits, withFour, withFile, withModule, withName};
 
 pub mod look;
 
@@ -119,16 +119,30 @@ pub fn inst_row(job: &[u8], index: &[u32], count: usize, name: &[u8]) -> usize
     0
 }
 
+// Four numbers of a row, from i on.
+fn put_four(index: &mut [u32], i: usize, a: u32, b: u32, c: u32, d: u32)
+    requires { ⌜ i + 4 ≤ length (now index) ⌝ }
+    ensures { λ r. ⌜ now (index .exit) ≡ withFour (now (index .entry)) i a b c d ⌝ }
+{
+    index[i] = a;
+    index[i + 1] = b;
+    index[i + 2] = c;
+    index[i + 3] = d;
+}
+
 // File k gets its row.
 pub fn put_file(index: &mut [u32], k: usize, at: usize, len: usize, body: usize, size: usize)
     requires { ⌜ (k < 32) × ((index-size ≤ length (now index)) × ((at < 2 ^ 32) × ((len < 2 ^ 32) × ((body < 2 ^ 32) × (size < 2 ^ 32))))) ⌝ }
     ensures { λ r. ⌜ now (index .exit) ≡ withFile (now (index .entry)) k at len body size ⌝ }
 {
-    let i = 4 * k;
-    index[i] = at as u32;
-    index[i + 1] = len as u32;
-    index[i + 2] = body as u32;
-    index[i + 3] = size as u32;
+    put_four(
+        index,
+        4 * k,
+        at as u32,
+        len as u32,
+        body as u32,
+        size as u32,
+    );
 }
 
 // Module k gets its row.
@@ -138,14 +152,22 @@ pub fn put_module(index: &mut [u32], k: usize, m: Open)
 {
     let i = 128 + 8 * k;
     let name = m.name;
-    index[i] = name.at as u32;
-    index[i + 1] = name.len as u32;
-    index[i + 2] = m.style;
-    index[i + 3] = m.ports as u32;
-    index[i + 4] = m.decls as u32;
-    index[i + 5] = m.insts as u32;
-    index[i + 6] = m.end as u32;
-    index[i + 7] = m.ninsts as u32;
+    put_four(
+        &mut index[..],
+        i,
+        name.at as u32,
+        name.len as u32,
+        m.style,
+        m.ports as u32,
+    );
+    put_four(
+        index,
+        i + 4,
+        m.decls as u32,
+        m.insts as u32,
+        m.end as u32,
+        m.ninsts as u32,
+    );
 }
 
 // Instance k of the module that is being read gets its name.

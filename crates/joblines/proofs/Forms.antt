@@ -1,21 +1,21 @@
 -- The values of lines, field by field. Where the last field is a NAME or a NET it has no space, so that it need not be searched for one.
 -- Assumes nothing.
-use mathlib.Core.Path.{_≡_, refl, ap, _∙_, sym, subst}
-use Prim.Native.Nat.{ℕ, suc, _+_, _-_, _<_, _≤_}
+use mathlib.Core.Path.{_≡_, refl, ap, _∙_, sym}
+use Prim.Native.Nat.{ℕ, _+_, _-_, _≤_}
 use native.Mathlib.Nat.{sub-zero}
 use native.Mathlib.Omega.{arith}
-use mathlib.Core.Bool.{Bool, true, false, not, cond, _&&_, _||_, and-false, and-true}
+use mathlib.Core.Bool.{Bool, true, false, not, _&&_, and-false}
 use mathlib.Core.List.{List, [], _∷_}
 use mathlib.Core.Option.{Option, none, some}
 use lib.ListN.{length, take, drop}
-use lib.Dec.{ltb, leb, eqb}
+use lib.Dec.{ltb}
 use lib.Seq.{take-all}
 use borrow.Author.Needs.{needs}
-use borrow.Author.Tests.{not-true, not-false, ltb-true, ltb-false}
+use borrow.Author.Tests.{not-true, not-false, ltb-false}
 use Rattle.text.specs.Ascii.{Bytes, ascii, byte}
 use Rattle.text.specs.Compare.{same}
-use Rattle.text.specs.Scan.{before, upTo, splitAt, Ends}
-use Rattle.text.specs.Sames.{both, no-true, same-eq}
+use Rattle.text.specs.Scan.{before, upTo, Ends}
+use Rattle.text.specs.Sames.{no-true, same-eq}
 use Rattle.fields.specs.Fields.{Dir, Style, Kind, ansi, isName, isNet, dimsOf, dirOf, kindOf}
 use Rattle.fields.specs.Meant.{dimsMeant, dirMeant, kindMeant, isSome, dimsIs, dirIs, kindIs, dims-known, dir-known, kind-known}
 use Rattle.fields.specs.Splits.{split-step, cut-from, cut-more, cut-last}
@@ -23,8 +23,8 @@ use Rattle.fields.specs.Names.{name-not-with, net-not-with}
 use Rattle.fields.specs.declared.Dims.{Dims}
 use Rattle.fields.specs.declared.Dir.{Dir as Dir·code}
 use Rattle.fields.specs.declared.Kind.{Kind as Kind·code}
-use Rattle.joblines.specs.Job.{Port, Decl, Conn, star, implicit, named, pos, Inst}
-use Rattle.joblines.specs.Lines.{when, fields, mayHave, asPort, portOf, asDecl, declOf, asInst, instOf, connOf}
+use Rattle.joblines.specs.Job.{Conn, implicit, named, pos}
+use Rattle.joblines.specs.Lines.{when, fields, asPort, portOf, asDecl, declOf, asInst, instOf, connOf}
 
 abbrev space : ℕ
 space = byte " "

@@ -1,28 +1,26 @@
 -- What lines come to, from the tests that the code makes: t is whether the line has the key, v its value.
 -- Assumes nothing.
-use mathlib.Core.Path.{_≡_, refl, ap, _∙_, sym}
+use mathlib.Core.Path.{_≡_, refl, _∙_, sym}
 use Prim.Native.Nat.{ℕ, _<_, _≤_}
 use native.Mathlib.Omega.{arith}
-use mathlib.Core.Bool.{Bool, true, false, not, cond, _&&_, and-false}
-use mathlib.Core.List.{List, [], _∷_}
-use mathlib.Core.Option.{Option, none, some}
-use lib.ListN.{length, drop}
+use mathlib.Core.Bool.{Bool, true, false, not, cond, _&&_}
+use mathlib.Core.Option.{some}
+use lib.ListN.{drop}
 use lib.Dec.{ltb, eqb}
 use borrow.Author.Needs.{needs}
 use borrow.Author.Tests.{not-true, not-false, lt-ltb, le-ltb, eqb-true, eqb-false}
 use Rattle.text.specs.Ascii.{Bytes, ascii}
 use Rattle.text.specs.Compare.{startsWith}
-use Rattle.fields.specs.Fields.{Dir, input, output, inout, ref, undirected, Style, ansi, nonansi, empty, isName, isPath, dirOf}
-use Rattle.fields.specs.Meant.{styleAt, dirIs, kindIs, dimsIs}
+use Rattle.fields.specs.Fields.{Dir, input, output, inout, ref, undirected, ansi, nonansi, empty, isName, isPath}
+use Rattle.fields.specs.Meant.{styleAt, dirIs}
 use Rattle.fields.specs.declared.Dims.{Dims}
 use Rattle.fields.specs.declared.Dir.{Dir as Dir·code}
 use Rattle.fields.specs.declared.Dir.the-variants as dir
 use Rattle.fields.specs.declared.Kind.{Kind as Kind·code}
-use Rattle.joblines.specs.Job.{Port, Decl, Conn}
-use Rattle.joblines.specs.Lines.{Checked, bad, good, check, when, keyed, fields, isNone, mayHave, asPort, portOf, declOf, connOf}
+use Rattle.joblines.specs.Job.{Port, Decl}
+use Rattle.joblines.specs.Lines.{check, fields, isNone, mayHave, portOf, declOf, connOf}
 use Rattle.joblines.specs.Forms.{portMeant, declMeant, connMeant, isConn, portRead, declRead, connRead, verdict}
 use Rattle.joblines.specs.Reads.{restrict, port-style}
-use Rattle.joblines.specs.declared.Look.{Look}
 use Rattle.joblines.specs.declared.Look.the-variants.{Other, Refused, Good}
 use Rattle.joblines.specs.declared.form.PortForm.{PortForm}
 use Rattle.joblines.specs.declared.form.PortForm.the-variants as port

@@ -8,7 +8,6 @@ use Rattle.text.specs.Compare.{same}
 use Rattle.text.specs.Scan.{before, all, any, splitAt}
 use Rattle.text.specs.Numbers.{valueFrom, isDecimal}
 use Rattle.fields.specs.Fields.{isName, isPart, isPath, dimsOf, dirOf, kindOf, styleOf, isNet, input, output, net, odd, ansi, empty}
-use Rattle.joblines.specs.Job.{Job}
 use Rattle.joblines.specs.Lines.{topLine, overrideLine, startLine, fileLine, fileRead, bytesLine, moduleLine, styleLine, portLine, portOf, declLine, declOf, instLine, instOf, instRead, connLine, connOf, endLine, readLine, moduleRead}
 use Rattle.joblines.specs.Parse.{Parsed, accepted, refused, lines, parse}
 

@@ -1,14 +1,13 @@
 -- What the answers of the code say. A form has the offsets of its fields in the line's value v.
 -- Assumes nothing.
 use Prim.Native.Nat.{ℕ, _+_, _≤_}
-use mathlib.Core.Bool.{Bool, true, false, cond, _&&_}
-use mathlib.Core.List.{List, [], _∷_}
-use mathlib.Core.Option.{Option, none, some, Option·map}
+use mathlib.Core.Bool.{Bool, true, false}
+use mathlib.Core.List.{[]}
+use mathlib.Core.Option.{Option, none, some}
 use lib.ListN.{length, take, drop}
 use lib.Dec.{ltb}
-use Rattle.text.specs.Ascii.{Bytes, ascii}
-use Rattle.text.specs.Compare.{startsWith}
-use Rattle.fields.specs.Fields.{Dir, Style, Kind}
+use Rattle.text.specs.Ascii.{Bytes}
+use Rattle.fields.specs.Fields.{Style}
 use Rattle.fields.specs.Limits.{most-ports, most-decls, most-conns}
 use Rattle.fields.specs.Meant.{dimsIs, dirIs, kindIs}
 use Rattle.joblines.specs.Job.{Port, Decl, Conn, star, implicit, named, pos, Inst}

@@ -3,14 +3,14 @@
 -- Assumes nothing.
 use Prim.Native.Nat.{ℕ, _+_}
 use Prim.Native.String.{String}
-use mathlib.Core.Bool.{Bool, true, false, cond, not, _&&_, _||_}
+use mathlib.Core.Bool.{Bool, true, false, cond, not, _&&_}
 use mathlib.Core.List.{List, [], _∷_, _++_, map}
 use mathlib.Core.Option.{Option, none, some, Option·map}
 use lib.ListN.{length, take, drop, getD}
 use lib.Dec.{ltb, eqb}
 use Rattle.text.specs.Ascii.{Bytes, ascii, byte}
 use Rattle.text.specs.Compare.{same, startsWith}
-use Rattle.text.specs.Scan.{all, any, splitAt}
+use Rattle.text.specs.Scan.{any, splitAt}
 use Rattle.text.specs.Numbers.{isDecimal, valueFrom}
 use Rattle.fields.specs.Limits.{most-files, most-modules, most-ports, most-decls, most-insts, most-conns}
 use Rattle.fields.specs.Fields.{Dir, undirected, Style, ansi, nonansi, empty, Kind, isName, isPath, dimsOf, dirOf, kindOf, styleOf, isNet}

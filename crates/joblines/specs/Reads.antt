@@ -2,10 +2,9 @@
 -- Assumes nothing.
 use mathlib.Core.Path.{_≡_, refl, ap, _∙_, sym}
 use Prim.Native.Nat.{ℕ, _<_}
-use Prim.Native.String.{String}
 use native.Mathlib.Omega.{arith}
 use mathlib.Core.Bool.{Bool, true, false, cond, not, _&&_, and-false, and-true}
-use mathlib.Core.List.{List, [], _∷_, _++_, map}
+use mathlib.Core.List.{List, [], _∷_, _++_}
 use mathlib.Core.Option.{Option, none, some, Option·map}
 use lib.ListN.{length, take, drop}
 use lib.Dec.{ltb}
@@ -13,13 +12,12 @@ use borrow.Author.Tests.{ltb-true}
 use Rattle.text.specs.Ascii.{Bytes, ascii}
 use Rattle.text.specs.Compare.{same, startsWith}
 use Rattle.text.specs.Scan.{any}
-use Rattle.text.specs.Sames.{both, no-true, same-eq}
+use Rattle.text.specs.Sames.{same-eq}
 use Rattle.fields.specs.Fields.{Dir, Style, ansi, dirOf, dimsOf, isName, isPath}
-use Rattle.joblines.specs.Job.{File, Port, Decl, Conn, Inst, Module, Job}
-use Rattle.joblines.specs.Lines.{Checked, bad, good, check, andThen, Read, on, due-bytes, due-style, due-ports, due-decls, due-insts, when, keyed, fields, mayHave, asPort, portOf, portLine, declOf, declLine, asInst, instOf, instRead, connOf, connLine, fileRead, moduleRead, thisModule, thisInst, withModules, withInsts, onLast, lastOr, addPort, addDecl, addConn}
+use Rattle.joblines.specs.Job.{Port, Decl, Conn, Inst, Job}
+use Rattle.joblines.specs.Lines.{Checked, bad, good, check, andThen, on, due-ports, due-decls, due-insts, when, fields, mayHave, asPort, portOf, portLine, declOf, declLine, asInst, instOf, instRead, connOf, connLine, fileRead, moduleRead, thisModule, thisInst, withModules, withInsts, onLast, lastOr, addPort, addDecl, addConn}
 use Rattle.joblines.specs.Forms.{portRead, declRead, connRead, verdict}
-use Rattle.joblines.specs.Sections.{formed, portHere, declHere, instHere, connHere}
-use Rattle.joblines.specs.declared.Look.{Look}
+use Rattle.joblines.specs.Sections.{portHere, declHere, instHere, connHere}
 use Rattle.joblines.specs.declared.Look.the-variants as look
 
 -- ---- a line that is good: its key, its form, its limit, its newness

@@ -1,26 +1,23 @@
 -- Laws: a section, one line further. i is where a line begins, e its LF, as a scan of the section s finds them.
 -- Assumes nothing.
 use mathlib.Core.Path.{_≡_, refl, ap, _∙_, sym}
-use Prim.Native.Nat.{ℕ, zero, suc, _+_, _-_, _<_, _≤_}
-use native.Mathlib.Nat.{suc-add, add-zero}
+use Prim.Native.Nat.{ℕ, suc, _+_, _-_, _<_}
+use native.Mathlib.Nat.{suc-add}
 use native.Mathlib.Omega.{arith}
-use mathlib.Core.Bool.{Bool, true, false, cond, _&&_}
+use mathlib.Core.Bool.{Bool, true, false, cond}
 use mathlib.Core.List.{List, [], _∷_, _++_, append-assoc}
 use mathlib.Core.Option.{Option, none, some}
-use lib.ListN.{length, take, drop, getD, length-drop}
+use lib.ListN.{length, take, drop, length-drop}
 use lib.Dec.{ltb, eqb, leb·suc-suc}
 use lib.Seq.{drop-drop}
-use borrow.Author.Tests.{lt-ltb, ltb-true, ltb-false, eqb-true}
-use Rattle.text.specs.Ascii.{Bytes, ascii, byte}
-use Rattle.text.specs.Compare.{same, startsWith}
-use Rattle.text.specs.Scan.{before, upTo, splitAt}
-use Rattle.text.specs.Scans.{before-le}
-use Rattle.text.specs.Sames.{no-true, same-eq}
-use Rattle.fields.specs.Fields.{dimsOf, isName}
+use borrow.Author.Tests.{lt-ltb, ltb-false}
+use Rattle.text.specs.Ascii.{Bytes, byte}
+use Rattle.text.specs.Scan.{before, upTo}
+use Rattle.text.specs.Sames.{no-true}
 use Rattle.joblines.specs.Job.{Port, Decl, Conn, Inst}
-use Rattle.joblines.specs.Lines.{keyed, when, fields, portOf, declOf, asInst, instOf, connOf, onLast, lastOr, addConn}
+use Rattle.joblines.specs.Lines.{onLast, addConn}
 use Rattle.joblines.specs.Parse.{lineSize, hasLine, firstLine, behindLine}
-use Rattle.joblines.specs.Sections.{ontoFirst, linesIn, formed, portHere, declHere, instHere, connHere, withSome, gather, portsIn, declsIn, connsStep, connsOf, withConns, instsStep, instsOf, connsIn, instsIn}
+use Rattle.joblines.specs.Sections.{ontoFirst, linesIn, portHere, declHere, instHere, connHere, withSome, gather, portsIn, declsIn, connsStep, connsOf, withConns, instsStep, instsOf, connsIn, instsIn}
 
 -- ---- the first line
 pub lines-here : (s : Bytes) → hasLine s ≡ true → linesIn s ≡ firstLine s ∷ linesIn (behindLine s)

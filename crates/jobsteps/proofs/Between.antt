@@ -1,28 +1,26 @@
 -- Steps at lines that are looked at: `file=` and `module=`, between modules. l is the line that was lent, k what it was seen to be.
 -- Assumes nothing.
 use mathlib.Core.Path.{_≡_, refl, ap, _∙_, sym}
-use Prim.Native.Nat.{ℕ, _+_, _-_, _^_, _<_, _≤_}
+use Prim.Native.Nat.{ℕ, _+_, _-_}
 use native.Mathlib.Omega.{arith}
-use mathlib.Core.Bool.{Bool, true, false}
-use mathlib.Core.List.{List, [], _∷_, _++_, map}
+use mathlib.Core.List.{List, [], _∷_, map}
 use mathlib.Core.Option.{Option, none, some, Option·map}
 use lib.ListN.{length, take, drop, length-drop}
-use borrow.Author.Needs.{needs}
 use Rattle.text.specs.Ascii.{Bytes}
 use Rattle.joblines.specs.Job.{File, Module, Job}
-use Rattle.joblines.specs.Lines.{Checked, bad, good, andThen, Read, refuse, on, due-bytes, due-style, firstOf, fileRead, fileLine, moduleRead, moduleLine, endLine}
+use Rattle.joblines.specs.Lines.{Checked, bad, good, andThen, Read, refuse, on, due-bytes, due-style, firstOf, fileRead, fileLine, moduleRead, moduleLine}
 use Rattle.joblines.specs.Forms.{verdict}
 use Rattle.joblines.specs.Reads.{was-other, was-refused, was-good, file-taken, module-taken}
 use Rattle.joblines.specs.declared.Look.{Look}
 use Rattle.joblines.specs.declared.Look.the-variants as look
 use Rattle.jobindex.specs.declared.Header.{Header}
 use Rattle.jobindex.specs.declared.Open.{Open}
-use Rattle.jobindex.specs.Index.{index-size, bytesAt, section, pathAt, fileAt, nameAt, moduleRow, rows, jobOf}
-use Rattle.jobindex.specs.Rows.{rows-length, rows-map, rows-same}
+use Rattle.jobindex.specs.Index.{bytesAt, pathAt, fileAt, nameAt, moduleRow, rows, jobOf}
+use Rattle.jobindex.specs.Rows.{rows-length, rows-map}
 use Rattle.jobsteps.specs.declared.Due.the-variants as due
 use Rattle.jobsteps.specs.declared.Step.{Step}
 use Rattle.jobsteps.specs.declared.Step.the-variants as step
-use Rattle.jobsteps.specs.State.{lineOf, IsLine, Outside, BytesDue, StyleDue, Small, Asked, Alone, StandsOn, Stepped, meant, fileOn, moduleOn}
+use Rattle.jobsteps.specs.State.{lineOf, Outside, Asked, Stepped, fileOn, moduleOn}
 use Rattle.jobsteps.proofs.Cutting.{from-end, line-length, value-is}
 use Rattle.jobsteps.proofs.Heads.{refused-is, outside-on}
 

@@ -1,34 +1,31 @@
 -- Steps at `bytes=N`: the body behind it, and the file's row. l is the line that was lent, n the number that was read of it.
 -- Assumes nothing.
-use mathlib.Core.Path.{_≡_, refl, ap, _∙_, sym}
-use Prim.Native.Nat.{ℕ, _+_, _-_, _^_, _<_, _≤_}
+use mathlib.Core.Path.{_≡_, refl, _∙_, sym}
+use Prim.Native.Nat.{ℕ, _+_, _-_, _<_, _≤_}
 use native.Mathlib.Omega.{arith}
-use mathlib.Core.Bool.{Bool, true, false, not, cond, _&&_, and-false}
+use mathlib.Core.Bool.{Bool, true, false, cond, _&&_}
 use mathlib.Core.List.{List, [], _∷_, _++_}
-use mathlib.Core.Option.{Option, none, some}
 use lib.ListN.{length, take, drop, getD, length-drop}
-use lib.Dec.{leb, ltb, eqb}
+use lib.Dec.{leb}
 use lib.Seq.{drop-drop, getD-drop}
 use borrow.Author.Needs.{needs}
 use borrow.Author.Tests.{lt-ltb, le-ltb, eq-eqb, ne-eqb, leb-true, leb-false}
 use Rattle.text.specs.Ascii.{Bytes, ascii, byte}
 use Rattle.text.specs.Compare.{startsWith}
 use Rattle.text.specs.Numbers.{isDecimal, valueFrom, numberOf}
-use Rattle.text.specs.Sames.{both, no-true}
 use Rattle.text.specs.declared.number.Num.{Num}
 use Rattle.text.specs.declared.number.Num.the-variants.{Of, Bad}
-use Rattle.joblines.specs.Job.{File, Job}
+use Rattle.joblines.specs.Job.{Job}
 use Rattle.joblines.specs.Lines.{Read, refuse, on, due-more, orElse, when, checks, isBody, firstOf, bytesLine, withFiles}
 use Rattle.jobindex.specs.declared.Header.{Header}
 use Rattle.jobindex.specs.declared.Open.{Open}
-use Rattle.jobindex.specs.Index.{index-size, bytesAt, fileAt, moduleRow, rows, jobOf}
+use Rattle.jobindex.specs.Index.{bytesAt, jobOf}
 use Rattle.jobindex.specs.Stores.{withFile}
 use Rattle.jobindex.specs.Looks.{bytesOf}
 use Rattle.jobindex.specs.Rows.{files-put, file-modules, file-long, file-kept}
 use Rattle.jobsteps.specs.declared.Due.the-variants as due
-use Rattle.jobsteps.specs.declared.Step.{Step}
 use Rattle.jobsteps.specs.declared.Step.the-variants as step
-use Rattle.jobsteps.specs.State.{lineOf, Outside, BytesDue, Asked, Stepped}
+use Rattle.jobsteps.specs.State.{lineOf, BytesDue, Asked, Stepped}
 use Rattle.jobsteps.proofs.Cutting.{from-end}
 use Rattle.jobsteps.proofs.Heads.{refused-is}
 

@@ -1,15 +1,13 @@
 -- A line of the job: its value's place, and the section that it ends.
 -- Assumes nothing.
 use mathlib.Core.Path.{_≡_, refl, ap, _∙_, sym}
-use Prim.Native.Nat.{ℕ, zero, suc, _+_, _-_, _<_, _≤_}
-use native.Mathlib.Numerals.{add-one}
-use native.Mathlib.Nat.{zero-add, suc-add}
+use Prim.Native.Nat.{ℕ, suc, _+_, _-_, _<_, _≤_}
 use native.Mathlib.Omega.{arith}
 use mathlib.Core.Bool.{Bool, true, false, cond}
-use mathlib.Core.List.{List, [], _∷_, _++_, append-assoc}
-use lib.ListN.{length, take, drop, getD, length-take, length-drop}
-use lib.Dec.{ltb, eqb}
-use lib.Seq.{drop-drop, getD-drop, length-take-le, take-add, take-suc}
+use mathlib.Core.List.{[], _∷_, _++_}
+use lib.ListN.{length, take, drop, getD, length-drop}
+use lib.Dec.{eqb}
+use lib.Seq.{drop-drop, length-take-le, take-add, take-suc}
 use borrow.Author.Tests.{eqb-true}
 use Rattle.text.specs.Ascii.{Bytes, byte}
 use Rattle.text.specs.Scan.{before, upTo}

@@ -1,33 +1,30 @@
 -- Steps at lines that stand alone: `top=`, `override=`, `start=`, `style=`, `end=`. l is the line that was lent, v its value.
 -- Assumes nothing.
-use mathlib.Core.Path.{_≡_, refl, ap, _∙_, sym}
+use mathlib.Core.Path.{_≡_, refl, _∙_, sym}
 use Prim.Native.Nat.{ℕ, _+_, _-_, _<_, _≤_}
 use native.Mathlib.Omega.{arith}
 use mathlib.Core.Bool.{Bool, true, false, not, cond, _&&_}
-use mathlib.Core.List.{List, [], _∷_, _++_, map}
-use mathlib.Core.Option.{Option, none, some}
-use lib.ListN.{length, take, drop, length-drop}
+use mathlib.Core.List.{List, [], _∷_}
+use mathlib.Core.Option.{none, some}
+use lib.ListN.{length, take, drop}
 use lib.Dec.{eqb}
 use borrow.Author.Needs.{needs}
-use borrow.Author.Tests.{not-true, not-false, eq-eqb, ne-eqb, eqb-true, eqb-false}
+use borrow.Author.Tests.{not-true, not-false, ne-eqb, eqb-false}
 use Rattle.text.specs.Ascii.{Bytes, ascii}
 use Rattle.text.specs.Compare.{same, startsWith}
 use Rattle.text.specs.Sames.{both, no-true}
-use Rattle.fields.specs.Fields.{Style, ansi, nonansi, empty, isName, isPath, styleOf}
+use Rattle.fields.specs.Fields.{ansi, nonansi, empty, isName, isPath, styleOf}
 use Rattle.fields.specs.Meant.{styleMeant, styleAt}
-use Rattle.joblines.specs.Job.{Module, Job}
-use Rattle.joblines.specs.Lines.{Read, refuse, on, due-override, due-start, due-file, due-ports, due-nothing, when, keyed, checks, firstOf, topLine, overrideLine, startLine, styleLine, endLine, withModules}
+use Rattle.joblines.specs.Lines.{Read, refuse, on, due-override, due-file, when, checks, firstOf, topLine, overrideLine, startLine, styleLine, endLine}
 use Rattle.joblines.specs.Lines as Lines
 use Rattle.joblines.specs.Sections.{linesIn, gather, instsOf}
-use Rattle.joblines.specs.Scanned.{Whole}
 use Rattle.jobindex.specs.declared.Header.{Header}
 use Rattle.jobindex.specs.declared.Open.{Open}
-use Rattle.jobindex.specs.Index.{index-size, bytesAt, section, moduleOf, rows, jobOf}
+use Rattle.jobindex.specs.Index.{bytesAt, rows, jobOf}
 use Rattle.jobsteps.specs.declared.Due.the-variants as due
-use Rattle.jobsteps.specs.declared.Step.{Step}
 use Rattle.jobsteps.specs.declared.Step.the-variants as step
-use Rattle.jobsteps.specs.State.{lineOf, IsLine, Outside, StyleDue, PortsDue, Inside, Small, Alone, StandsOn, Stepped, openOf, jobIn, meant}
-use Rattle.jobsteps.proofs.Cutting.{from-end, line-length, value-is, section-none, section-whole}
+use Rattle.jobsteps.specs.State.{lineOf, IsLine, Outside, StyleDue, Inside, Alone, Stepped}
+use Rattle.jobsteps.proofs.Cutting.{from-end, value-is, section-none, section-whole}
 
 -- a line that is refused leaves all as it is
 pub refused-is : (job index : List ℕ) (from x : ℕ) (read : Read) → refuse x ≡ read → Stepped job index index from read (step.Refused x)

@@ -1,20 +1,17 @@
 -- Steps within a module: `port=`, `decl=`, `inst=`, `conn=`, and the module's end. l is the line that was lent, k what it was seen to be.
 -- Assumes nothing.
 use mathlib.Core.Path.{_≡_, refl, ap, _∙_, sym}
-use Prim.Native.Nat.{ℕ, zero, suc, _+_, _-_, _^_, _<_, _≤_}
-use native.Mathlib.Numerals.{add-one}
+use Prim.Native.Nat.{ℕ, suc, _+_, _-_, _^_, _<_, _≤_}
 use native.Mathlib.Omega.{arith}
-use mathlib.Core.Bool.{Bool, true, false}
 use mathlib.Core.List.{List, [], _∷_, _++_, map}
 use mathlib.Core.Option.{Option, none, some, Option·map}
 use lib.ListN.{length, take, drop, length-append, length-drop}
 use lib.Seq.{take-take, drop-drop}
-use borrow.Author.Needs.{needs}
 use Rattle.text.specs.Ascii.{Bytes}
 use Rattle.text.specs.Lists.{drop-take}
 use Rattle.fields.specs.Meant.{styleAt}
 use Rattle.joblines.specs.Job.{Port, Decl, Conn, Inst, Module, Job}
-use Rattle.joblines.specs.Lines.{Checked, bad, good, andThen, Read, refuse, on, due-ports, due-decls, due-insts, firstOf, portLine, declLine, instRead, instLine, connLine, moduleLine, endLine, withModules, withInsts, addPort, addDecl, addInst, addConn, onLast, lastOr, no-module, no-inst, thisModule, thisInst}
+use Rattle.joblines.specs.Lines.{Checked, bad, good, andThen, Read, on, due-ports, due-decls, due-insts, firstOf, portLine, declLine, instRead, instLine, connLine, moduleLine, endLine, withModules, withInsts, addPort, addDecl, addInst, addConn, onLast, lastOr, no-module, no-inst, thisInst}
 use Rattle.joblines.specs.Forms.{verdict, portRead, declRead, connRead}
 use Rattle.joblines.specs.Reads.{was-other, was-refused, was-good, port-line-is, decl-line-is, conn-line-is, port-taken, decl-taken, inst-taken, conn-taken, last-is, on-last}
 use Rattle.joblines.specs.Sections.{linesIn, gather, portHere, declHere, instHere, connHere, portsIn, declsIn, instsOf, instsIn, withConns}
@@ -25,14 +22,14 @@ use Rattle.jobindex.specs.declared.Header.{Header}
 use Rattle.jobindex.specs.declared.Open.{Open}
 use Rattle.jobindex.specs.declared.look.InstLook.{InstLook}
 use Rattle.jobindex.specs.declared.look.InstLook.the-variants as looked
-use Rattle.jobindex.specs.Index.{index-size, bytesAt, section, fileAt, moduleRow, instAt, rows, jobOf}
+use Rattle.jobindex.specs.Index.{bytesAt, section, moduleRow, instAt, rows, jobOf}
 use Rattle.jobindex.specs.Stores.{withModule, withName, Fits}
-use Rattle.jobindex.specs.Looks.{nameOf, instSaid, InstSeen}
+use Rattle.jobindex.specs.Looks.{nameOf, InstSeen}
 use Rattle.jobindex.specs.Rows.{rows-length, names-put, name-files, name-modules, name-long, name-kept, modules-put, module-files, module-long, module-kept}
 use Rattle.jobsteps.specs.declared.Step.{Step}
 use Rattle.jobsteps.specs.declared.Step.the-variants as step
-use Rattle.jobsteps.specs.State.{lineOf, IsLine, Outside, Inside, Small, PortsDue, DeclsDue, InstsDue, Asked, Stepped, openOf, jobIn, portMore, declMore, instMore, connMore, portOn, declOn, instOn, connOn}
-use Rattle.jobsteps.proofs.Cutting.{from-end, line-length, value-is, section-none, section-whole, lines-grow, whole-grow}
+use Rattle.jobsteps.specs.State.{lineOf, Outside, Inside, PortsDue, DeclsDue, InstsDue, Asked, Stepped, openOf, jobIn, portMore, declMore, instMore, connMore, portOn, declOn, instOn, connOn}
+use Rattle.jobsteps.proofs.Cutting.{from-end, line-length, section-none, section-whole, lines-grow, whole-grow}
 use Rattle.jobsteps.proofs.Heads.{refused-is}
 use Rattle.jobsteps.proofs.Between.{kind-other, kind-refused, kind-good, stepped-else}
 

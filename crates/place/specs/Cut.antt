@@ -2,7 +2,6 @@
 -- Assumes nothing.
 use Prim.Native.Nat.{ℕ, _+_, _≤_, _<_, _^_}
 use mathlib.Core.Bool.{cond}
-use mathlib.Core.List.{List}
 use lib.ListN.{length, drop}
 use lib.Dec.{ltb}
 use Rattle.text.specs.Ascii.{Bytes, byte}

@@ -1,6 +1,6 @@
 -- `fields::is_name` meets its contract. The loop's invariant: w is a NAME when the bytes from i on are bytes of a NAME.
 -- Assumes nothing.
-use Prim.Native.Nat.{_+_, _≤_, _-_}
+use Prim.Native.Nat.{_≤_, _-_}
 use mathlib.Core.Path.{_≡_}
 use lib.ListN.{length, drop}
 use Rattle.text.specs.Classes.{inName}

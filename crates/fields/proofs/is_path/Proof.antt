@@ -1,6 +1,6 @@
 -- `fields::is_path` meets its contract. The loop's invariant: w is a PATH when what stands from i on is one.
 -- Assumes nothing.
-use Prim.Native.Nat.{_+_, _≤_, _-_}
+use Prim.Native.Nat.{_≤_, _-_}
 use mathlib.Core.Path.{_≡_}
 use lib.ListN.{length, drop}
 use Rattle.fields.specs.Fields.{isPath}

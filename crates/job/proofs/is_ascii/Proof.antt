@@ -1,6 +1,6 @@
 -- `job::is_ascii` meets its contract. The loop's invariant: every byte is below 128 when those from i on are.
 -- Assumes nothing.
-use Prim.Native.Nat.{_+_, _≤_, _-_}
+use Prim.Native.Nat.{_≤_, _-_}
 use mathlib.Core.Path.{_≡_}
 use lib.ListN.{length, drop}
 use borrow.Author.Needs.{needs}

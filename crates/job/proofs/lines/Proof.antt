@@ -1,8 +1,7 @@
 -- `job::lines` meets its contract. The loop's invariant, `Going`: what is left of the job is read to what the whole job is read to.
 -- Assumes nothing.
-use Prim.Native.Nat.{_+_, _≤_, _-_}
-use mathlib.Core.Path.{_≡_}
-use lib.ListN.{length, drop}
+use Prim.Native.Nat.{_-_}
+use lib.ListN.{length}
 use borrow.Author.Needs.{needs}
 use Rattle.job.proofs.Going.{Going, going-first, going-in, going-ends, going-asks, going-refused, going-less, going-on}
 use Rattle.job.proofs.lines.Statement.{statement}

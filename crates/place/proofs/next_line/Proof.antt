@@ -23,7 +23,7 @@ use types.Run.{look, init, store, forget, stop, hop, fld, from, load, of-opd, an
 use types.Part.{whole, sub, look-in}
 use types.SemTy.{Body}
 use sound.WpLaws.{FmC, fmOf, WpFn-mono}
-use denote.RattleType.{RattleType, owns}
+use denote.RattleType.{owns}
 use denote.Memory.{mem, cellAt}
 use denote.Laws.{Is, shows}
 use denote.Builtin.{u8}

@@ -1,0 +1,5 @@
+pub mod Headers
+pub mod Bodies
+pub mod Fresh
+pub mod Cursors
+pub mod Starts
