@@ -1,0 +1,13 @@
+pub mod Strings
+pub mod View
+pub mod Order
+pub mod Added
+pub mod Rows
+pub mod Tables
+pub mod Frame
+pub mod Steps
+pub mod Fits
+pub mod First
+pub mod Rowed
+pub mod Variables
+pub mod Start
