@@ -1,0 +1,27 @@
+-- `records::domain::create_power_domain` meets its contract. Assumes nothing.
+use mathlib.Core.List.{_++_}
+use borrow.Author.Needs.{needs}
+use Rattle.records.specs.Domains.{domain-full, domain-fine}
+use Rattle.records.proofs.domain.create_power_domain.Statement.{statement}
+use Rattle.records.proofs.domain.create_power_domain.Tie as tie
+
+returns : tie.Need-returns
+returns c st log v =
+    let a = c .before .before .before .before .before .before .args in
+    domain-full (a .files .now ++ a .area .now) (a .words .now) (a .n) st log (a .s) v (c .full .result) (c .before .if1 .taken) (c .full .ensures)
+
+returns-2 : tie.Need-returns-2
+returns-2 c st log v =
+    let a = c .before .before .before .before .before .before .before .before .before .before .args in
+    domain-fine (a .files .now ++ a .area .now) (a .words .now) (a .n) st log (a .s) v (c .before .before .domain .result) (c .before .add-domain .result) (c .fine .result) (c .before .before .before .before .before .if1 .left) (c .before .before .domain .ensures) (c .before .add-domain .ensures) (c .fine .ensures)
+
+pub create-power-domain-spec : {M : Type 1} → statement M
+create-power-domain-spec =
+    tie.close
+    (tie.spec
+    (λ c κs. search needs)  -- full-requires
+    returns
+    (λ c κs. search needs)  -- domain-requires
+    (λ c κs. search needs)  -- add-domain-requires
+    (λ c κs. search needs)  -- fine-requires
+    returns-2)

@@ -1,0 +1,4 @@
+pub mod Made
+pub mod Dids
+pub mod Asked
+pub mod Domains
