@@ -1,4 +1,0 @@
-pub mod Made
-pub mod Dids
-pub mod Asked
-pub mod Domains
