@@ -227,3 +227,56 @@ fn retention_of(r: Retention) -> records::Retention {
 fn table_of(p: Pst) -> records::Table {
     records::Table { name: p.name, supplies: p.supplies, states: p.states }
 }
+
+/// The reference's questions about the modules of a design, one by one.
+pub struct Asked<'a> {
+    design: Design<'a>,
+    modules: &'a [ModuleDeclaration],
+}
+
+impl<'a> Asked<'a> {
+    pub fn new(modules: &'a [ModuleDeclaration]) -> Asked<'a> {
+        let design = Design { modules: modules.iter().map(|m| (m.name.name.clone(), m)).collect() };
+        Asked { design: design, modules: modules }
+    }
+
+    /// The number of a module from 1, 0 for none.
+    fn number(&self, m: Option<&'a ModuleDeclaration>) -> usize {
+        m.map_or(0, |m| 1 + self.modules.iter().position(|x| x.name.name == m.name.name).unwrap())
+    }
+
+    pub fn at(&self, from: usize, path: &[String]) -> usize {
+        self.number(self.design.module_at(&self.modules[from], path))
+    }
+
+    pub fn typed(&self, from: usize, target: &str) -> Option<Vec<String>> {
+        self.design.find_by_type(&self.modules[from], target, 0)
+    }
+
+    pub fn outputs(&self, m: usize) -> Vec<String> {
+        Design::output_ports(&self.modules[m])
+    }
+
+    pub fn inputs(&self, m: usize) -> Vec<String> {
+        Design::input_ports(&self.modules[m])
+    }
+
+    /// The names that the module itself loses.
+    pub fn losable(&self, m: usize) -> Vec<String> {
+        let mut out = Vec::new();
+        self.design.corruptible(&self.modules[m], "", &[], &mut out, 32);
+        out
+    }
+
+    /// The net at the port of an instance.
+    pub fn actual(&self, m: usize, inst: usize, sub: usize, port: &str) -> Option<String> {
+        let all = Design::instances(&self.modules[m]);
+        Design::output_actual(&self.modules[m], all[inst].2, &self.modules[sub], port)
+    }
+
+    pub fn scope_parts(&self, over: &str, top: &str) -> Vec<String> {
+        let parts = nonempty(over, &['/', '.']);
+        let skip = (parts.first().map(|p| p == top) == Some(true)) as usize;
+        parts[skip..].to_vec()
+    }
+}
