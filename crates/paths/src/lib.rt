@@ -1,5 +1,4 @@
-// The paths that a walk lists. A path is in pieces: an element, a stored name with `/` as `.`; the instance names below it, in a lent tail, with
-// a dot behind each piece that is not empty; and a name of the job. The listed ones stand one behind the other in a lent text, with their ends.
+// The path of what a walk comes to, in pieces that are nowhere joined: an element, a stored name with `/` as `.`; a tail of bytes, the instance names below it
+// with a dot behind each piece; and a name.
 pub mod entry;
-pub mod list;
 pub mod path;

@@ -1,4 +1,11 @@
 // One path, in its pieces: compared and written.
+ghost use mathlib.Core.Path.{_≡_};
+ghost use mathlib.Core.List.{_++_};
+ghost use Rattle.text.specs.Compare.{same as Compare·same};
+ghost use Rattle.names.specs.Name.{nameOf};
+ghost use Rattle.design.specs.Paths.{dotted};
+ghost use Rattle.out.specs.Emit.{_▸_, emit};
+ghost use Rattle.paths.specs.Pieces.{Sized};
 use names::name::Name;
 use text::compare::same;
 use text::part::part;
@@ -13,6 +20,8 @@ pub fn is_path(
     name: &[u8],
     row: &[u8],
 ) -> bool
+    requires { ⌜ Sized (now files ++ now area) e elen (now tail) (now name) ⌝ }
+    ensures { λ r. ⌜ r ≡ Compare·same (dotted (nameOf (now (files .entry) ++ now (area .entry)) e) ++ (now (tail .entry) ++ now (name .entry))) (now (row .entry)) ⌝ }
 {
     let at = elen + tail.len();
     if row.len() != at + name.len() {
@@ -37,6 +46,7 @@ pub fn put_path(
     tail: &[u8],
     name: &[u8],
 ) -> usize
+    ensures { λ r. ⌜ now (text .exit) ▸ r ≡ emit (now (text .entry) ▸ at) (dotted (nameOf (now (files .entry) ++ now (area .entry)) e) ++ (now (tail .entry) ++ now (name .entry))) ⌝ }
 {
     let o = names::put::put_dotted(text, at, files, area, e);
     let p = out::emit::put(text, o, tail);
