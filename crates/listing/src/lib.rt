@@ -1,41 +1,55 @@
-// The list of paths, grown by a path that it does not have yet, within its limits.
-use super::path::is_path;
-use super::path::put_path;
+// The paths that a walk lists: one behind the other in a lent text, with their ends in lent numbers. A path is added where the list does not have it yet,
+// within the limits of a domain's walk.
+ghost use mathlib.Core.Path.{_≡_};
+ghost use mathlib.Core.List.{[], _++_};
+ghost use Prim.Native.Nat.{_≤_};
+ghost use lib.ListN.{length};
+ghost use Rattle.names.specs.Name.{nameOf};
+ghost use Rattle.design.specs.Lists.{isIn, addNew};
+ghost use Rattle.design.specs.Paths.{dotted};
+ghost use Rattle.paths.specs.Pieces.{Sized};
+ghost use Rattle.listing.specs.Listing.{pathsOf, nowhere, past, Ready, Answer};
 use names::name::Name;
 use text::part::part;
 use text::part::place;
 
-// How far a walk has come: whether it passed a limit; else the modules entered, the number of its paths, and where the last one ends.
+// How far a walk has come: whether it passed a limit; else the modules entered, the number of its paths, where the last one ends, and the bytes
+// of all with what the scope's path adds to each.
 pub struct Walk {
     pub over: bool,
     pub entered: usize,
     pub count: usize,
     pub end: usize,
+    pub used: usize,
 }
 
 // Before the first module.
 pub fn start() -> Walk
+    ensures { λ r. ⌜ r ≡ nowhere ⌝ }
 {
     Walk {
         over: false,
         entered: 0,
         count: 0,
         end: 0,
+        used: 0,
     }
 }
 
 // Past a limit.
 pub fn refused() -> Walk
+    ensures { λ r. ⌜ r ≡ past ⌝ }
 {
     Walk {
         over: true,
         entered: 0,
         count: 0,
         end: 0,
+        used: 0,
     }
 }
 
-// Whether a path is one of the first `count` paths of the list.
+// Whether a path is one of the first `count` of the list.
 fn listed(
     files: &[u8],
     area: &[u8],
@@ -47,13 +61,15 @@ fn listed(
     ends: &[u32],
     count: usize,
 ) -> bool
+    requires { ⌜ Sized (now files ++ now area) e elen (now tail) (now name) × (count ≤ length (now ends)) ⌝ }
+    ensures { λ r. ⌜ r ≡ isIn (dotted (nameOf (now (files .entry) ++ now (area .entry)) e) ++ (now (tail .entry) ++ now (name .entry))) (pathsOf (now (text .entry)) (now (ends .entry)) count) ⌝ }
 {
     let mut k = 0;
     let mut at = 0;
     while k < count {
         let end = place(ends, k);
         let row = part(text, at, spans::span::minus(end, at));
-        if is_path(files, area, e, elen, tail, name, row) {
+        if paths::path::is_path(files, area, e, elen, tail, name, row) {
             return true;
         }
         at = end;
@@ -75,6 +91,8 @@ pub fn add(
     ends: &mut [u32],
     s: Walk,
 ) -> Walk
+    requires { ⌜ Sized (now files ++ now area) e elen (now tail) (now name) × Ready prefix s (now text) (now ends) ⌝ }
+    ensures { λ r. ⌜ Answer prefix (s .entered) (addNew (pathsOf (now (text .entry)) (now (ends .entry)) (s .count)) (dotted (nameOf (now (files .entry) ++ now (area .entry)) e) ++ (now (tail .entry) ++ now (name .entry)))) r (now (text .exit)) (now (ends .exit)) ⌝ }
 {
     let count = s.count;
     if listed(files, area, e, elen, tail, name, text, ends, count) {
@@ -83,16 +101,20 @@ pub fn add(
     if count == 1024 {
         return refused();
     }
-    let end = s.end + (elen + (tail.len() + name.len()));
-    if 32768 < end + (count + 1) * prefix {
+    let len = elen + (tail.len() + name.len());
+    let used = s.used + (prefix + len);
+    if 32768 < used {
         return refused();
     }
-    put_path(text, s.end, files, area, e, tail, name);
+    let from = s.end;
+    let end = from + len;
+    paths::path::put_path(text, from, files, area, e, tail, name);
     ends[count] = end as u32;
     Walk {
         over: false,
         entered: s.entered,
         count: count + 1,
         end,
+        used,
     }
 }
