@@ -319,8 +319,8 @@ module _ (job : Bytes) (index : List ℕ) (count k left : ℕ) (mem : Bytes) (n 
               round-on o h =
                   record {
                     turn = turn-next prefix total all w text ends (sumOver (visitsBy d R (left - 1) child) (instsIn (section job at end))) (flatMap (listsBy d R (left - 1) child) (instsIn (section job at end))) (inv .turn)
-                    (visitsBy d R (left - 1) child this) (sumOver (visitsBy d R (left - 1) child) (instsIn (section job next end))) (listsBy d R (left - 1) child this) (flatMap (listsBy d R (left - 1) child) (instsIn (section job next end)))
-                    visits-left lists-left w′ text′ ends′ answer-is o;
+                        (visitsBy d R (left - 1) child this) (sumOver (visitsBy d R (left - 1) child) (instsIn (section job next end))) (listsBy d R (left - 1) child this) (flatMap (listsBy d R (left - 1) child) (instsIn (section job next end)))
+                        visits-left lists-left w′ text′ ends′ answer-is o;
                     front = round-front;
                     long = omega (arith, h, inv .long);
                     given = inv .given;

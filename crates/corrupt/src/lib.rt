@@ -120,11 +120,33 @@ fn corruptible(
     requires { ⌜ Given (now job) (now index) count k left (now files ++ now area) n e elen t × ((2081 ≤ length (now tail)) × Ready prefix s (now text) (now ends)) ⌝ }
     ensures { λ r. ⌜ Walked (now (job .entry)) (now (index .entry)) count k left (now (files .entry) ++ now (area .entry)) (entriesBelow below (tableNames (now (files .entry) ++ now (area .entry)) (now (retained .entry)) n)) e (now (tail .entry)) (now (tail .exit)) t prefix (s .entered) (pathsOf (now (text .entry)) (now (ends .entry)) (s .count)) r (now (text .exit)) (now (ends .exit)) ⌝ }
 {
-    if paths::entry::retained(files, area, retained, n, below, e, elen, text::part::part(tail, 0, t)) {
+    if paths::entry::retained(
+        files,
+        area,
+        retained,
+        n,
+        below,
+        e,
+        elen,
+        text::part::part(tail, 0, t),
+    ) {
         return s;
     }
     let u = stem(tail, elen, t);
-    let mut w = own(job, index, k, files, area, e, elen, text::part::part(tail, 0, u), prefix, text, ends, s);
+    let mut w = own(
+        job,
+        index,
+        k,
+        files,
+        area,
+        e,
+        elen,
+        text::part::part(tail, 0, u),
+        prefix,
+        text,
+        ends,
+        s,
+    );
     let full = w.over;
     if full {
         return w;
@@ -151,7 +173,26 @@ fn corruptible(
             continue;
         }
         let v = out::emit::put(tail, u, lines::part_of(job, name));
-        w = corruptible(job, index, count, row - 1, left - 1, files, area, retained, n, below, e, elen, tail, v, prefix, text, ends, w);
+        w = corruptible(
+            job,
+            index,
+            count,
+            row - 1,
+            left - 1,
+            files,
+            area,
+            retained,
+            n,
+            below,
+            e,
+            elen,
+            tail,
+            v,
+            prefix,
+            text,
+            ends,
+            w,
+        );
         let over = w.over;
         if over {
             return w;
@@ -192,7 +233,26 @@ pub fn domain_paths(
             continue;
         }
         let elen = paths::entry::size(files, area, e);
-        w = corruptible(job, index, count, row - 1, 32, files, area, retained, n, below, e, elen, tail, 0, prefix, text, ends, w);
+        w = corruptible(
+            job,
+            index,
+            count,
+            row - 1,
+            32,
+            files,
+            area,
+            retained,
+            n,
+            below,
+            e,
+            elen,
+            tail,
+            0,
+            prefix,
+            text,
+            ends,
+            w,
+        );
         let over = w.over;
         if over {
             return w;
