@@ -17,12 +17,13 @@ use upf_rs::upf::Asked;
 
 #[link(name = "walkc", kind = "static")]
 extern "C" {
-    fn walkc_index(job: *const u8, n: usize, index: *mut u32, m: usize) -> u64;
+    fn walkc_index(job: *const u8, n: usize, index: *mut u32, m: usize) -> usize;
     fn walkc_put(table: *mut u32, n: usize, k: usize, sat: usize, slen: usize, sep: bool, wat: usize, wlen: usize, form: u8);
     fn walkc_paths(
         job: *const u8, jn: usize, index: *const u32, im: usize, count: usize, k: usize, files: *const u8, fl: usize, area: *const u8, al: usize, retained: *const u32, rl: usize, n: usize,
-        below: bool, elements: *const u32, el: usize, m: usize, prefix: usize, tail: *mut u8, tl: usize, text: *mut u8, xl: usize, ends: *mut u32, nl: usize,
-    ) -> u64;
+        below: bool, elements: *const u32, el: usize, m: usize, prefix: usize, tail: *mut u8, tl: usize, text: *mut u8, xl: usize, ends: *mut u32, nl: usize, entered: *mut usize,
+        paths: *mut usize, end: *mut usize, used: *mut usize,
+    ) -> bool;
 }
 
 /// Strings stored in the files and the area, in every form that a name has.
@@ -106,19 +107,19 @@ impl Question<'_> {
         let mut tail = vec![0xAAu8; 2081];
         let mut text = vec![0xAAu8; 32768];
         let mut ends = vec![0xAAAA_AAAAu32; 1024];
+        let (mut entered, mut n, mut end, mut used) = (0, 0, 0, 0);
         let then = Instant::now();
-        let told = unsafe {
+        let over = unsafe {
             walkc_paths(
                 self.job.as_ptr(), self.job.len(), self.index.as_ptr(), self.index.len(), self.count, self.base, st.files.as_ptr(), st.files.len(), st.area.as_ptr(), st.area.len(),
                 rs.as_ptr(), rs.len(), self.retained.len(), !self.scope.is_empty(), es.as_ptr(), es.len(), self.elements.len(), prefix, tail.as_mut_ptr(), tail.len(),
-                text.as_mut_ptr(), text.len(), ends.as_mut_ptr(), ends.len(),
+                text.as_mut_ptr(), text.len(), ends.as_mut_ptr(), ends.len(), &mut entered, &mut n, &mut end, &mut used,
             )
         };
         let took = then.elapsed().as_nanos();
-        if told >> 63 != 0 {
+        if over {
             return (Came::Over, took);
         }
-        let (entered, n) = ((told >> 32) as usize, (told & 0xFFFF_FFFF) as usize);
         let mut at = 0;
         let mut out = Vec::new();
         for k in 0..n {
@@ -126,7 +127,7 @@ impl Question<'_> {
             out.push(if self.scope.is_empty() { p } else { format!("{front}.{p}") });
             at = ends[k] as usize;
         }
-        assert!(text[at..].iter().all(|&b| b == 0xAA) && ends[n..].iter().all(|&e| e == 0xAAAA_AAAA));
+        assert!(at == end && used == end + n * prefix && text[at..].iter().all(|&b| b == 0xAA) && ends[n..].iter().all(|&e| e == 0xAAAA_AAAA));
         (Came::To(entered, out), took)
     }
 
@@ -200,7 +201,7 @@ fn see(t: &mut Tally, r: &mut Rng, bytes: &[u8], rounds: usize) {
     let told = unsafe { walkc_index(bytes.as_ptr(), bytes.len(), index.as_mut_ptr(), index.len()) };
     t.trees += 1;
     let top = j.modules.iter().position(|m| m.name == j.top).unwrap();
-    if told != ((j.modules.len() as u64) << 32) + top as u64 + 1 {
+    if told != j.modules.len() {
         t.wrong += 1;
         return;
     }
