@@ -18,11 +18,46 @@ use upf_rs::upf::Asked;
 #[link(name = "walkc", kind = "static")]
 extern "C" {
     fn walkc_index(job: *const u8, n: usize, index: *mut u32, m: usize) -> usize;
-    fn walkc_put(table: *mut u32, n: usize, k: usize, sat: usize, slen: usize, sep: bool, wat: usize, wlen: usize, form: u8);
+    fn walkc_put(
+        table: *mut u32,
+        n: usize,
+        k: usize,
+        sat: usize,
+        slen: usize,
+        sep: bool,
+        wat: usize,
+        wlen: usize,
+        form: u8,
+    );
     fn walkc_paths(
-        job: *const u8, jn: usize, index: *const u32, im: usize, count: usize, k: usize, files: *const u8, fl: usize, area: *const u8, al: usize, retained: *const u32, rl: usize, n: usize,
-        below: bool, elements: *const u32, el: usize, m: usize, prefix: usize, tail: *mut u8, tl: usize, text: *mut u8, xl: usize, ends: *mut u32, nl: usize, entered: *mut usize,
-        paths: *mut usize, end: *mut usize, used: *mut usize,
+        job: *const u8,
+        jn: usize,
+        index: *const u32,
+        im: usize,
+        count: usize,
+        k: usize,
+        files: *const u8,
+        fl: usize,
+        area: *const u8,
+        al: usize,
+        retained: *const u32,
+        rl: usize,
+        n: usize,
+        below: bool,
+        elements: *const u32,
+        el: usize,
+        m: usize,
+        prefix: usize,
+        tail: *mut u8,
+        tl: usize,
+        text: *mut u8,
+        xl: usize,
+        ends: *mut u32,
+        nl: usize,
+        entered: *mut usize,
+        paths: *mut usize,
+        end: *mut usize,
+        used: *mut usize,
     ) -> bool;
 }
 
@@ -111,9 +146,34 @@ impl Question<'_> {
         let then = Instant::now();
         let over = unsafe {
             walkc_paths(
-                self.job.as_ptr(), self.job.len(), self.index.as_ptr(), self.index.len(), self.count, self.base, st.files.as_ptr(), st.files.len(), st.area.as_ptr(), st.area.len(),
-                rs.as_ptr(), rs.len(), self.retained.len(), !self.scope.is_empty(), es.as_ptr(), es.len(), self.elements.len(), prefix, tail.as_mut_ptr(), tail.len(),
-                text.as_mut_ptr(), text.len(), ends.as_mut_ptr(), ends.len(), &mut entered, &mut n, &mut end, &mut used,
+                self.job.as_ptr(),
+                self.job.len(),
+                self.index.as_ptr(),
+                self.index.len(),
+                self.count,
+                self.base,
+                st.files.as_ptr(),
+                st.files.len(),
+                st.area.as_ptr(),
+                st.area.len(),
+                rs.as_ptr(),
+                rs.len(),
+                self.retained.len(),
+                !self.scope.is_empty(),
+                es.as_ptr(),
+                es.len(),
+                self.elements.len(),
+                prefix,
+                tail.as_mut_ptr(),
+                tail.len(),
+                text.as_mut_ptr(),
+                text.len(),
+                ends.as_mut_ptr(),
+                ends.len(),
+                &mut entered,
+                &mut n,
+                &mut end,
+                &mut used,
             )
         };
         let took = then.elapsed().as_nanos();
@@ -127,14 +187,21 @@ impl Question<'_> {
             out.push(if self.scope.is_empty() { p } else { format!("{front}.{p}") });
             at = ends[k] as usize;
         }
-        assert!(at == end && used == end + n * prefix && text[at..].iter().all(|&b| b == 0xAA) && ends[n..].iter().all(|&e| e == 0xAAAA_AAAA));
+        assert!(
+            at == end
+                && used == end + n * prefix
+                && text[at..].iter().all(|&b| b == 0xAA)
+                && ends[n..].iter().all(|&e| e == 0xAAAA_AAAA)
+        );
         (Came::To(entered, out), took)
     }
 
     /// By the separate walk for the limits and by the reference for the paths; and the time of the latter.
     fn due(&self, j: &job::Job, asked: &Asked) -> (Came, u128) {
         let d = design::Design::new(j);
-        let dotted = |e: &String| self.scope.iter().cloned().chain([e.replace('/', ".")]).collect::<Vec<_>>().join(".");
+        let dotted = |e: &String| {
+            self.scope.iter().cloned().chain([e.replace('/', ".")]).collect::<Vec<_>>().join(".")
+        };
         let skip: HashSet<String> = self.retained.iter().map(dotted).collect();
         let mut w = design::Walk::new(&d, &skip);
         for e in self.elements {
@@ -207,10 +274,10 @@ fn see(t: &mut Tally, r: &mut Rng, bytes: &[u8], rounds: usize) {
     }
     let tree = convert::tree(&j);
     let asked = Asked::new(&tree);
-    for _ in 0..rounds {
+    for round in 0..rounds {
         let mut scope: Vec<String> = Vec::new();
         let mut base = top;
-        while r.chance(1, 3) {
+        while round > 0 && r.chance(1, 3) {
             let m = &j.modules[base];
             if m.insts.is_empty() {
                 break;
@@ -221,9 +288,22 @@ fn see(t: &mut Tally, r: &mut Rng, bytes: &[u8], rounds: usize) {
             base = s;
         }
         let ways = ways(&j, base, 40);
-        let elements: Vec<String> = (0..r.below(6)).map(|_| some(r, &ways)).collect();
-        let retained: Vec<String> = (0..r.below(5)).map(|_| some(r, &ways)).collect();
-        let q = Question { job: bytes, index: &index, count: j.modules.len(), base, scope: &scope, elements: &elements, retained: &retained };
+        // First the top alone with nothing retained: all of the tree.
+        let (m, n) = if round == 0 { (0, 0) } else { (r.below(6), r.below(5)) };
+        let mut elements: Vec<String> = (0..m).map(|_| some(r, &ways)).collect();
+        let retained: Vec<String> = (0..n).map(|_| some(r, &ways)).collect();
+        if round == 0 {
+            elements.push(String::new());
+        }
+        let q = Question {
+            job: bytes,
+            index: &index,
+            count: j.modules.len(),
+            base,
+            scope: &scope,
+            elements: &elements,
+            retained: &retained,
+        };
         let (ours, due) = (q.ours(r).0, q.due(&j, &asked).0);
         t.walks += 1;
         match &due {
@@ -233,7 +313,10 @@ fn see(t: &mut Tally, r: &mut Rng, bytes: &[u8], rounds: usize) {
         if ours != due {
             t.wrong += 1;
             if t.wrong <= 5 {
-                println!("{ours:?}\nand not\n{due:?}\nat {scope:?} {elements:?} but {retained:?} of\n{}", String::from_utf8_lossy(bytes));
+                println!(
+                    "{ours:?}\nand not\n{due:?}\nat {scope:?} {elements:?} but {retained:?} of\n{}",
+                    String::from_utf8_lossy(bytes)
+                );
             }
         }
     }
@@ -260,23 +343,24 @@ fn limits() -> Vec<Vec<u8>> {
     let mut out = Vec::new();
     for extra in 0..2 {
         out.push(job_of(&(module("top", extra, &u(8, "a")) + &module("a", 128, &[]))));
-        let mut b = u(63, "leaf");
-        b.truncate(62 + extra);
-        out.push(job_of(&(module("top", 0, &[u(63, "a"), vec![("v".into(), "b".into())]].concat()) + &module("a", 0, &u(63, "leaf")) + &module("b", 0, &b) + &module("leaf", 0, &[]))));
-        let long = |n: usize| "x".repeat(n);
-        let mods = format!("module=top\nstyle=empty\ninst=0 {} a\nmodule=a\nstyle=empty\n", long(64)) + &(0..512).map(|_| String::new()).collect::<String>();
-        let mut names = String::new();
-        for k in 0..128 {
-            names += &format!("decl=net 0 {}{:03}\n", long(58), k);
-        }
-        let four = format!("module=top\nstyle=empty\n{}", (0..2).map(|k| format!("inst=0 {}{k} a\n", long(63))).collect::<String>());
-        out.push(job_of(&(mods + &names)));
-        out.push(job_of(&(four + &format!("{}module=a\nstyle=empty\n{names}{}", "decl=net 0 e\n".repeat(0), if extra == 1 { "inst=0 i b\nmodule=b\nstyle=empty\ndecl=net 0 w\n" } else { "" }))));
+
+        let top = [u(63, "a"), vec![("v".into(), "b".into())]].concat();
+        let below = module("a", 0, &u(63, "leaf")) + &module("b", 0, &u(62 + extra, "leaf"));
+        out.push(job_of(&(module("top", 0, &top) + &below + &module("leaf", 0, &[]))));
+
+        // 2 * 128 paths of 64 + 1 + 63 bytes
+        let two: Vec<_> = (0..2).map(|k| (format!("{}{k}", "x".repeat(63)), "a".to_string())).collect();
+        let names: String = (0..128).map(|k| format!("decl=net 0 {}{k:03}\n", "y".repeat(60))).collect();
+        out.push(job_of(&(module("top", extra, &two) + &module("a", 0, &[]) + &names)));
     }
     for n in 31..35 {
         let mut t = module("top", 1, &[("u".into(), "c1".into())]);
         for k in 1..=n {
-            t += &module(&format!("c{k}"), 1, &if k < n { vec![("u".into(), format!("c{}", k + 1))] } else { vec![] });
+            t += &module(
+                &format!("c{k}"),
+                1,
+                &if k < n { vec![("u".into(), format!("c{}", k + 1))] } else { vec![] },
+            );
         }
         out.push(job_of(&t));
     }
@@ -289,7 +373,11 @@ fn speed() {
     let wide = job_of(&(module("top", 0, &u(40, "a")) + &module("a", 25, &[])));
     let mut deep = module("top", 31, &[("u".into(), "c1".into())]);
     for k in 1..32 {
-        deep += &module(&format!("c{k}"), if k < 31 { 31 } else { 8 }, &if k < 31 { vec![("u".into(), format!("c{}", k + 1))] } else { vec![] });
+        deep += &module(
+            &format!("c{k}"),
+            if k < 31 { 31 } else { 8 },
+            &if k < 31 { vec![("u".into(), format!("c{}", k + 1))] } else { vec![] },
+        );
     }
     for (name, bytes) in [("wide", wide), ("deep", job_of(&deep))] {
         let j = job::parse(&bytes).unwrap();
@@ -297,7 +385,15 @@ fn speed() {
         unsafe { walkc_index(bytes.as_ptr(), bytes.len(), index.as_mut_ptr(), index.len()) };
         let tree = convert::tree(&j);
         let asked = Asked::new(&tree);
-        let q = Question { job: &bytes, index: &index, count: j.modules.len(), base: 0, scope: &[], elements: &[String::new()], retained: &["u/x".into(), "unit1/y".into()] };
+        let q = Question {
+            job: &bytes,
+            index: &index,
+            count: j.modules.len(),
+            base: 0,
+            scope: &[],
+            elements: &[String::new()],
+            retained: &["u/x".into(), "unit1/y".into()],
+        };
         let mut r = Rng::new(1);
         let (mut a, mut b, mut n) = (u128::MAX, u128::MAX, 0);
         for _ in 0..20 {
@@ -308,7 +404,12 @@ fn speed() {
             a = a.min(x);
             b = b.min(q.due(&j, &asked).1);
         }
-        println!("walkc: {name}, {n} paths: {} us, the reference {} us, ratio {:.2}", a / 1000, b / 1000, a as f64 / b as f64);
+        println!(
+            "walkc: {name}, {n} paths: {} us, the reference {} us, ratio {:.2}",
+            a / 1000,
+            b / 1000,
+            a as f64 / b as f64
+        );
     }
 }
 
@@ -327,7 +428,10 @@ fn main() {
         let bytes = gen::job(&mut r);
         see(&mut t, &mut r, &bytes, 3);
     }
-    println!("walkc: {} trees, {} walks, {} of them past a limit, {} paths, {} differences", t.trees, t.walks, t.over, t.paths, t.wrong);
+    println!(
+        "walkc: {} trees, {} walks, {} of them past a limit, {} paths, {} differences",
+        t.trees, t.walks, t.over, t.paths, t.wrong
+    );
     speed();
     std::process::exit((t.wrong > 0) as i32);
 }
