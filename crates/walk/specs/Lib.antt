@@ -10,3 +10,4 @@ pub mod Listed
 pub mod Chains
 pub mod Retained
 pub mod Three
+pub mod Relative

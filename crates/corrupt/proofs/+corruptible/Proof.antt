@@ -1,0 +1,98 @@
+-- `corrupt::corruptible` meets its contract: the whole is what was listed so far and what the instances left come to. Assumes nothing.
+use mathlib.Core.Path.{_≡_, _∙_}
+use lib.ListN.{length, drop}
+use mathlib.Core.List.{[], _++_}
+use native.Mathlib.Omega.{arith}
+use borrow.Author.Needs.{needs}
+use Rattle.nametable.specs.Table.{tableNames}
+use Rattle.design.specs.Lists.{addAll}
+use Rattle.paths.specs.Pieces.{entriesBelow}
+use Rattle.listing.specs.Listing.{pathsOf}
+use Rattle.corrupt.proofs.Rounds.{Round, round-long, module-row, row-visits, row-lists, retaineds, rooms, own-given, walk-full, walk-last, walk-done, round-start, round-end, round-less, round-pass, round-given, round-stop, round-front, round-on}
+use Prim.Native.Nat.{ℕ, _<_, _+_, _≤_, _-_}
+use borrow.Fn.Kinds.{In}
+use borrow.Fn.PlainCycle.{Measures, is, falls, and}
+use Rattle.corrupt.proofs.corruptible.Reads as self
+use Rattle.corrupt.proofs.corruptible.Kinds as kinds
+use Rattle.corrupt.proofs.+corruptible.Lts-corruptible as lts
+use Rattle.corrupt.proofs.entering.Reads as entering-reads
+use Rattle.corrupt.proofs.own.Reads as own-reads
+use Rattle.corrupt.proofs.stem.Reads as stem-reads
+use Rattle.lines.proofs.next_inst.Reads as next-inst-reads
+use Rattle.lines.proofs.part_of.Reads as part-of-reads
+use Rattle.lookup.proofs.insts_end.Reads as insts-end-reads
+use Rattle.lookup.proofs.insts_from.Reads as insts-from-reads
+use Rattle.out.proofs.emit.put.Reads as put-reads
+use Rattle.paths.proofs.entry.retained.Reads as retained-reads
+use Rattle.text.proofs.part.part.Reads as part-reads
+use Rattle.corrupt.proofs.+corruptible.{statement}
+use Rattle.corrupt.proofs.+corruptible.Tie.{close}
+
+abbrev μ-self : Measures 8 kinds.ps ℕ
+μ-self κs a = a .1 .1 .1 .1 .0
+
+abbrev self-at : ℕ → In 8 kinds.ps
+self-at t =
+    and 8 kinds.ps (is 8 kinds.ps μ-self t) self.Pre
+
+abbrev self-below : ℕ → In 8 kinds.ps
+self-below t =
+    and 8 kinds.ps (falls 8 kinds.ps _<_ μ-self t) self.Pre
+
+-- what the callees of `corruptible` ask and give; a member of the cycle below the measure t
+abbrev cs : ℕ → lts.Claims
+cs t = (part-reads.Asked, part-reads.Learnt, retained-reads.Asked, retained-reads.Learnt, stem-reads.Asked, stem-reads.Learnt, own-reads.Asked, own-reads.Learnt, insts-end-reads.Asked, insts-end-reads.Learnt, insts-from-reads.Asked, insts-from-reads.Learnt, next-inst-reads.Asked, next-inst-reads.Learnt, entering-reads.Asked, entering-reads.Learnt, part-of-reads.Asked, part-of-reads.Learnt, put-reads.Asked, put-reads.Learnt, self-below t, self.Post)
+
+abbrev Inv-loop : lts.InvT-loop
+Inv-loop job index count k left files area retained n below e elen tail₀ t prefix text₀ ends₀ u w₀ full end at₀ tail text ends w at =
+    (length tail ≡ length tail₀) × ((length text ≡ length text₀) × ((length ends ≡ length ends₀) × Round job index count k left (files ++ area) n (entriesBelow below (tableNames (files ++ area) retained n)) e elen t u prefix tail₀ (w₀ .entered + row-visits job index count k left (files ++ area) n (entriesBelow below (tableNames (files ++ area) retained n)) e elen t u prefix tail₀) (addAll (pathsOf text₀ ends₀ (w₀ .count)) (row-lists job index count k left (files ++ area) n (entriesBelow below (tableNames (files ++ area) retained n)) e elen t u prefix tail₀)) tail text ends w at end))
+
+abbrev μ-loop : lts.MeasureT-loop
+μ-loop job index count k left files area retained n below e elen tail₀ t prefix text₀ ends₀ u w₀ full end at₀ tail text ends w at =
+    end - at
+
+pub +corruptible-spec : {M : Type 1} → statement M
++corruptible-spec = close μ-self λ t. lts.spec (cs t)
+    (self-at t)
+    self.Post
+    Inv-loop
+    μ-loop
+    (λ c κs. search needs)  -- part-requires
+    (λ c κs. search rooms)  -- retained-requires
+    (λ c. search needs)  -- same-length
+    (λ c. search retaineds)  -- returns
+    (λ c κs. search rooms)  -- stem-requires
+    (λ c κs. search needs)  -- part-requires-2
+    (λ c κs. (own-given _ _ _ _ _ _ _ [] _ _ _ _ (c .before .before .before .before .before .before .before .before .before .before .before .before .before .before .before .before .before .before .before .before .pre .1 .0) (c .before .before .before .before .before .before .before .before .before .before .before .before .before .before .before .before .before .before .before .before .pre .1 .1 .0) _ _ (c .before .before .before .before .before .before .stem .ensures) _ (c .before .before .part2 .ensures), c .before .before .before .before .before .before .before .before .before .before .before .before .before .before .before .before .before .before .before .before .pre .1 .1 .1))  -- own-requires
+    (λ c. search needs)  -- same-length-2
+    (λ c. search needs)  -- same-length-3
+    (λ c. search needs)  -- same-length-4
+    (λ c. walk-full _ _ _ _ _ _ _ _ _ _ _ _ (c .before .before .before .before .before .before .before .before .before .before .before .before .before .before .before .before .before .before .before .before .before .before .before .before .before .before .pre .1 .0) (c .before .before .before .before .before .before .before .before .before .before .before .before .before .before .before .before .before .before .before .before .before .before .before .before .before .before .pre .1 .1 .0) _ (c .before .before .before .before .before .before .before .before .before .before .before .before .before .before .before .before .part .ensures) _ (c .before .before .before .before .before .before .before .before .before .before .before .before .before .before .before .retained .ensures) (c .before .before .before .before .before .before .before .before .before .before .before .before .before .before .if1 .left) _ _ (c .before .before .before .before .before .before .before .before .before .before .before .before .stem .ensures) _ (c .before .before .before .before .before .before .before .before .part2 .ensures) _ _ _ _ _ _ (c .before .before .before .before .before .own .ensures) (c .if2 .taken))  -- returns-2
+    (λ c. search needs)  -- same-length-5
+    (λ c. search needs)  -- same-length-6
+    (λ c. search needs)  -- same-length-7
+    (λ c. walk-last _ _ _ _ _ _ _ _ _ _ _ _ (c .before .before .before .before .before .before .before .before .before .before .before .before .before .before .before .before .before .before .before .before .before .before .before .before .before .before .before .pre .1 .0) (c .before .before .before .before .before .before .before .before .before .before .before .before .before .before .before .before .before .before .before .before .before .before .before .before .before .before .before .pre .1 .1 .0) _ (c .before .before .before .before .before .before .before .before .before .before .before .before .before .before .before .before .before .part .ensures) _ (c .before .before .before .before .before .before .before .before .before .before .before .before .before .before .before .before .retained .ensures) (c .before .before .before .before .before .before .before .before .before .before .before .before .before .before .before .if1 .left) _ _ (c .before .before .before .before .before .before .before .before .before .before .before .before .before .stem .ensures) _ (c .before .before .before .before .before .before .before .before .before .part2 .ensures) _ _ _ _ _ _ (c .before .before .before .before .before .before .own .ensures) (c .before .if2 .left) (c .if3 .taken))  -- returns-3
+    (λ c κs. module-row _ _ _ _ _ _ _ _ _ _ (c .before .before .before .before .before .before .before .before .before .before .before .before .before .before .before .before .before .before .before .before .before .before .before .before .before .before .before .pre .1 .0))  -- insts-end-requires
+    (λ c κs. module-row _ _ _ _ _ _ _ _ _ _ (c .before .before .before .before .before .before .before .before .before .before .before .before .before .before .before .before .before .before .before .before .before .before .before .before .before .before .before .before .pre .1 .0))  -- insts-from-requires
+    (λ c. (search needs, (search needs, (search needs, round-start _ _ _ _ _ _ _ _ _ _ _ _ _ _ _ (c .before .before .before .before .before .before .before .before .before .before .before .before .before .before .before .before .before .before .before .before .before .before .before .before .before .before .before .before .before .pre .1 .0) (c .before .before .before .before .before .before .before .before .before .before .before .before .before .before .before .before .before .before .before .before .before .before .before .before .before .before .before .before .before .pre .1 .1 .0) (c .before .before .before .before .before .before .before .before .before .before .before .before .before .before .before .stem .ensures) (c .before .before .if3 .left) _ _ _ _ _ (c .before .before .before .before .before .before .before .before .own .ensures) (c .before .before .before .if2 .left) _ _ (c .insts-from .ensures) (c .before .insts-end .ensures)))))  -- loop-holds
+    (λ c κs. search needs)  -- next-inst-requires
+    (λ c. search needs)  -- enum-known-r
+    (λ c. search needs)  -- enum-told
+    (λ c. search needs)  -- same-length-8
+    (λ c. search needs)  -- same-length-9
+    (λ c. search needs)  -- same-length-10
+    (λ c. walk-done _ _ _ _ _ _ _ _ _ _ _ _ (c .before .before .before .before .before .before .before .before .before .before .before .before .before .before .before .before .before .before .before .before .before .before .before .before .before .before .before .before .before .before .before .before .before .pre .1 .0) (c .before .before .before .before .before .before .before .before .before .before .before .before .before .before .before .before .before .before .before .before .before .before .before .before .before .before .before .before .before .before .before .before .before .pre .1 .1 .0) _ (c .before .before .before .before .before .before .before .before .before .before .before .before .before .before .before .before .before .before .before .before .before .before .before .part .ensures) _ (c .before .before .before .before .before .before .before .before .before .before .before .before .before .before .before .before .before .before .before .before .before .before .retained .ensures) (c .before .before .before .before .before .before .before .before .before .before .before .before .before .before .before .before .before .before .before .before .before .if1 .left) _ _ (c .before .before .before .before .before .before .before .before .before .before .before .before .before .before .before .before .before .before .before .stem .ensures) _ (c .before .before .before .before .before .before .before .before .before .before .before .before .before .before .before .part2 .ensures) _ _ _ _ _ _ (c .before .before .before .before .before .before .before .before .before .before .before .before .own .ensures) (c .before .before .before .before .before .before .before .if2 .left) (c .before .before .before .before .before .before .if3 .left) _ _ _ _ (round-end _ _ _ _ _ _ _ _ _ _ _ _ _ _ _ _ _ _ _ _ _ _ (c .before .before .before .loop .inv .1 .1 .1) _ (c .before .before .next-inst .ensures) (c .enum-told .given .1)) (c .before .before .before .loop .inv .1 .1 .1 .front))  -- returns-4
+    (λ c κs. c .before .before .before .before .loop .inv .1 .1 .1 .given .few)  -- entering-requires
+    (λ c. round-less _ _ _ _ _ _ _ _ _ _ _ _ _ _ _ _ _ _ _ _ _ _ (c .before .before .before .before .before .before .loop .inv .1 .1 .1) _ (c .before .before .before .before .before .next-inst .ensures) _ _ _ _ (c .before .before .before .r .given .1))  -- loop-less
+    (λ c. (c .before .before .before .before .before .before .loop .inv .0, (c .before .before .before .before .before .before .loop .inv .1 .0, (c .before .before .before .before .before .before .loop .inv .1 .1 .0, round-pass _ _ _ _ _ _ _ _ _ _ _ _ _ _ _ _ _ _ _ _ _ _ (c .before .before .before .before .before .before .loop .inv .1 .1 .1) _ (c .before .before .before .before .before .next-inst .ensures) _ _ _ _ (c .before .before .before .r .given .1) _ (c .before .entering .ensures) (c .if4 .taken)))))  -- loop-again
+    (λ c κs. search needs)  -- part-of-requires
+    (λ c κs. search needs)  -- put-requires
+    (λ c. search needs)  -- sub-corruptible
+    (λ c. search needs)  -- sub-corruptible-2
+    (λ c κs. (omega (arith, c .before .before .before .before .before .before .before .before .before .before .before .before .before .before .before .before .before .before .before .before .before .before .before .before .before .before .before .before .before .before .before .before .before .before .before .before .before .before .before .before .before .before .before .before .pre .0, c .before .before .before .before .before .before .before .before .before .before .before .before .before .before .loop .inv .1 .1 .1 .more), (round-given _ _ _ _ _ _ _ _ _ _ _ _ _ _ _ _ _ _ _ _ _ _ (c .before .before .before .before .before .before .before .before .before .before .before .before .before .before .loop .inv .1 .1 .1) _ (c .before .before .before .before .before .before .before .before .before .before .before .before .before .next-inst .ensures) _ _ _ _ (c .before .before .before .before .before .before .before .before .before .before .before .r .given .1) _ (c .before .before .before .before .before .before .before .before .before .entering .ensures) (c .before .before .before .before .before .before .before .before .if4 .left) _ (c .before .before .before .before .before .before .part-of .ensures) _ _ (c .before .before .before .before .before .put .ensures), (round-long _ _ _ _ _ _ _ _ _ _ _ _ _ _ _ _ _ _ _ _ _ _ (c .before .before .before .before .before .before .before .before .before .before .before .before .before .before .loop .inv .1 .1 .1) _ (c .before .before .before .before .before .before .before .before .before .before .before .before .before .next-inst .ensures) _ _ _ _ (c .before .before .before .before .before .before .before .before .before .before .before .r .given .1) _ (c .before .before .before .before .before .before .before .before .before .entering .ensures) (c .before .before .before .before .before .before .before .before .if4 .left) _ (c .before .before .before .before .before .before .part-of .ensures) _ _ (c .before .before .before .before .before .put .ensures) (c .before .before .before .before .before .put .kept .0), c .before .before .before .before .before .before .before .before .before .before .before .before .before .before .loop .inv .1 .1 .1 .turn .ready))))  -- corruptible-requires
+    (λ c. c .before .before .before .before .before .before .before .corruptible .kept .1 .1 .1 .1 .1 .1 .1 .1 .1 .1 .1 .1 .0 ∙ c .before .before .before .before .before .before .before .before .before .before .before .before .before .put .kept .0 ∙ c .before .before .before .before .before .before .before .before .before .before .before .before .before .before .before .before .before .before .before .before .before .before .loop .inv .0 ∙ c .before .before .before .before .before .before .before .before .before .before .before .before .before .before .before .before .before .before .before .before .before .before .before .before .before .before .before .before .before .before .before .before .before .before .before .before .before .before .stem .kept .0)  -- same-length-11
+    (λ c. c .before .before .before .before .before .before .before .corruptible .kept .1 .1 .1 .1 .1 .1 .1 .1 .1 .1 .1 .1 .1 .1 .1 .0 ∙ c .before .before .before .before .before .before .before .before .before .before .before .before .before .before .before .before .before .before .before .before .before .before .loop .inv .1 .0 ∙ c .before .before .before .before .before .before .before .before .before .before .before .before .before .before .before .before .before .before .before .before .before .before .before .before .before .before .before .before .before .before .before .own .kept .1 .1 .1 .1 .1 .1 .1 .1 .1 .0)  -- same-length-12
+    (λ c. c .before .before .before .before .before .before .before .corruptible .kept .1 .1 .1 .1 .1 .1 .1 .1 .1 .1 .1 .1 .1 .1 .1 .1 .0 ∙ c .before .before .before .before .before .before .before .before .before .before .before .before .before .before .before .before .before .before .before .before .before .before .loop .inv .1 .1 .0 ∙ c .before .before .before .before .before .before .before .before .before .before .before .before .before .before .before .before .before .before .before .before .before .before .before .before .before .before .before .before .before .before .before .own .kept .1 .1 .1 .1 .1 .1 .1 .1 .1 .1 .0)  -- same-length-13
+    (λ c. walk-done _ _ _ _ _ _ _ _ _ _ _ _ (c .before .before .before .before .before .before .before .before .before .before .before .before .before .before .before .before .before .before .before .before .before .before .before .before .before .before .before .before .before .before .before .before .before .before .before .before .before .before .before .before .before .before .before .before .before .before .before .before .before .before .before .before .pre .1 .0) (c .before .before .before .before .before .before .before .before .before .before .before .before .before .before .before .before .before .before .before .before .before .before .before .before .before .before .before .before .before .before .before .before .before .before .before .before .before .before .before .before .before .before .before .before .before .before .before .before .before .before .before .before .pre .1 .1 .0) _ (c .before .before .before .before .before .before .before .before .before .before .before .before .before .before .before .before .before .before .before .before .before .before .before .before .before .before .before .before .before .before .before .before .before .before .before .before .before .before .before .before .before .before .part .ensures) _ (c .before .before .before .before .before .before .before .before .before .before .before .before .before .before .before .before .before .before .before .before .before .before .before .before .before .before .before .before .before .before .before .before .before .before .before .before .before .before .before .before .before .retained .ensures) (c .before .before .before .before .before .before .before .before .before .before .before .before .before .before .before .before .before .before .before .before .before .before .before .before .before .before .before .before .before .before .before .before .before .before .before .before .before .before .before .before .if1 .left) _ _ (c .before .before .before .before .before .before .before .before .before .before .before .before .before .before .before .before .before .before .before .before .before .before .before .before .before .before .before .before .before .before .before .before .before .before .before .before .before .before .stem .ensures) _ (c .before .before .before .before .before .before .before .before .before .before .before .before .before .before .before .before .before .before .before .before .before .before .before .before .before .before .before .before .before .before .before .before .before .before .part2 .ensures) _ _ _ _ _ _ (c .before .before .before .before .before .before .before .before .before .before .before .before .before .before .before .before .before .before .before .before .before .before .before .before .before .before .before .before .before .before .before .own .ensures) (c .before .before .before .before .before .before .before .before .before .before .before .before .before .before .before .before .before .before .before .before .before .before .before .before .before .before .if2 .left) (c .before .before .before .before .before .before .before .before .before .before .before .before .before .before .before .before .before .before .before .before .before .before .before .before .before .if3 .left) _ _ _ _ (round-stop _ _ _ _ _ _ _ _ _ _ _ _ _ _ _ _ _ _ _ _ _ _ (c .before .before .before .before .before .before .before .before .before .before .before .before .before .before .before .before .before .before .before .before .before .before .loop .inv .1 .1 .1) _ (c .before .before .before .before .before .before .before .before .before .before .before .before .before .before .before .before .before .before .before .before .before .next-inst .ensures) _ _ _ _ (c .before .before .before .before .before .before .before .before .before .before .before .before .before .before .before .before .before .before .before .r .given .1) _ (c .before .before .before .before .before .before .before .before .before .before .before .before .before .before .before .before .before .entering .ensures) (c .before .before .before .before .before .before .before .before .before .before .before .before .before .before .before .before .if4 .left) _ (c .before .before .before .before .before .before .before .before .before .before .before .before .before .before .part-of .ensures) _ _ (c .before .before .before .before .before .before .before .before .before .before .before .before .before .put .ensures) _ _ _ _ (c .before .before .before .before .before .before .before .corruptible .ensures) (c .if5 .taken)) (round-front _ _ _ _ _ _ _ _ _ _ _ _ _ _ _ _ _ _ _ _ _ _ (c .before .before .before .before .before .before .before .before .before .before .before .before .before .before .before .before .before .before .before .before .before .before .loop .inv .1 .1 .1) _ (c .before .before .before .before .before .before .before .before .before .before .before .before .before .before .before .before .before .before .before .before .before .next-inst .ensures) _ _ _ _ (c .before .before .before .before .before .before .before .before .before .before .before .before .before .before .before .before .before .before .before .r .given .1) _ (c .before .before .before .before .before .before .before .before .before .before .before .before .before .before .before .before .before .entering .ensures) (c .before .before .before .before .before .before .before .before .before .before .before .before .before .before .before .before .if4 .left) _ (c .before .before .before .before .before .before .before .before .before .before .before .before .before .before .part-of .ensures) _ _ (c .before .before .before .before .before .before .before .before .before .before .before .before .before .put .ensures) _ _ _ _ (c .before .before .before .before .before .before .before .corruptible .ensures)))  -- returns-5
+    (λ c. round-less _ _ _ _ _ _ _ _ _ _ _ _ _ _ _ _ _ _ _ _ _ _ (c .before .before .before .before .before .before .before .before .before .before .before .before .before .before .before .before .before .before .before .before .before .before .loop .inv .1 .1 .1) _ (c .before .before .before .before .before .before .before .before .before .before .before .before .before .before .before .before .before .before .before .before .before .next-inst .ensures) _ _ _ _ (c .before .before .before .before .before .before .before .before .before .before .before .before .before .before .before .before .before .before .before .r .given .1))  -- loop-less-2
+    (λ c. (c .before .before .before .before .before .before .before .corruptible .kept .1 .1 .1 .1 .1 .1 .1 .1 .1 .1 .1 .1 .0 ∙ c .before .before .before .before .before .before .before .before .before .before .before .before .before .put .kept .0 ∙ c .before .before .before .before .before .before .before .before .before .before .before .before .before .before .before .before .before .before .before .before .before .before .loop .inv .0, (c .before .before .before .before .before .before .before .corruptible .kept .1 .1 .1 .1 .1 .1 .1 .1 .1 .1 .1 .1 .1 .1 .1 .0 ∙ c .before .before .before .before .before .before .before .before .before .before .before .before .before .before .before .before .before .before .before .before .before .before .loop .inv .1 .0, (c .before .before .before .before .before .before .before .corruptible .kept .1 .1 .1 .1 .1 .1 .1 .1 .1 .1 .1 .1 .1 .1 .1 .1 .0 ∙ c .before .before .before .before .before .before .before .before .before .before .before .before .before .before .before .before .before .before .before .before .before .before .loop .inv .1 .1 .0, round-on _ _ _ _ _ _ _ _ _ _ _ _ _ _ _ _ _ _ _ _ _ _ (c .before .before .before .before .before .before .before .before .before .before .before .before .before .before .before .before .before .before .before .before .before .before .loop .inv .1 .1 .1) _ (c .before .before .before .before .before .before .before .before .before .before .before .before .before .before .before .before .before .before .before .before .before .next-inst .ensures) _ _ _ _ (c .before .before .before .before .before .before .before .before .before .before .before .before .before .before .before .before .before .before .before .r .given .1) _ (c .before .before .before .before .before .before .before .before .before .before .before .before .before .before .before .before .before .entering .ensures) (c .before .before .before .before .before .before .before .before .before .before .before .before .before .before .before .before .if4 .left) _ (c .before .before .before .before .before .before .before .before .before .before .before .before .before .before .part-of .ensures) _ _ (c .before .before .before .before .before .before .before .before .before .before .before .before .before .put .ensures) _ _ _ _ (c .before .before .before .before .before .before .before .corruptible .ensures) (c .if5 .left) (c .before .before .before .before .before .before .before .corruptible .kept .1 .1 .1 .1 .1 .1 .1 .1 .1 .1 .1 .1 .0 ∙ c .before .before .before .before .before .before .before .before .before .before .before .before .before .put .kept .0)))))  -- loop-again-2

@@ -1,0 +1,22 @@
+-- What the reader's answer is told as. Assumes nothing.
+use Prim.Native.Nat.{ℕ}
+use mathlib.Core.Path.{_≡_, sym, ap, _∙_}
+use mathlib.Core.List.{List}
+use borrow.Author.Needs.{needs}
+use Rattle.joblines.specs.Parse.{parse}
+use Rattle.jobindex.specs.Index.{moduleRow}
+use Rattle.jobindex.specs.Rows.{rows-length}
+use Rattle.jobindex.specs.declared.Header.{Header}
+use Rattle.job.specs.declared.Answer.{Answer}
+use Rattle.job.specs.declared.Answer.the-variants.{Taken, Refused}
+use Rattle.job.specs.Reader.{JobRead}
+use Rattle.walkc.specs.Counted.{moduleCount}
+
+module _ (job index index′ : List ℕ) (r : Answer) (s : JobRead job index index′ r) where
+  pub tell-refused : (x n : ℕ) → r ≡ Refused x n → 0 ≡ moduleCount (parse job)
+  tell-refused x n e = rw (← s .says, e)
+
+  pub tell-taken : (head : Header) → r ≡ Taken head → head .modules ≡ moduleCount (parse job)
+  tell-taken head e = sym (rw (← s .says, e) (rows-length (moduleRow job index′) (head .modules)))
+
+pub ruleset tells = (needs, tell-refused, tell-taken)

@@ -1,0 +1,3 @@
+-- Laws.
+pub mod Accepted
+pub mod Exact

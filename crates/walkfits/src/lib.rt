@@ -1,0 +1,1 @@
+// What the walk's answer says of an accepted job and of its scope. Laws only.
