@@ -16,7 +16,8 @@ use Rattle.spans.specs.declared.span.Span.{Span}
 use Rattle.tcl.specs.Arguments.{stateOf, statesFrom}
 use Rattle.tcl.specs.Arguments as arguments
 use Rattle.args.specs.View.{wordsFrom, pick, StateHere, States}
-use Rattle.args.specs.Laws.{words-all, words-none, words-here, word-ends}
+use Rattle.args.specs.Laws.{words-all, words-none, words-here}
+use Rattle.spans.specs.Reach.{one-of}
 use Rattle.args.specs.declared.state.State.{State}
 use Rattle.args.specs.declared.state.State.the-variants.{At, None}
 
@@ -30,13 +31,13 @@ module _ (mem : Bytes) (words : List ℕ) (n i : ℕ) (one two : Bytes) where
   here = stateOf one two (bytes mem (pairAt words i)) (wordsFrom mem words n (i + 1))
 
   pub here-last : (m : ℕ) → m ≡ n - i → m ≤ 1 → StateHere mem words n here None
-  here-last m e h = record { is = rw (words-none mem words n (i + 1) (omega arith)); within = omega arith }
+  here-last m e h = record { is = rw (words-none mem words n (i + 1) (omega arith)); within = λ d x. omega arith }
 
   module _ (m : ℕ) (e : m ≡ n - i) (h : 1 < m) (s : Span) (z : s ≡ pairAt words i) (u : Bool) (f : u ≡ same (bytes mem s) one) where
     pub here-one : (v : Span) → v ≡ pairAt words (i + 1) → u ≡ true → StateHere mem words n here (At true v)
     here-one v y t =
         let g : i + 1 < n = omega arith in
-        record { is = rw (words-here mem words n (i + 1) g, ← z, ← f, t, y); within = rw y (word-ends words n (i + 1) g) }
+        record { is = rw (words-here mem words n (i + 1) g, ← z, ← f, t, y); within = λ d x. rw y (one-of d words n (i + 1) g) }
 
     module _ (s′ : Span) (z′ : s′ ≡ pairAt words i) (u′ : Bool) (f′ : u′ ≡ same (bytes mem s′) two) (t : u ≡ false) where
       one-not : same (bytes mem (pairAt words i)) one ≡ false
@@ -45,12 +46,12 @@ module _ (mem : Bytes) (words : List ℕ) (n i : ℕ) (one two : Bytes) where
       pub here-two : (v : Span) → v ≡ pairAt words (i + 1) → u′ ≡ true → StateHere mem words n here (At false v)
       here-two v y t′ =
           let g : i + 1 < n = omega arith in
-          record { is = rw (words-here mem words n (i + 1) g, one-not, ← z′, ← f′, t′, y); within = rw y (word-ends words n (i + 1) g) }
+          record { is = rw (words-here mem words n (i + 1) g, one-not, ← z′, ← f′, t′, y); within = λ d x. rw y (one-of d words n (i + 1) g) }
 
       pub here-none : u′ ≡ false → StateHere mem words n here None
       here-none t′ =
           let g : i + 1 < n = omega arith in
-          record { is = rw (words-here mem words n (i + 1) g, one-not, ← z′, ← f′, t′); within = omega arith }
+          record { is = rw (words-here mem words n (i + 1) g, one-not, ← z′, ← f′, t′); within = λ d x. omega arith }
 
 pub ruleset heres = (needs, here-last, here-one, here-two, here-none)
 
@@ -115,7 +116,7 @@ seek-start mem words n one two k = record { keeps = rw (words-all mem words n) }
 module _ (mem : Bytes) (words : List ℕ) (n : ℕ) (one two : Bytes) (t : Option arguments.State) (i left : ℕ) (inv : Seeks mem words n one two t i left) where
   pub seek-end : n ≤ i → States mem words n t None
   unfolding pick statesFrom
-  seek-end h = record { is = rw (words-none mem words n i h) at (inv .keeps); within = omega arith }
+  seek-end h = record { is = rw (words-none mem words n i h) at (inv .keeps); within = λ d x. omega arith }
 
   module _ (h : i < n) (r : State) (e : StateHere mem words n (stateOf one two (bytes mem (pairAt words i)) (wordsFrom mem words n (i + 1))) r) where
     pub seek-none : r ≡ None → Seeks mem words n one two t (i + 1) left
@@ -124,7 +125,7 @@ module _ (mem : Bytes) (words : List ℕ) (n : ℕ) (one two : Bytes) (t : Optio
     module _ (k : Bool) (s : Span) (g : r ≡ At k s) where
       pub seek-here : left ≡ 0 → States mem words n t (At k s)
       unfolding pick
-      seek-here q = record { is = rw (step-one mem words n i one two r e h k s g, q) at (inv .keeps); within = rw g at (e .within) }
+      seek-here q = record { is = rw (step-one mem words n i one two r e h k s g, q) at (inv .keeps); within = λ d x. rw g at (e .within d x) }
 
       pub seek-on : (left ≡ 0 → ⊥) → Seeks mem words n one two t (i + 2) (left - 1)
       unfolding pick

@@ -12,14 +12,14 @@ use borrow.Author.Tests.{leb-true, leb-false}
 use Rattle.text.specs.Ascii.{Bytes}
 use Rattle.text.specs.Compare.{same}
 use Rattle.spans.specs.Span.{_⋯_, bytes, foundOf, pairAt, pairs}
-use Rattle.spans.specs.Frame.{lastEnd}
+use Rattle.spans.specs.Reach.{lastOf, one-of}
 use Rattle.spans.specs.declared.span.Span.{Span}
 use Rattle.spans.specs.declared.span.Found.{Found}
 use Rattle.spans.specs.declared.span.Found.the-variants.{At, None}
 use Rattle.tcl.specs.Arguments.{isOption, roleOf, positionalsFrom, optionFrom, hasFlagFrom, firstOr, lastOr, later}
 use Rattle.tcl.specs.Arguments as arguments
-use Rattle.args.specs.View.{wordsFrom, roleAs, pick, foundEnd, Reads, Finds}
-use Rattle.args.specs.Laws.{words-none, words-here, word-ends}
+use Rattle.args.specs.View.{wordsFrom, roleAs, pick, foundBy, Reads, Finds}
+use Rattle.args.specs.Laws.{words-none, words-here}
 use Rattle.args.specs.declared.role.Role.{Role}
 use Rattle.args.specs.declared.role.Role.the-variants.{Positional, Flag, Option as Role·Option}
 
@@ -114,7 +114,7 @@ pub record Picks (mem : Bytes) (words : List ℕ) (n : ℕ) (t : Option Bytes) (
 module _ (mem : Bytes) (words : List ℕ) (n : ℕ) (t : Option Bytes) (i left : ℕ) (inv : Picks mem words n t i left) where
   pub pick-end : n ≤ i → Finds mem words n t None
   unfolding pick positionalsFrom
-  pick-end h = record { is = rw (words-none mem words n i h) at (inv .keeps); within = omega arith }
+  pick-end h = record { is = rw (words-none mem words n i h) at (inv .keeps); within = λ d q. omega arith }
 
   module _ (h : i < n) (r : Role) (e : roleOf (bytes mem (pairAt words i)) (wordsFrom mem words n (i + 1)) ≡ roleAs (bytes mem (pairAt words (i + 1))) r) where
     pub pick-flag : r ≡ Flag → Picks mem words n t (i + 1) left
@@ -125,7 +125,7 @@ module _ (mem : Bytes) (words : List ℕ) (n : ℕ) (t : Option Bytes) (i left :
 
     pub pick-here : (s : Span) → s ≡ pairAt words i → r ≡ Positional → left ≡ 0 → Finds mem words n t (At s)
     unfolding pick
-    pick-here s z g q = record { is = rw z (rw (pos-word mem words n i r e h g, q) at (inv .keeps)); within = rw z (word-ends words n i h) }
+    pick-here s z g q = record { is = rw z (rw (pos-word mem words n i r e h g, q) at (inv .keeps)); within = λ d y. rw z (one-of d words n i h) }
 
     pub pick-on : r ≡ Positional → (left ≡ 0 → ⊥) → Picks mem words n t (i + 1) (left - 1)
     unfolding pick
@@ -172,17 +172,17 @@ first-none (p ∷ ps) e = absurd (let z : _≡_ {A = ℕ} 0 1 = cc in omega arit
 
 module _ (mem : Bytes) (words : List ℕ) (n : ℕ) (ps : List Bytes) (r : Found) (f : Finds mem words n (pick 0 ps) r) where
   pub name-at : (s : Span) → r ≡ At s → Reads mem words n (firstOr ps) s
-  name-at s g = record { is = first-is (bytes mem s) ps (rw g at (f .is)); within = rw g at (f .within) }
+  name-at s g = record { is = first-is (bytes mem s) ps (rw g at (f .is)); within = λ d q. rw g at (f .within d q) }
 
   pub name-none : r ≡ None → Reads mem words n (firstOr ps) (0 ⋯ 0)
   unfolding bytes
-  name-none g = record { is = first-none ps (rw g at (f .is)); within = omega arith }
+  name-none g = record { is = first-none ps (rw g at (f .is)); within = λ d q. omega (arith, q) }
 
 pub ruleset names = (needs, name-at, name-none)
 
 pub record Lasts (mem : Bytes) (words : List ℕ) (n : ℕ) (t : Bytes) (i : ℕ) (found : Span) : Type 0 where
   pub keeps : lastOr (bytes mem found) (positionalsFrom false (wordsFrom mem words n i)) ≡ t
-  pub within : found .at + found .len ≤ lastEnd (pairs words 0 n)
+  pub within : (d : Span → ℕ) → d (0 ⋯ 0) ≡ 0 → d found ≤ lastOf d (pairs words 0 n)
 
 module _ (mem : Bytes) (words : List ℕ) (n : ℕ) (t : Bytes) (i : ℕ) (found : Span) (inv : Lasts mem words n t i found) where
   pub last-end : n ≤ i → Reads mem words n t found
@@ -197,11 +197,11 @@ module _ (mem : Bytes) (words : List ℕ) (n : ℕ) (t : Bytes) (i : ℕ) (found
     last-option g = record { keeps = rw (pos-option mem words n i r e h g) at (inv .keeps); within = inv .within }
 
     pub last-word : (s : Span) → s ≡ pairAt words i → r ≡ Positional → Lasts mem words n t (i + 1) s
-    last-word s z g = record { keeps = rw z (rw (pos-word mem words n i r e h g) at (inv .keeps)); within = rw z (word-ends words n i h) }
+    last-word s z g = record { keeps = rw z (rw (pos-word mem words n i r e h g) at (inv .keeps)); within = λ d q. rw z (one-of d words n i h) }
 
 pub last-start : (mem : Bytes) (words : List ℕ) (n : ℕ) → Lasts mem words n (lastOr [] (positionalsFrom false (wordsFrom mem words n 1))) 1 (0 ⋯ 0)
 unfolding bytes
-last-start mem words n = record { keeps = refl; within = omega arith }
+last-start mem words n = record { keeps = refl; within = λ d q. omega (arith, q) }
 
 pub ruleset lasts = (needs, two-fits, two-less, last-start, last-end, last-flag, last-option, last-word)
 
@@ -209,7 +209,7 @@ pub ruleset lasts = (needs, two-fits, two-less, last-start, last-end, last-flag,
 
 pub record Values (mem : Bytes) (words : List ℕ) (n : ℕ) (key : Bytes) (t : Option Bytes) (i : ℕ) (found : Found) : Type 0 where
   pub keeps : later (optionFrom false key (wordsFrom mem words n i)) (foundOf mem found) ≡ t
-  pub within : foundEnd found ≤ lastEnd (pairs words 0 n)
+  pub within : (d : Span → ℕ) → d (0 ⋯ 0) ≡ 0 → foundBy d found ≤ lastOf d (pairs words 0 n)
 
 later-later : (mem v : Bytes) (s : Span) (u : Bool) (a : Option Bytes) (f : Found) → v ≡ bytes mem s → later (later a (cond u (some v) none)) (foundOf mem f) ≡ later a (foundOf mem (cond u (At s) f))
 later-later mem v s u (some x) f e = refl
@@ -217,7 +217,7 @@ later-later mem v s true none f e = rw e
 later-later mem v s false none f e = refl
 
 pub value-start : (mem : Bytes) (words : List ℕ) (n : ℕ) (key : Bytes) → Values mem words n key (optionFrom false key (wordsFrom mem words n 1)) 1 None
-value-start mem words n key = record { keeps = go (optionFrom false key (wordsFrom mem words n 1)); within = omega arith }
+value-start mem words n key = record { keeps = go (optionFrom false key (wordsFrom mem words n 1)); within = λ d q. omega arith }
   where
     go : (a : Option Bytes) → later a none ≡ a
     go none = refl
@@ -239,12 +239,12 @@ module _ (mem : Bytes) (words : List ℕ) (n : ℕ) (key : Bytes) (t : Option By
     value-option q z g =
         record {
           keeps = rw (z, ← (later-later mem (bytes mem (pairAt words (i + 1))) (pairAt words (i + 1)) (same (bytes mem (pairAt words i)) key) (optionFrom false key (wordsFrom mem words n (i + 2))) found refl)) (rw (opt-option mem words n i r e h key g) at (inv .keeps));
-          within = rw z (go (same (bytes mem (pairAt words i)) key));
+          within = λ d x. rw z (go d x (same (bytes mem (pairAt words i)) key));
         }
       where
-        go : (u : Bool) → foundEnd (cond u (At (pairAt words (i + 1))) found) ≤ lastEnd (pairs words 0 n)
-        go true = word-ends words n (i + 1) (two mem words n i r e g)
-        go false = inv .within
+        go : (d : Span → ℕ) → d (0 ⋯ 0) ≡ 0 → (u : Bool) → foundBy d (cond u (At (pairAt words (i + 1))) found) ≤ lastOf d (pairs words 0 n)
+        go d x true = one-of d words n (i + 1) (two mem words n i r e g)
+        go d x false = inv .within d x
 
 -- the value of option word i, or what was found before
 module _ (mem : Bytes) (words : List ℕ) (key : Bytes) (i : ℕ) (found : Found) (s : Span) (z : s ≡ pairAt words i) (u : Bool) (f : u ≡ same (bytes mem s) key) where

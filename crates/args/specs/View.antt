@@ -4,8 +4,8 @@ use mathlib.Core.Path.{_≡_}
 use mathlib.Core.List.{List, [], _∷_}
 use mathlib.Core.Option.{Option, none, some}
 use Rattle.text.specs.Ascii.{Bytes}
-use Rattle.spans.specs.Span.{bytes, foundOf, pairs, strings}
-use Rattle.spans.specs.Frame.{lastEnd}
+use Rattle.spans.specs.Span.{_⋯_, bytes, foundOf, pairs, strings}
+use Rattle.spans.specs.Reach.{lastOf, spanEnd}
 use Rattle.spans.specs.declared.span.Span.{Span}
 use Rattle.spans.specs.declared.span.Found.{Found}
 use Rattle.spans.specs.declared.span.Found.the-variants.{At as Found·At, None as Found·None}
@@ -41,30 +41,34 @@ abbrev pub statesAs : Bytes → State → List Arguments·State
 statesAs mem (At one s) = record { one = one; value = bytes mem s } ∷ []
 statesAs mem None = []
 
--- ---- where an answer ends
+-- ---- an answer by a measure of spans
 
+abbrev pub foundBy : (Span → ℕ) → Found → ℕ
+foundBy e (Found·At s) = e s
+foundBy e Found·None = 0
+
+abbrev pub stateBy : (Span → ℕ) → State → ℕ
+stateBy e (At one s) = e s
+stateBy e None = 0
+
+-- where an answer ends
 abbrev pub foundEnd : Found → ℕ
-foundEnd (Found·At s) = s .at + s .len
-foundEnd Found·None = 0
+foundEnd f = foundBy spanEnd f
 
-abbrev pub stateEnd : State → ℕ
-stateEnd (At one s) = s .at + s .len
-stateEnd None = 0
-
--- ---- answers: what they say, and that they end where a stored word ends at the latest
+-- ---- answers: what they say, and that by every measure they are at most the greatest of the stored words: they are one of these, or empty
 
 pub record Reads (mem : Bytes) (words : List ℕ) (n : ℕ) (t : Bytes) (r : Span) : Type 0 where
   pub is : bytes mem r ≡ t
-  pub within : r .at + r .len ≤ lastEnd (pairs words 0 n)
+  pub within : (e : Span → ℕ) → e (0 ⋯ 0) ≡ 0 → e r ≤ lastOf e (pairs words 0 n)
 
 pub record Finds (mem : Bytes) (words : List ℕ) (n : ℕ) (t : Option Bytes) (r : Found) : Type 0 where
   pub is : foundOf mem r ≡ t
-  pub within : foundEnd r ≤ lastEnd (pairs words 0 n)
+  pub within : (e : Span → ℕ) → e (0 ⋯ 0) ≡ 0 → foundBy e r ≤ lastOf e (pairs words 0 n)
 
 pub record States (mem : Bytes) (words : List ℕ) (n : ℕ) (t : Option Arguments·State) (r : State) : Type 0 where
   pub is : stateAs mem r ≡ t
-  pub within : stateEnd r ≤ lastEnd (pairs words 0 n)
+  pub within : (e : Span → ℕ) → e (0 ⋯ 0) ≡ 0 → stateBy e r ≤ lastOf e (pairs words 0 n)
 
 pub record StateHere (mem : Bytes) (words : List ℕ) (n : ℕ) (t : List Arguments·State) (r : State) : Type 0 where
   pub is : t ≡ statesAs mem r
-  pub within : stateEnd r ≤ lastEnd (pairs words 0 n)
+  pub within : (e : Span → ℕ) → e (0 ⋯ 0) ≡ 0 → stateBy e r ≤ lastOf e (pairs words 0 n)

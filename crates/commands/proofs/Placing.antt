@@ -29,6 +29,7 @@ use Rattle.substitution.specs.Put.{Puts}
 use Rattle.substitution.specs.Written.{written}
 use Rattle.tcl.specs.Rewrite.{rewrite}
 use Rattle.spans.specs.Area.{Wrote}
+use Rattle.spans.specs.Reach.{filed, stored, reach-held}
 
 -- ---- in the area
 
@@ -49,7 +50,7 @@ module _ (files l₀ l : List ℕ) (o limit : ℕ) (all : List ℕ) (p : Put) (w
         is = rw (wrote-front l₀ l o all e v k, z) (at-end files l₀ o all n);
         wrote = v;
         fits = m;
-        inside = omega (arith, v .ends);
+        inside = rw (reach-held (length files) ((length files + o) ⋯ (e - o)) (stored (omega arith))) (omega (arith, v .ends));
       }
 
   pub area-over : p ≡ Full → PlacedOver l₀ l o limit all
@@ -75,7 +76,7 @@ filed-at files l p at o limit e h g =
       is = in-files files (take o l) at (length p) h ∙ sym e;
       wrote = wrote-none l o;
       fits = g;
-      inside = omega arith;
+      inside = rw (reach-held (length files) (at ⋯ length p) (filed h)) (omega arith);
     }
 
 -- a plain word without `$` is what it is written

@@ -14,7 +14,8 @@ use Rattle.spans.specs.declared.span.Span.{Span}
 use Rattle.spans.specs.Span.{pairAt, pairs, strings}
 use Rattle.spans.specs.Writes.{Written, written-all, written-kept, written-none, written-over, written-piece, wrote-kept}
 use Rattle.commands.specs.Reading.{result, results}
-use Rattle.spans.specs.Frame.{known-grows, lastEnd, lastEnd-push, pairs-push, push-back, strings-same}
+use Rattle.spans.specs.Frame.{known-grows, lastEnd, pairs-push, push-back, strings-same}
+use Rattle.spans.specs.Reach.{lastOf, reach, reach-end, last-end, last-push}
 use Rattle.text.specs.Lists.{head-is}
 use Rattle.commands.specs.Stored.{AllAt, AllOver, Placed, PlacedAt, PlacedOver, writtenAt, writtenWords}
 use Rattle.tcl.specs.Substitution.{Variable, value, values}
@@ -24,7 +25,7 @@ use Rattle.substitution.specs.Stored.{variables}
 pub record Resolving (files t : List ℕ) (vs : List Variable) (l₀ l k₀ k : List ℕ) (at n j o : ℕ) : Type 0 where
   pub are : strings (files ++ take o l) k 0 j ++ values vs (writtenWords t k₀ j (n - j)) ≡ values vs (writtenWords t k₀ 0 n)
   pub wrote : Written l₀ at (results vs (writtenWords t k₀ 0 n)) (results vs (writtenWords t k₀ j (n - j))) l o
-  pub inside : lastEnd (pairs k 0 j) ≤ length files + o
+  pub inside : lastOf (reach (length files)) (pairs k 0 j) ≤ length files + o
   pub rest : drop (2 * j) k ≡ drop (2 * j) k₀
   pub long : length k ≡ length k₀
   pub some : j ≤ n
@@ -38,7 +39,7 @@ pub record Room (files l₀ k₀ : List ℕ) (limit n o : ℕ) : Type 0 where
   pub few : n ≤ 128
 
 pub resolving-start : (files t : List ℕ) (vs : List Variable) (l k : List ℕ) (at n limit : ℕ) → at ≤ limit → limit ≤ length l → Resolving files t vs l l k k at n 0 at
-unfolding pairs lastEnd
+unfolding pairs lastOf
 resolving-start files t vs l k at n limit h g =
     record { are = rw sub-zero; wrote = rw sub-zero (written-none l at (results vs (writtenWords t k 0 n)) (omega arith)); inside = omega arith; rest = refl; long = refl; some = omega arith }
 
@@ -111,7 +112,7 @@ module _ (files t : List ℕ) (vs : List Variable) (l₀ l k₀ k : List ℕ) (a
           resolving-fits = here-at .fits
 
           pub place-in : w .at + w .len ≤ length files + e
-          place-in = here-at .inside
+          place-in = omega (arith, here-at .inside, reach-end (length files) w)
 
           module _ (room-is : Room files l₀ k₀ limit n o) where
             room : 2 * j + 1 < length k
@@ -134,7 +135,7 @@ module _ (files t : List ℕ) (vs : List Variable) (l₀ l k₀ k : List ℕ) (a
             kept = wrote-kept l l′ o (result vs (writtenAt t s)) e (here-at .wrote) (omega (arith, here-at .fits, long, room-is .area))
 
             older : strings (files ++ take e l′) k 0 j ≡ strings (files ++ take o l) k 0 j
-            older = strings-same (length files + o) (files ++ take o l) (files ++ take e l′) (pairs k 0 j) (inv .inside) (known-grows files l l′ o e up kept)
+            older = strings-same (length files + o) (files ++ take o l) (files ++ take e l′) (pairs k 0 j) (omega (arith, inv .inside, last-end (length files) (pairs k 0 j))) (known-grows files l l′ o e up kept)
 
             pub room-again : Room files l₀ k₀ limit n e
             room-again = record { fits = here-at .fits; area = room-is .area; small = room-is .small; nums = room-is .nums; few = room-is .few }
@@ -146,7 +147,7 @@ module _ (files t : List ℕ) (vs : List Variable) (l₀ l k₀ k : List ℕ) (a
                 record {
                   are = rw (grown, map-append, older, here-at .is, append-assoc) (rw next at (inv .are));
                   wrote = written-piece l₀ at (results vs (writtenWords t k₀ 0 n)) (result vs (writtenAt t s)) (results vs (writtenWords t k₀ (j + 1) (n - (j + 1)))) l l′ o e left (omega (arith, here-at .fits, room-is .area)) (here-at .wrote);
-                  inside = rw (grown, lastEnd-push) (omega (arith, inv .inside, up, here-at .inside));
+                  inside = rw (grown, last-push) (omega (arith, inv .inside, up, here-at .inside));
                   rest = push-back k j (w .at) (w .len) room ∙ rw (← x, ← (drop-drop 2 (2 * j) k), ← (drop-drop 2 (2 * j) k₀), inv .rest);
                   long = length-set (set k (2 * j) (w .at)) (2 * j + 1) (w .len) ∙ length-set k (2 * j) (w .at) ∙ inv .long;
                   some = omega arith;
@@ -173,7 +174,7 @@ module _ (files l l′ : List ℕ) (o limit : ℕ) (val res : List ℕ) (r : Pla
   fits-in : w .at + w .len < 2 ^ 32
   fits-in =
       let q : PlacedAt files l l′ o limit val res w e = rw d at p in
-      omega (arith, q .inside, q .fits, m .area, m .small)
+      omega (arith, q .inside, reach-end (length files) w, q .fits, m .area, m .small)
 
   pub at-fits : w .at < 2 ^ 32
   at-fits = omega (arith, fits-in)

@@ -15,6 +15,7 @@ use Rattle.commands.specs.declared.next.Next.the-variants.{Words as Read
 use Rattle.spans.specs.declared.span.Span.{Span}
 use Rattle.tcl.specs.Words.{Kind, Word, braced, bracketed, kindOf, plain, quoted}
 use Rattle.spans.specs.Frame.{lastEnd}
+use Rattle.spans.specs.Reach.{lastOf, reach}
 use Rattle.commands.specs.Reading.{Outcome, Parted, ended, firstOf, nothing, outcome, parted, refused, results, too-many, parts, read}
 use Rattle.tcl.specs.Substitution.{Variable, values}
 use Rattle.spans.specs.Area.{Wrote}
@@ -75,7 +76,7 @@ pub record PlacedAt (files : Bytes) (l₀ l : List ℕ) (o limit : ℕ) (val res
   pub is : bytes (files ++ take e l) s ≡ val
   pub wrote : Wrote l₀ l o res e
   pub fits : e ≤ limit
-  pub inside : s .at + s .len ≤ length files + e
+  pub inside : reach (length files) s ≤ length files + e
 
 -- they would pass the limit
 pub record PlacedOver (l₀ l : List ℕ) (o limit : ℕ) (res : Bytes) : Type 0 where
@@ -92,7 +93,7 @@ pub record AllAt (files : Bytes) (l₀ l : List ℕ) (k₀ k : List ℕ) (vs : L
   pub are : strings (files ++ take e l) k 0 n ≡ values vs ws
   pub wrote : Wrote l₀ l o (results vs ws) e
   pub fits : e ≤ limit
-  pub inside : lastEnd (pairs k 0 n) ≤ length files + e
+  pub inside : lastOf (reach (length files)) (pairs k 0 n) ≤ length files + e
   pub rest : drop (2 * n) k ≡ drop (2 * n) k₀
 
 pub record AllOver (l₀ l : List ℕ) (k₀ k : List ℕ) (vs : List Variable) (o limit : ℕ) (ws : List Word) (n : ℕ) : Type 0 where
@@ -112,10 +113,10 @@ outcomeOf files area nums t (Read n next e) = read (strings (files ++ take e are
 outcomeOf files area nums t Ended = ended
 outcomeOf files area nums t Refused = refused
 
--- what is lent: a command read leaves its result bytes behind the others and its spans, which end by them, in the numbers
+-- what is lent: a command read leaves its result bytes behind the others and its spans, which end by them and lie in the files or in the area, in the numbers
 pub record Reads (files : Bytes) (l₀ l : List ℕ) (k₀ k : List ℕ) (o : ℕ) (all : Bytes) (n e : ℕ) : Type 0 where
   pub wrote : Wrote l₀ l o all e
-  pub inside : lastEnd (pairs k 0 n) ≤ length files + e
+  pub inside : lastOf (reach (length files)) (pairs k 0 n) ≤ length files + e
   pub rest : drop (2 * n) k ≡ drop (2 * n) k₀
 
 -- no command: nothing is changed
