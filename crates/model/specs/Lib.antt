@@ -1,6 +1,8 @@
 pub mod Limits
 pub mod Records
 pub mod Scope
+pub mod Up
 pub mod Names
+pub mod Numbers
 pub mod Commands
 pub mod Within

@@ -9,15 +9,16 @@ use Rattle.text.specs.Scan.{splitAt}
 pub use Rattle.names.specs.Scoped.{below}
 unfoldable pub use Rattle.names.specs.Scoped.{scoped}
 
+-- how many bytes stand before the last of the parts between the slashes, without the slash
+abbrev pub upLength : List Bytes → ℕ
+upLength [] = 0
+upLength (p ∷ []) = 0
+upLength (p ∷ q ∷ []) = length p
+upLength (p ∷ q ∷ r ∷ ps) = length p + 1 + upLength (q ∷ r ∷ ps)
+
 -- what stands before the last `/`; nothing where there is none
 unfoldable pub up : Bytes → Bytes
 up scope = take (upLength (splitAt (byte "/") scope)) scope
-  where
-    upLength : List Bytes → ℕ
-    upLength [] = 0
-    upLength (p ∷ []) = 0
-    upLength (p ∷ q ∷ []) = length p
-    upLength (p ∷ q ∷ r ∷ ps) = length p + 1 + upLength (q ∷ r ∷ ps)
 
 -- "`set_scope .` or nothing goes to the root"; `..` goes up; a name behind a `/` is taken from the root; else below the scope
 unfoldable pub moved : Bytes → Bytes → Bytes
