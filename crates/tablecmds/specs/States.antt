@@ -21,7 +21,7 @@ use Rattle.args.specs.View.{wordsFrom, Reads, Finds}
 use Rattle.model.specs.Records.{Model, Table as Tableʳ, with-tables}
 use Rattle.model.specs.Commands.{onFirst, or-warned, warned, or-else, listOf, optionList, with-state, table-state-command}
 use Rattle.model.specs.Commands.{tableOf as tableNamed}
-use Rattle.store.specs.Strings.{string, spanOf, storedOf, foundOr}
+use Rattle.store.specs.Strings.{no-string, string, spanOf, storedOf, foundOr}
 use Rattle.store.specs.View.{Store, numbered, tableOf, textOf, modelOf}
 use Rattle.store.specs.Rows.{Packs}
 use Rattle.store.specs.Added.{row-counted}
@@ -41,6 +41,9 @@ use Rattle.made.specs.Asked.{list-found, or-found, found-by, none-reach}
 -- whether a stored table has the name
 abbrev pub isNamed : Bytes → Stored → Table → Bool
 isNamed mem name t = same (string mem (t .name)) (string mem name)
+
+abbrev pub no-table : Table
+no-table = record { name = no-string; scope = no-string; supplies = no-string }
 
 -- and a table of the records
 abbrev named : List Bytes → Tableʳ → Bool
