@@ -1,5 +1,5 @@
 -- set: what it does. Assumes nothing.
-use Prim.Native.Nat.{ℕ, _+_, _*_, _≤_, _<_}
+use Prim.Native.Nat.{ℕ, _+_, _*_, _≤_, _<_, _^_}
 use native.Mathlib.Omega.{arith}
 use mathlib.Core.Path.{_≡_, refl, sym, ap, _∙_}
 use mathlib.Core.List.{List, [], _∷_, _++_}
@@ -25,10 +25,10 @@ use Rattle.store.specs.Variables.{variables-length, variable-view, variable-sha
 use Rattle.store.specs.declared.stored.Stored.{Stored}
 use Rattle.store.specs.declared.state.State.{State}
 use Rattle.made.specs.declared.Made.{Made}
-use Rattle.made.specs.Made.{fineMade, fullMade, reachOf, Ready, Did}
+use Rattle.made.specs.Made.{fineMade, fullMade, reachOf, Room, Ready, Did}
 use Rattle.made.specs.Dids.{one-over, did-full, did-nothing}
 use Rattle.made.specs.Done.{did-state}
-use Rattle.made.specs.Asked.{none-reach}
+use Rattle.made.specs.Asked.{found-stored, none-reach}
 
 -- without a second positional word nothing is set
 set-none : (m : Model) (ps : List Bytes) → none ≡ pick 1 ps → setTo m ps ≡ m
@@ -42,6 +42,12 @@ unfolding pick
 set-two m [] v e = absurd (Option·some-ne-none v e)
 set-two m (p ∷ []) v e = absurd (Option·some-ne-none v e)
 set-two m (p ∷ q ∷ ps) v e = rw (Option·some-injective v q e)
+
+-- the word can be stored
+pub set-stored : (mem : Bytes) (words : List ℕ) (n : ℕ) (s : State) (t : Option Bytes) (w : Span) (f : Found) → Room words n s → Finds mem words n t f → f ≡ At w → w .at + w .len < 2 ^ 32
+set-stored mem words n s t w f m g e =
+    let a : Finds mem words n t (At w) = rw e at g in
+    found-stored mem words n s m t (At w) a
 
 module _ (long : ℕ) (mem : Bytes) (words : List ℕ) (n : ℕ) (st : Store) (log : Bytes) (s : State) (v : Ready long mem words n st s) where
   abbrev ws : List Bytes
@@ -59,7 +65,10 @@ module _ (long : ℕ) (mem : Bytes) (words : List ℕ) (n : ℕ) (st : Store) (l
       let b : Finds mem words n (pick 1 (positionals ws)) None = rw e at a in
       rw (g, told-nothing b) (did-nothing long mem st log s (v .shaped) (v .bounded))
 
-  module _ (w : Span) (a : Finds mem words n (pick 1 (positionals ws)) (At w)) where
+  module _ (w : Span) (f : Found) (g : Finds mem words n (pick 1 (positionals ws)) f) (e : f ≡ At w) where
+    a : Finds mem words n (pick 1 (positionals ws)) (At w)
+    a = rw e at g
+
     abbrev more : List Variable
     more = now .variables ++ (record { name = nameOf ws; value = bytes mem w } ∷ [])
 
@@ -72,8 +81,8 @@ module _ (long : ℕ) (mem : Bytes) (words : List ℕ) (n : ℕ) (st : Store) (l
     count = variables-length mem (s .variables .all) (s .variables .n)
 
     pub set-full : (m : Made) → 64 ≤ s .variables .n → m ≡ fullMade s → Did long mem st log s m (set-command now ws)
-    set-full m h e =
-        rw e
+    set-full m h em =
+        rw em
         (did-full long mem st log s (v .shaped) (v .bounded) (set-command now ws)
         (ap recordsFit told ∙ fit-variables now (now-fits mem st s log (v .shaped)) more ∙ one-over (now .variables) (record { name = nameOf ws; value = bytes mem w }) (s .variables .n) 64 count h))
 

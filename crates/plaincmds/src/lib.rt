@@ -100,13 +100,7 @@ fn retention<'a>(
 }
 
 // A retention more.
-pub fn set_retention<'a>(
-    files: &'a [u8],
-    area: &'a [u8],
-    words: &[u32],
-    n: usize,
-    s: State,
-) -> Made
+pub fn set_retention<'a>(files: &'a [u8], area: &'a [u8], words: &[u32], n: usize, s: State) -> Made
     requires { ⌜ Room (now words) n s ⌝ }
     ensures { λ r. ⌜ ((st : Store) (log : Bytes) → Ready (length (now (files .entry))) (now (files .entry) ++ now (area .entry)) (now (words .entry)) n st s → Did (length (now (files .entry))) (now (files .entry) ++ now (area .entry)) st log s r (retention-command (modelOf (now (files .entry) ++ now (area .entry)) st s log) (wordsFrom (now (files .entry) ++ now (area .entry)) (now (words .entry)) n 1))) ⌝ }
 {

@@ -78,13 +78,7 @@ fn find_table<'a>(files: &'a [u8], area: &'a [u8], t: Tables, name: Stored) -> u
 }
 
 // A state of the first table of the name, as a row, or a warning.
-pub fn add_pst_state<'a>(
-    files: &'a [u8],
-    area: &'a [u8],
-    words: &[u32],
-    n: usize,
-    s: State,
-) -> Made
+pub fn add_pst_state<'a>(files: &'a [u8], area: &'a [u8], words: &[u32], n: usize, s: State) -> Made
     requires { ⌜ Room (now words) n s ⌝ }
     ensures { λ r. ⌜ ((st : Store) (log : Bytes) → Ready (length (now (files .entry))) (now (files .entry) ++ now (area .entry)) (now (words .entry)) n st s → Did (length (now (files .entry))) (now (files .entry) ++ now (area .entry)) st log s r (table-state-command (modelOf (now (files .entry) ++ now (area .entry)) st s log) (wordsFrom (now (files .entry) ++ now (area .entry)) (now (words .entry)) n 1))) ⌝ }
 {
