@@ -38,16 +38,16 @@ use Rattle.made.specs.Done.{did-state}
 use Rattle.made.specs.Asked.{none-reach}
 use Rattle.portcmds.specs.Named.{BelowIs}
 
--- whether two stored names are the same
-abbrev pub isNet : Bytes → Below → Below → Bool
-isNet mem net b = same (belowOf mem b) (belowOf mem net)
+-- whether a stored name is w
+abbrev pub isCalled : Bytes → Bytes → Below → Bool
+isCalled mem w b = same (belowOf mem b) w
 
 -- a stored name, as it is read
 pub named-is : (mem : Bytes) (b : Below) (p q : Span) (r : Name) → p ≡ spanOf (b .scope) → q ≡ spanOf (b .word) → Makes mem p q 0 r → Name·nameOf mem r ≡ belowOf mem b
 named-is mem b p q r e g m = m .is ∙ ap (λ (u : Span). scoped (bytes mem u) (bytes mem q)) e ∙ ap (λ (u : Span). scoped (string mem (b .scope)) (bytes mem u)) g
 
-pub names-same : (mem : Bytes) (a b : Below) (x y : Name) (k r : Bool) → Name·nameOf mem x ≡ belowOf mem a → Name·nameOf mem y ≡ belowOf mem b → k ≡ same (Name·nameOf mem y) (Name·nameOf mem x) → k ≡ r → isNet mem a b ≡ r
-names-same mem a b x y k r ex ey h t = ap (λ (u : Bytes). same u (belowOf mem a)) (sym ey) ∙ ap (same (Name·nameOf mem y)) (sym ex) ∙ sym h ∙ t
+pub called-is : (mem w : Bytes) (b : Below) (y : Name) (k r : Bool) → Name·nameOf mem y ≡ belowOf mem b → k ≡ same (Name·nameOf mem y) w → k ≡ r → isCalled mem w b ≡ r
+called-is mem w b y k r e h t = ap (λ (u : Bytes). same u w) (sym e) ∙ sym h ∙ t
 
 -- ---- looking for one that passes a test: of the first n elements i are passed, and none of them passes it
 pub record Seeks {A : Type 0} (t : A → Bool) (l : List A) (n i : ℕ) : Type 0 where
@@ -93,7 +93,7 @@ module _ (long : ℕ) (mem : Bytes) (words : List ℕ) (n : ℕ) (st : Store) (l
   unfolding modelOf
   count = sized-length (belowOf mem) (v .shaped .nets)
 
-  module _ (net : Below) (b : Bool) (a : BelowIs mem words n (s .head .scope) net) (e : b ≡ any (isNet mem net) (take (s .nets .n) (s .nets .all))) where
+  module _ (net : Below) (b : Bool) (a : BelowIs mem words n (s .head .scope) net) (e : b ≡ any (isCalled mem (belowOf mem net)) (take (s .nets .n) (s .nets .all))) where
     net-is : scoped (now .scope) (nameOf ws) ≡ belowOf mem net
     unfolding modelOf
     net-is = sym (a .is)
@@ -103,7 +103,7 @@ module _ (long : ℕ) (mem : Bytes) (words : List ℕ) (n : ℕ) (st : Store) (l
 
     known-is : any (λ (x : Bytes). same x (belowOf mem net)) (now .nets) ≡ b
     unfolding modelOf
-    known-is = any-map (belowOf mem) (λ (x : Bytes). same x (belowOf mem net)) (isNet mem net) (λ y. refl) (take (s .nets .n) (s .nets .all)) ∙ sym e
+    known-is = any-map (belowOf mem) (λ (x : Bytes). same x (belowOf mem net)) (isCalled mem (belowOf mem net)) (λ y. refl) (take (s .nets .n) (s .nets .all)) ∙ sym e
 
     told : net-command now ws ≡ cond b now (with-nets now more)
     unfolding net-command

@@ -11,7 +11,7 @@ ghost use Rattle.model.specs.Commands.{net-command};
 ghost use Rattle.store.specs.Strings.{belowOf};
 ghost use Rattle.store.specs.View.{Store, modelOf};
 ghost use Rattle.made.specs.Made.{Room, Ready, Did};
-ghost use Rattle.netcmds.specs.Nets.{isNet};
+ghost use Rattle.netcmds.specs.Nets.{isCalled};
 use made::Made;
 use made::fine;
 use made::full;
@@ -37,7 +37,7 @@ fn name_of(files: &[u8], area: &[u8], b: Below) -> Name
 // Whether a net of this name was created.
 fn known_net<'a>(files: &'a [u8], area: &'a [u8], t: Nets, net: Below) -> bool
     requires { ⌜ t .n ≤ 32 ⌝ }
-    ensures { λ r. ⌜ r ≡ any (isNet (now (files .entry) ++ now (area .entry)) net) (take (t .n) (t .all)) ⌝ }
+    ensures { λ r. ⌜ r ≡ any (isCalled (now (files .entry) ++ now (area .entry)) (belowOf (now (files .entry) ++ now (area .entry)) net)) (take (t .n) (t .all)) ⌝ }
 {
     let x = name_of(files, area, net);
     let n = t.n;
