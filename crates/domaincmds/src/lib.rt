@@ -1,15 +1,18 @@
 // create_power_domain, set_domain_supply_net.
 ghost use mathlib.Core.List.{List, _++_};
-ghost use Prim.Native.Nat.{ℕ, _<_, _^_};
+ghost use mathlib.Core.Path.{_≡_};
+ghost use Prim.Native.Nat.{ℕ, _≤_, _<_, _^_};
 ghost use Rattle.text.specs.Ascii.{Bytes};
 ghost use Rattle.spans.specs.Span.{pairs};
 ghost use Rattle.spans.specs.Reach.{spanEnd, lastOf};
-ghost use lib.ListN.{length};
+ghost use lib.ListN.{length, take};
 ghost use Rattle.args.specs.View.{wordsFrom};
-ghost use Rattle.model.specs.Commands.{domain-command};
+ghost use Rattle.model.specs.Commands.{domain-command, supply-command};
 ghost use Rattle.store.specs.View.{Store, modelOf};
+ghost use Rattle.store.specs.First.{firstAt};
 ghost use Rattle.made.specs.Made.{Room, Ready, Did};
 ghost use Rattle.domaincmds.specs.Domains.{DomainIs};
+ghost use Rattle.domaincmds.specs.Supplies.{isNamed};
 use args::argument::flag;
 use args::argument::name;
 use args::argument::option;
@@ -70,7 +73,10 @@ pub fn create_power_domain<'a>(
 }
 
 // The first domain of the name; the number of domains where there is none.
-fn find_domain<'a>(files: &'a [u8], area: &'a [u8], t: Domains, name: Stored) -> usize {
+fn find_domain<'a>(files: &'a [u8], area: &'a [u8], t: Domains, name: Stored) -> usize
+    requires { ⌜ t .n ≤ 32 ⌝ }
+    ensures { λ r. ⌜ r ≡ firstAt (isNamed (now (files .entry) ++ now (area .entry)) name) (take (t .n) (t .all)) ⌝ }
+{
     let n = t.n;
     let mut i = 0;
     while i < n {
@@ -84,13 +90,17 @@ fn find_domain<'a>(files: &'a [u8], area: &'a [u8], t: Domains, name: Stored) ->
     n
 }
 
+// Both supplies of the first domain of the name anew, or a warning.
 pub fn set_domain_supply_net<'a>(
     files: &'a [u8],
     area: &'a [u8],
     words: &[u32],
     n: usize,
     s: State,
-) -> Made {
+) -> Made
+    requires { ⌜ Room (now words) n s ⌝ }
+    ensures { λ r. ⌜ ((st : Store) (log : Bytes) → Ready (length (now (files .entry))) (now (files .entry) ++ now (area .entry)) (now (words .entry)) n st s → Did (length (now (files .entry))) (now (files .entry) ++ now (area .entry)) st log s r (supply-command (modelOf (now (files .entry) ++ now (area .entry)) st s log) (wordsFrom (now (files .entry) ++ now (area .entry)) (now (words .entry)) n 1))) ⌝ }
+{
     let named = narrow(name(files, area, words, n));
     let t = s.domains;
     let i = find_domain(files, area, t, named);

@@ -1,3 +1,5 @@
 pub mod Made
 pub mod Dids
 pub mod Asked
+pub mod Done
+pub mod Firsts
