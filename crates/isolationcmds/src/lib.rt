@@ -1,4 +1,17 @@
 // set_isolation, set_isolation_control.
+ghost use mathlib.Core.Path.{_≡_};
+ghost use mathlib.Core.List.{List, _++_};
+ghost use Prim.Native.Nat.{ℕ, _≤_, _<_, _^_};
+ghost use lib.ListN.{length, take};
+ghost use Rattle.text.specs.Ascii.{Bytes};
+ghost use Rattle.spans.specs.Span.{pairs};
+ghost use Rattle.spans.specs.Reach.{spanEnd, lastOf};
+ghost use Rattle.args.specs.View.{wordsFrom};
+ghost use Rattle.model.specs.Commands.{added, isolation-command, control-command};
+ghost use Rattle.store.specs.View.{Store, modelOf};
+ghost use Rattle.store.specs.First.{firstAt};
+ghost use Rattle.made.specs.Made.{Room, Ready, Did};
+ghost use Rattle.isolationcmds.specs.Strategies.{isStrategyAt, IsolationIs, RenewedIs, AnewIs, ControlledIs};
 use args::argument::flag;
 use args::argument::name;
 use args::argument::option;
@@ -29,7 +42,10 @@ fn isolation<'a>(
     words: &[u32],
     n: usize,
     scope: Stored,
-) -> Isolation {
+) -> Isolation
+    requires { ⌜ lastOf spanEnd (pairs (now words) 0 n) < 2 ^ 32 ⌝ }
+    ensures { λ r. ⌜ IsolationIs (now (files .entry) ++ now (area .entry)) (now (words .entry)) n scope r ⌝ }
+{
     let named = name(files, area, words, n);
     let domain = option(files, area, words, n, b"-domain");
     let applies = option(files, area, words, n, b"-applies_to");
@@ -62,7 +78,10 @@ fn updated<'a>(
     x: Isolation,
     scope: Stored,
     elements: Stored,
-) -> Isolation {
+) -> Isolation
+    requires { ⌜ lastOf spanEnd (pairs (now words) 0 n) < 2 ^ 32 ⌝ }
+    ensures { λ r. ⌜ RenewedIs (now (files .entry) ++ now (area .entry)) (now (words .entry)) n x scope elements r ⌝ }
+{
     let applies = option(files, area, words, n, b"-applies_to");
     let clamp = option(files, area, words, n, b"-clamp_value");
     let signal = option(files, area, words, n, b"-isolation_signal");
@@ -99,7 +118,10 @@ fn update<'a>(
     n: usize,
     scope: Stored,
     x: Isolation,
-) -> Isolation {
+) -> Isolation
+    requires { ⌜ lastOf spanEnd (pairs (now words) 0 n) < 2 ^ 32 ⌝ }
+    ensures { λ r. ⌜ AnewIs (now (files .entry)) (now (area .entry)) (now (words .entry)) n scope x r ⌝ }
+{
     match option(files, area, words, n, b"-elements") {
         Found::None => {
             let old_scope = x.scope;
@@ -124,7 +146,9 @@ fn is_strategy<'a>(
     x: Isolation,
     name: Stored,
     domain: Stored,
-) -> bool {
+) -> bool
+    ensures { λ r. ⌜ r ≡ isStrategyAt (now (files .entry) ++ now (area .entry)) name domain x ⌝ }
+{
     let named = x.name;
     let of = x.domain;
     if !same_spans(files, area, span(named), span(name)) {
@@ -143,7 +167,10 @@ fn find_strategy<'a>(
     t: Isolations,
     name: Stored,
     domain: Stored,
-) -> usize {
+) -> usize
+    requires { ⌜ t .n ≤ 32 ⌝ }
+    ensures { λ r. ⌜ r ≡ firstAt (isStrategyAt (now (files .entry) ++ now (area .entry)) name domain) (take (t .n) (t .all)) ⌝ }
+{
     let n = t.n;
     let mut i = 0;
     while i < n {
@@ -157,7 +184,10 @@ fn find_strategy<'a>(
 }
 
 // A new strategy.
-fn enter<'a>(files: &'a [u8], area: &'a [u8], words: &[u32], n: usize, s: State) -> Made {
+fn enter<'a>(files: &'a [u8], area: &'a [u8], words: &[u32], n: usize, s: State) -> Made
+    requires { ⌜ Room (now words) n s ⌝ }
+    ensures { λ r. ⌜ ((st : Store) (log : Bytes) → Ready (length (now (files .entry))) (now (files .entry) ++ now (area .entry)) (now (words .entry)) n st s → Did (length (now (files .entry))) (now (files .entry) ++ now (area .entry)) st log s r (added (modelOf (now (files .entry) ++ now (area .entry)) st s log) (wordsFrom (now (files .entry) ++ now (area .entry)) (now (words .entry)) n 1))) ⌝ }
+{
     if 32 <= s.isolations.n {
         return full(s);
     }
@@ -167,13 +197,11 @@ fn enter<'a>(files: &'a [u8], area: &'a [u8], words: &[u32], n: usize, s: State)
     fine(add_isolation(s, x))
 }
 
-pub fn set_isolation<'a>(
-    files: &'a [u8],
-    area: &'a [u8],
-    words: &[u32],
-    n: usize,
-    s: State,
-) -> Made {
+// A new strategy, or one changed; `-no_isolation` is only remarked.
+pub fn set_isolation<'a>(files: &'a [u8], area: &'a [u8], words: &[u32], n: usize, s: State) -> Made
+    requires { ⌜ Room (now words) n s ⌝ }
+    ensures { λ r. ⌜ ((st : Store) (log : Bytes) → Ready (length (now (files .entry))) (now (files .entry) ++ now (area .entry)) (now (words .entry)) n st s → Did (length (now (files .entry))) (now (files .entry) ++ now (area .entry)) st log s r (isolation-command (modelOf (now (files .entry) ++ now (area .entry)) st s log) (wordsFrom (now (files .entry) ++ now (area .entry)) (now (words .entry)) n 1))) ⌝ }
+{
     let named = narrow(name(files, area, words, n));
     if flag(files, area, words, n, b"-no_isolation") {
         return warned(s, 4, named);
@@ -201,7 +229,10 @@ fn controlled<'a>(
     words: &[u32],
     n: usize,
     x: Isolation,
-) -> Isolation {
+) -> Isolation
+    requires { ⌜ lastOf spanEnd (pairs (now words) 0 n) < 2 ^ 32 ⌝ }
+    ensures { λ r. ⌜ ControlledIs (now (files .entry) ++ now (area .entry)) (now (words .entry)) n x r ⌝ }
+{
     let signal = option(files, area, words, n, b"-isolation_signal");
     let sense = option(files, area, words, n, b"-isolation_sense");
     let named = x.name;
@@ -228,13 +259,17 @@ fn controlled<'a>(
     }
 }
 
+// The signal and the sense of a strategy anew, or a warning.
 pub fn set_isolation_control<'a>(
     files: &'a [u8],
     area: &'a [u8],
     words: &[u32],
     n: usize,
     s: State,
-) -> Made {
+) -> Made
+    requires { ⌜ Room (now words) n s ⌝ }
+    ensures { λ r. ⌜ ((st : Store) (log : Bytes) → Ready (length (now (files .entry))) (now (files .entry) ++ now (area .entry)) (now (words .entry)) n st s → Did (length (now (files .entry))) (now (files .entry) ++ now (area .entry)) st log s r (control-command (modelOf (now (files .entry) ++ now (area .entry)) st s log) (wordsFrom (now (files .entry) ++ now (area .entry)) (now (words .entry)) n 1))) ⌝ }
+{
     let named = narrow(name(files, area, words, n));
     let domain = or_empty(option(files, area, words, n, b"-domain"));
     let t = s.isolations;
