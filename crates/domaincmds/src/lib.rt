@@ -1,0 +1,118 @@
+// create_power_domain, set_domain_supply_net.
+ghost use mathlib.Core.List.{List, _++_};
+ghost use mathlib.Core.Path.{_≡_};
+ghost use Prim.Native.Nat.{ℕ, _≤_, _<_, _^_};
+ghost use Rattle.text.specs.Ascii.{Bytes};
+ghost use Rattle.spans.specs.Span.{pairs};
+ghost use Rattle.spans.specs.Reach.{spanEnd, lastOf};
+ghost use lib.ListN.{length, take};
+ghost use Rattle.args.specs.View.{wordsFrom};
+ghost use Rattle.model.specs.Commands.{domain-command, supply-command};
+ghost use Rattle.store.specs.View.{Store, modelOf};
+ghost use Rattle.store.specs.First.{firstAt};
+ghost use Rattle.made.specs.Made.{Room, Ready, Did};
+ghost use Rattle.domaincmds.specs.Domains.{DomainIs};
+ghost use Rattle.domaincmds.specs.Supplies.{isNamed};
+use args::argument::flag;
+use args::argument::name;
+use args::argument::option;
+use made::Made;
+use made::fine;
+use made::full;
+use made::warned;
+use spans::span::same_spans;
+use store::state::Domain;
+use store::state::Domains;
+use store::state::State;
+use store::state::add_domain;
+use store::state::set_domain;
+use store::state::supplied;
+use store::stored::MaybeBelow;
+use store::stored::Stored;
+use store::stored::maybe_below;
+use store::stored::narrow;
+use store::stored::or_empty;
+use store::stored::span;
+
+// The domain that the words of a command name.
+fn domain<'a>(files: &'a [u8], area: &'a [u8], words: &[u32], n: usize, scope: Stored) -> Domain
+    requires { ⌜ lastOf spanEnd (pairs (now words) 0 n) < 2 ^ 32 ⌝ }
+    ensures { λ r. ⌜ DomainIs (now (files .entry) ++ now (area .entry)) (now (words .entry)) n scope r ⌝ }
+{
+    let named = name(files, area, words, n);
+    let elements = option(files, area, words, n, b"-elements");
+    let whole = flag(files, area, words, n, b"-include_scope");
+    Domain {
+        name: narrow(named),
+        elements: or_empty(elements),
+        whole: whole,
+        power: MaybeBelow::Not,
+        ground: MaybeBelow::Not,
+        scope: scope,
+    }
+}
+
+// A domain more.
+pub fn create_power_domain<'a>(
+    files: &'a [u8],
+    area: &'a [u8],
+    words: &[u32],
+    n: usize,
+    s: State,
+) -> Made
+    requires { ⌜ Room (now words) n s ⌝ }
+    ensures { λ r. ⌜ ((st : Store) (log : Bytes) → Ready (length (now (files .entry))) (now (files .entry) ++ now (area .entry)) (now (words .entry)) n st s → Did (length (now (files .entry))) (now (files .entry) ++ now (area .entry)) st log s r (domain-command (modelOf (now (files .entry) ++ now (area .entry)) st s log) (wordsFrom (now (files .entry) ++ now (area .entry)) (now (words .entry)) n 1))) ⌝ }
+{
+    if 32 <= s.domains.n {
+        return full(s);
+    }
+    let h = s.head;
+    let scope = h.scope;
+    let d = domain(files, area, words, n, scope);
+    fine(add_domain(s, d))
+}
+
+// The first domain of the name; the number of domains where there is none.
+fn find_domain<'a>(files: &'a [u8], area: &'a [u8], t: Domains, name: Stored) -> usize
+    requires { ⌜ t .n ≤ 32 ⌝ }
+    ensures { λ r. ⌜ r ≡ firstAt (isNamed (now (files .entry) ++ now (area .entry)) name) (take (t .n) (t .all)) ⌝ }
+{
+    let n = t.n;
+    let mut i = 0;
+    while i < n {
+        let d = t.all[i];
+        let named = d.name;
+        if same_spans(files, area, span(named), span(name)) {
+            return i;
+        }
+        i += 1;
+    }
+    n
+}
+
+// Both supplies of the first domain of the name anew, or a warning.
+pub fn set_domain_supply_net<'a>(
+    files: &'a [u8],
+    area: &'a [u8],
+    words: &[u32],
+    n: usize,
+    s: State,
+) -> Made
+    requires { ⌜ Room (now words) n s ⌝ }
+    ensures { λ r. ⌜ ((st : Store) (log : Bytes) → Ready (length (now (files .entry))) (now (files .entry) ++ now (area .entry)) (now (words .entry)) n st s → Did (length (now (files .entry))) (now (files .entry) ++ now (area .entry)) st log s r (supply-command (modelOf (now (files .entry) ++ now (area .entry)) st s log) (wordsFrom (now (files .entry) ++ now (area .entry)) (now (words .entry)) n 1))) ⌝ }
+{
+    let named = narrow(name(files, area, words, n));
+    let t = s.domains;
+    let i = find_domain(files, area, t, named);
+    if t.n <= i {
+        return warned(s, 3, named);
+    }
+    let h = s.head;
+    let scope = h.scope;
+    let power = option(files, area, words, n, b"-primary_power_net");
+    let ground = option(files, area, words, n, b"-primary_ground_net");
+    let p = maybe_below(scope, power);
+    let g = maybe_below(scope, ground);
+    let d = t.all[i];
+    fine(set_domain(s, i, supplied(d, p, g)))
+}

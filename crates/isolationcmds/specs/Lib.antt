@@ -1,0 +1,5 @@
+pub mod Strategies
+pub mod Bounds
+pub mod Stored
+pub mod Entered
+pub mod Changed
