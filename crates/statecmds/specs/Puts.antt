@@ -63,6 +63,9 @@ module _ (mem : Bytes) (words : List ℕ) (n : ℕ) (ss : List State) (want : Bo
   pub putting-long : length nums ≡ length nums₀
   putting-long = ap length (inv .becomes) ∙ words-long nums₀ at (inv .put)
 
+  pub putting-big : 16384 ≤ length nums₀ → 16384 ≤ length nums
+  putting-big h = omega (arith, putting-long)
+
   module _ (one : Bool) (v : Span) (g : r ≡ Word·At one v) where
     abbrev this : State
     this = record { one = one; value = bytes mem v }
@@ -102,6 +105,9 @@ module _ (mem : Bytes) (words : List ℕ) (n : ℕ) (ss : List State) (want : Bo
         pub putting-place : at + length (chosen want ss) ≤ 4032 → o < 4032
         putting-place h = omega (arith, counted, inv .ends)
 
+        pub putting-more : at + length (chosen want ss) ≤ 4032 → o + 1 < 2 ^ 64
+        putting-more h = omega (arith, putting-place h)
+
         pub putting-on : (w : Stored) (nums′ : List ℕ) → w ≡ storedOf v → nums′ ≡ word-put nums o w → Putting mem words n ss want nums₀ at nums′ (k + 1) (o + 1)
         putting-on w nums′ ew en =
             record {
@@ -109,8 +115,25 @@ module _ (mem : Bytes) (words : List ℕ) (n : ℕ) (ss : List State) (want : Bo
               becomes = en ∙ ap (λ (l : List ℕ). word-put l o w) (inv .becomes) ∙ ap (λ (j : ℕ). word-put (wordsPut nums₀ at (inv .put)) j w) (inv .ends) ∙ words-push nums₀ at (inv .put) w;
               ends = omega (arith, inv .ends, length-append (inv .put) (w ∷ []));
               is =
-                let m : map (string mem) (inv .put ++ (w ∷ [])) ≡ map (string mem) (inv .put) ++ (bytes mem v ∷ []) = map-append (string mem) (inv .put) (w ∷ []) ∙ rw ew in
-                ap (λ (l : List Bytes). l ++ chosen want (drop (k + 1) ss)) m ∙ append-assoc (map (string mem) (inv .put)) (bytes mem v ∷ []) (chosen want (drop (k + 1) ss)) ∙ ap (λ (l : List Bytes). map (string mem) (inv .put) ++ l) (sym wanted-here) ∙ inv .is;
+                  let m : map (string mem) (inv .put ++ (w ∷ [])) ≡ map (string mem) (inv .put) ++ (bytes mem v ∷ []) = map-append (string mem) (inv .put) (w ∷ []) ∙ rw ew in
+                  ap (λ (l : List Bytes). l ++ chosen want (drop (k + 1) ss)) m ∙ append-assoc (map (string mem) (inv .put)) (bytes mem v ∷ []) (chosen want (drop (k + 1) ss)) ∙ ap (λ (l : List Bytes). map (string mem) (inv .put) ++ l) (sym wanted-here) ∙ inv .is;
               within = λ d z. within-snoc (λ s. d (spanOf s)) w (inv .within d z) (rw ew (rw g at (a .within d z)));
               short = inv .short;
             }
+
+-- ---- the numbers of a switch
+module _ (words : List ℕ) (n first mid end : ℕ) (m : SwitchRoom words n first mid end) where
+  pub first-fits : first < 2 ^ 32
+  first-fits = omega (arith, m .begins, m .goes-on, m .last)
+
+  pub ons-fits : mid - first < 2 ^ 32
+  ons-fits = omega (arith, m .begins, m .goes-on, m .last)
+
+  pub offs-fits : end - mid < 2 ^ 32
+  offs-fits = omega (arith, m .begins, m .goes-on, m .last)
+
+  pub first-mid : first ≤ mid
+  first-mid = m .begins
+
+  pub mid-end : mid ≤ end
+  mid-end = m .goes-on

@@ -38,8 +38,9 @@ use Rattle.made.specs.Dids.{one-over, did-full}
 use Rattle.made.specs.Done.{did-state}
 use Rattle.made.specs.Asked.{list-found, maybe-found, found-by, maybe-by, none-reach}
 use Rattle.lists.specs.States.{strings-length, line-states}
-use Rattle.statecmds.specs.Words.{wordsPut, worded, words-set, words-then, grown-view, grown-shaped, grown-bounded}
+use Rattle.statecmds.specs.Words.{wordsPut, worded, words-set, words-long, words-then, grown-view, grown-shaped, grown-bounded}
 use Rattle.statecmds.specs.Chosen.{chosen, ons-are, offs-are, both-kinds, ports-are, states-half, behind-name}
+use Rattle.statecmds.specs.Puts.{PutRoom, SwitchRoom}
 use Rattle.statecmds.specs.Stated.{Puts, SwitchIs, WordRoom, WordsDid}
 
 both : (a b : ℕ) {n : ℕ} → a ≤ n → b ≤ n → max a b ≤ n
@@ -113,12 +114,12 @@ module _ (mem : Bytes) (words : List ℕ) (n : ℕ) (scope : Stored) (first mid 
         ons = refl;
         offs = refl;
         within = λ e z m h l.
-          both (e named) _ (le-trans (a0 .within e z) l)
-          (both (ofMaybe (λ s. e (spanOf s)) (maybeFound domain)) _ (le-trans (maybe-by mem words n e z (optionOf (ascii "-domain") ws) domain a1) l)
-          (both (e (spanOf scope)) _ h
-          (both (e (spanOf (foundOr input))) _ (le-trans (found-by mem words n e z (optionOf (ascii "-input_supply_port") ws) input a2) l)
-          (both (e (spanOf (foundOr output))) (e (spanOf (foundOr controls))) (le-trans (found-by mem words n e z (optionOf (ascii "-output_supply_port") ws) output a3) l)
-          (le-trans (found-by mem words n e z (optionOf (ascii "-control_port") ws) controls a4) l)))));
+            both (e named) _ (le-trans (a0 .within e z) l)
+            (both (ofMaybe (λ s. e (spanOf s)) (maybeFound domain)) _ (le-trans (maybe-by mem words n e z (optionOf (ascii "-domain") ws) domain a1) l)
+            (both (e (spanOf scope)) _ h
+            (both (e (spanOf (foundOr input))) _ (le-trans (found-by mem words n e z (optionOf (ascii "-input_supply_port") ws) input a2) l)
+            (both (e (spanOf (foundOr output))) (e (spanOf (foundOr controls))) (le-trans (found-by mem words n e z (optionOf (ascii "-output_supply_port") ws) output a3) l)
+            (le-trans (found-by mem words n e z (optionOf (ascii "-control_port") ws) controls a4) l)))));
       })
 
 -- ---- the commands
@@ -178,6 +179,37 @@ module _ (long : ℕ) (mem : Bytes) (words : List ℕ) (n : ℕ) (nums : List �
   unfolding wordsPut
   port-full r h e = record { put = []; becomes = refl; stored = rw e (w .stored); did = λ st log v. none-put st log r (port-state-command (modelOf mem st s log) name rest) (port-over st log v r h e) }
 
+  -- ---- there is room
+  switch-last : s .switches .n < 32 → s .fill .words + length (states one two (strings mem words 0 n)) ≤ 4032
+  switch-last h = omega (arith, w .stored, w .portstates, few-states)
+
+  pub switch-room : s .switches .n < 32 → PutRoom words n nums (s .fill .words + length (chosen true (states one two (strings mem words 0 n))))
+  switch-room h = record { line = w .room .line; long = w .long; room = omega (arith, switch-last h, both-kinds (states one two line)) }
+
+  port-last : s .portstates .n < 32 → s .fill .words + length (chosen true (states one two (strings mem words 0 n))) ≤ 4032
+  port-last h = omega (arith, w .stored, w .switches, few-states, both-kinds (states one two line))
+
+  pub port-room : s .portstates .n < 32 → PutRoom words n nums (s .fill .words + length (chosen true (states one two (strings mem words 0 n))))
+  port-room h = record { line = w .room .line; long = w .long; room = port-last h }
+
+  module _ (nums1 : List ℕ) (end : ℕ) (p : Puts mem words n (chosen true (states one two (strings mem words 0 n))) nums nums1 (s .fill .words) end) where
+    its-length : length (p .put) ≡ length (chosen true (states one two line))
+    its-length = sym (length-map (p .put) (string mem)) ∙ ap length (p .is)
+
+    pub switch-room-2 : s .switches .n < 32 → PutRoom words n nums1 (end + length (chosen false (states one two (strings mem words 0 n))))
+    switch-room-2 h =
+        let e : length nums1 ≡ length nums = ap length (p .becomes) ∙ words-long nums (s .fill .words) (p .put) in
+        record { line = w .room .line; long = omega (arith, e, w .long); room = omega (arith, switch-last h, both-kinds (states one two line), p .ends, its-length) }
+
+    pub port-first : s .portstates .n < 32 → s .fill .words < 2 ^ 32
+    port-first h = omega (arith, port-last h)
+
+    pub port-begins : s .fill .words ≤ end
+    port-begins = omega (arith, p .ends)
+
+    pub port-count-fits : s .portstates .n < 32 → end - s .fill .words < 2 ^ 32
+    port-count-fits h = omega (arith, port-last h, p .ends, its-length)
+
   -- ---- a switch more
   module _ (nums1 nums2 : List ℕ) (mid end : ℕ) (p : Puts mem words n (chosen true (states one two (strings mem words 0 n))) nums nums1 (s .fill .words) mid) (q : Puts mem words n (chosen false (states one two (strings mem words 0 n))) nums1 nums2 mid end) where
     abbrev put : List Stored
@@ -198,8 +230,15 @@ module _ (long : ℕ) (mem : Bytes) (words : List ℕ) (n : ℕ) (nums : List �
     end-is : end ≡ s .fill .words + length put
     end-is = omega (arith, p .ends, q .ends, put-length)
 
+    pub switch-room-3 : s .switches .n < 32 → SwitchRoom words n (s .fill .words) mid end
+    switch-room-3 h =
+        record { line = w .room .line; begins = omega (arith, p .ends); goes-on = omega (arith, q .ends); last = omega (arith, switch-last h, few-put, end-is, put-length, ons-length, offs-length, both-kinds (states one two line)) }
+
     both-becomes : nums2 ≡ wordsPut nums (s .fill .words) put
     both-becomes = q .becomes ∙ ap (λ (l : List ℕ). wordsPut l mid (q .put)) (p .becomes) ∙ ap (λ (k : ℕ). wordsPut (wordsPut nums (s .fill .words) (p .put)) k (q .put)) (p .ends) ∙ words-then nums (s .fill .words) (p .put) (q .put)
+
+    pub both-long : length nums2 ≡ length nums
+    both-long = ap length both-becomes ∙ words-long nums (s .fill .words) put
 
     module _ (st : Store) (log : Bytes) (v : Ready long mem words n st s) where
       put-ends : Within (reachOf long) (length mem) put

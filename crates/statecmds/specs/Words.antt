@@ -97,8 +97,10 @@ module _ (st : Store) (s : State) (v : Shaped st s) (vs : List Stored) where
   pub grown-view : (mem log : Bytes) → modelOf mem (worded st vs) (words-set s (s .fill .words + length vs)) log ≡ modelOf mem st s log
   unfolding modelOf
   grown-view mem log =
-      rw (map-same (switchOf mem (st .words)) (switchOf mem (st .words ++ vs)) switchWords (v .switch-words) (switch-same mem (st .words) vs),
-          map-same (portStateOf mem (st .words)) (portStateOf mem (st .words ++ vs)) portWords (v .port-words) (port-same mem (st .words) vs))
+      rw (
+        map-same (switchOf mem (st .words)) (switchOf mem (st .words ++ vs)) switchWords (v .switch-words) (switch-same mem (st .words) vs),
+        map-same (portStateOf mem (st .words)) (portStateOf mem (st .words ++ vs)) portWords (v .port-words) (port-same mem (st .words) vs),
+      )
 
   longer : length (st .words ++ vs) ≡ s .fill .words + length vs
   longer = length-append (st .words) vs ∙ rw (v .words)

@@ -67,6 +67,8 @@ fn put_states<'a>(
                 if wanted(first, want) {
                     put_word(nums, o, narrow(v));
                     o += 1;
+                    k += 1;
+                    continue;
                 }
                 k += 1;
             }
