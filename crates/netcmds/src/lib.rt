@@ -1,4 +1,17 @@
 // create_supply_net: a net that is known is no new one.
+ghost use mathlib.Core.List.{List, _++_};
+ghost use mathlib.Core.Path.{_≡_};
+ghost use Prim.Native.Nat.{ℕ, _≤_};
+ghost use lib.ListN.{length, take};
+ghost use Rattle.text.specs.Ascii.{Bytes};
+ghost use Rattle.text.specs.Scan.{any};
+ghost use Rattle.names.specs.Name.{nameOf};
+ghost use Rattle.args.specs.View.{wordsFrom};
+ghost use Rattle.model.specs.Commands.{net-command};
+ghost use Rattle.store.specs.Strings.{belowOf};
+ghost use Rattle.store.specs.View.{Store, modelOf};
+ghost use Rattle.made.specs.Made.{Room, Ready, Did};
+ghost use Rattle.netcmds.specs.Nets.{isCalled};
 use made::Made;
 use made::fine;
 use made::full;
@@ -13,14 +26,19 @@ use store::stored::Below;
 use store::stored::span;
 
 // A name below a scope, as it is read.
-fn name_of(files: &[u8], area: &[u8], b: Below) -> Name {
+fn name_of(files: &[u8], area: &[u8], b: Below) -> Name
+    ensures { λ r. ⌜ nameOf (now (files .entry) ++ now (area .entry)) r ≡ belowOf (now (files .entry) ++ now (area .entry)) b ⌝ }
+{
     let scope = b.scope;
     let word = b.word;
     scoped(files, area, span(scope), span(word), 0)
 }
 
 // Whether a net of this name was created.
-fn known_net<'a>(files: &'a [u8], area: &'a [u8], t: Nets, net: Below) -> bool {
+fn known_net<'a>(files: &'a [u8], area: &'a [u8], t: Nets, net: Below) -> bool
+    requires { ⌜ t .n ≤ 32 ⌝ }
+    ensures { λ r. ⌜ r ≡ any (isCalled (now (files .entry) ++ now (area .entry)) (belowOf (now (files .entry) ++ now (area .entry)) net)) (take (t .n) (t .all)) ⌝ }
+{
     let x = name_of(files, area, net);
     let n = t.n;
     let mut i = 0;
@@ -35,14 +53,20 @@ fn known_net<'a>(files: &'a [u8], area: &'a [u8], t: Nets, net: Below) -> bool {
     false
 }
 
+// A net more, where none of this name is known.
 pub fn create_supply_net<'a>(
     files: &'a [u8],
     area: &'a [u8],
     words: &[u32],
     n: usize,
     s: State,
-) -> Made {
-    let net = named_below(files, area, words, n, s);
+) -> Made
+    requires { ⌜ Room (now words) n s ⌝ }
+    ensures { λ r. ⌜ ((st : Store) (log : Bytes) → Ready (length (now (files .entry))) (now (files .entry) ++ now (area .entry)) (now (words .entry)) n st s → Did (length (now (files .entry))) (now (files .entry) ++ now (area .entry)) st log s r (net-command (modelOf (now (files .entry) ++ now (area .entry)) st s log) (wordsFrom (now (files .entry) ++ now (area .entry)) (now (words .entry)) n 1))) ⌝ }
+{
+    let h = s.head;
+    let scope = h.scope;
+    let net = named_below(files, area, words, n, scope);
     let t = s.nets;
     if known_net(files, area, t, net) {
         return fine(s);

@@ -63,7 +63,7 @@ word-put l k w = set (set l (word-place k) (w .at)) (word-place k + 1) (w .len)
 -- a row can be held in five numbers
 pub record Packs (r : Row) : Type 0 where
   pub kind : r .kind < 16
-  pub at : r .scope .at < 131072
+  pub at : r .scope .at < 262144
   pub len : r .scope .len < 1024
 
 -- ---- laws

@@ -116,7 +116,7 @@ module _ (st : Store) (s : State) (a b : Stored) where
       record { scope = v .scope; top = v .top; domains = v .domains; nets = v .nets; ports = v .ports; switches = v .switches; isolations = v .isolations; retentions = v .retentions; shifters = v .shifters; portstates = v .portstates; tables = v .tables; variables = w; rows = v .rows; words = v .words }
 
 -- ---- the limits of records
-variables-length : (mem : Bytes) (l : List ℕ) (n : ℕ) → length (variables mem l n) ≡ n
+pub variables-length : (mem : Bytes) (l : List ℕ) (n : ℕ) → length (variables mem l n) ≡ n
 unfolding variables
 variables-length mem l zero = refl
 variables-length mem l (suc n) = length-append (variables mem l n) (variableAt mem l n ∷ []) ∙ rw (variables-length mem l n) (add-one n)

@@ -1,4 +1,18 @@
 // create_pst, add_pst_state.
+ghost use mathlib.Core.List.{List, _++_};
+ghost use mathlib.Core.Path.{_≡_};
+ghost use Prim.Native.Nat.{ℕ, _≤_, _<_, _^_};
+ghost use Rattle.text.specs.Ascii.{Bytes};
+ghost use Rattle.spans.specs.Span.{pairs};
+ghost use Rattle.spans.specs.Reach.{spanEnd, lastOf};
+ghost use lib.ListN.{length, take};
+ghost use Rattle.args.specs.View.{wordsFrom};
+ghost use Rattle.model.specs.Commands.{table-command, table-state-command};
+ghost use Rattle.store.specs.View.{Store, modelOf};
+ghost use Rattle.store.specs.First.{firstAt};
+ghost use Rattle.made.specs.Made.{Room, Ready, Did};
+ghost use Rattle.tablecmds.specs.Tables.{TableIs};
+ghost use Rattle.tablecmds.specs.States.{isNamed};
 use args::argument::name;
 use args::argument::option;
 use made::Made;
@@ -17,24 +31,39 @@ use store::stored::narrow;
 use store::stored::or_empty;
 use store::stored::span;
 
-pub fn create_pst<'a>(files: &'a [u8], area: &'a [u8], words: &[u32], n: usize, s: State) -> Made {
+// The table that the words of a command name.
+fn table<'a>(files: &'a [u8], area: &'a [u8], words: &[u32], n: usize, scope: Stored) -> Table
+    requires { ⌜ lastOf spanEnd (pairs (now words) 0 n) < 2 ^ 32 ⌝ }
+    ensures { λ r. ⌜ TableIs (now (files .entry) ++ now (area .entry)) (now (words .entry)) n scope r ⌝ }
+{
+    let named = name(files, area, words, n);
+    let supplies = option(files, area, words, n, b"-supplies");
+    Table {
+        name: narrow(named),
+        scope: scope,
+        supplies: or_empty(supplies),
+    }
+}
+
+// A table more.
+pub fn create_pst<'a>(files: &'a [u8], area: &'a [u8], words: &[u32], n: usize, s: State) -> Made
+    requires { ⌜ Room (now words) n s ⌝ }
+    ensures { λ r. ⌜ ((st : Store) (log : Bytes) → Ready (length (now (files .entry))) (now (files .entry) ++ now (area .entry)) (now (words .entry)) n st s → Did (length (now (files .entry))) (now (files .entry) ++ now (area .entry)) st log s r (table-command (modelOf (now (files .entry) ++ now (area .entry)) st s log) (wordsFrom (now (files .entry) ++ now (area .entry)) (now (words .entry)) n 1))) ⌝ }
+{
     if 32 <= s.tables.n {
         return full(s);
     }
     let h = s.head;
     let scope = h.scope;
-    let named = name(files, area, words, n);
-    let supplies = option(files, area, words, n, b"-supplies");
-    let t = Table {
-        name: narrow(named),
-        scope: scope,
-        supplies: or_empty(supplies),
-    };
+    let t = table(files, area, words, n, scope);
     fine(add_table(s, t))
 }
 
 // The first table of the name; the number of tables where there is none.
-fn find_table<'a>(files: &'a [u8], area: &'a [u8], t: Tables, name: Stored) -> usize {
+fn find_table<'a>(files: &'a [u8], area: &'a [u8], t: Tables, name: Stored) -> usize
+    requires { ⌜ t .n ≤ 32 ⌝ }
+    ensures { λ r. ⌜ r ≡ firstAt (isNamed (now (files .entry) ++ now (area .entry)) name) (take (t .n) (t .all)) ⌝ }
+{
     let n = t.n;
     let mut i = 0;
     while i < n {
@@ -48,13 +77,11 @@ fn find_table<'a>(files: &'a [u8], area: &'a [u8], t: Tables, name: Stored) -> u
     n
 }
 
-pub fn add_pst_state<'a>(
-    files: &'a [u8],
-    area: &'a [u8],
-    words: &[u32],
-    n: usize,
-    s: State,
-) -> Made {
+// A state of the first table of the name, as a row, or a warning.
+pub fn add_pst_state<'a>(files: &'a [u8], area: &'a [u8], words: &[u32], n: usize, s: State) -> Made
+    requires { ⌜ Room (now words) n s ⌝ }
+    ensures { λ r. ⌜ ((st : Store) (log : Bytes) → Ready (length (now (files .entry))) (now (files .entry) ++ now (area .entry)) (now (words .entry)) n st s → Did (length (now (files .entry))) (now (files .entry) ++ now (area .entry)) st log s r (table-state-command (modelOf (now (files .entry) ++ now (area .entry)) st s log) (wordsFrom (now (files .entry) ++ now (area .entry)) (now (words .entry)) n 1))) ⌝ }
+{
     let table = or_empty(option(files, area, words, n, b"-pst"));
     let t = s.tables;
     let i = find_table(files, area, t, table);
