@@ -1,4 +1,19 @@
 // create_power_switch, add_port_state: their states are words of the store.
+ghost use mathlib.Core.Path.{_≡_};
+ghost use mathlib.Core.Bool.{cond, not};
+ghost use mathlib.Core.List.{_++_};
+ghost use Prim.Native.Nat.{ℕ, _+_, _≤_, _<_, _^_};
+ghost use lib.ListN.{length};
+ghost use Rattle.text.specs.Ascii.{ascii};
+ghost use Rattle.spans.specs.Span.{bytes, pairAt, pairs, strings};
+ghost use Rattle.spans.specs.Reach.{spanEnd, lastOf};
+ghost use Rattle.tcl.specs.Arguments.{states};
+ghost use Rattle.args.specs.View.{wordsFrom};
+ghost use Rattle.model.specs.Records.{Model};
+ghost use Rattle.model.specs.Commands.{switch-command, port-state-command};
+ghost use Rattle.statecmds.specs.Chosen.{chosen};
+ghost use Rattle.statecmds.specs.Puts.{PutRoom, SwitchRoom};
+ghost use Rattle.statecmds.specs.Stated.{Puts, SwitchIs, WordRoom, WordsDid};
 use args::argument::name;
 use args::argument::option;
 use args::state::State as Word;
@@ -18,6 +33,16 @@ use store::stored::narrow;
 use store::stored::or_empty;
 use store::word::put_word;
 
+// Whether a state is of the kind that is wanted: with the first key (`want`), or with the second.
+fn wanted(first: bool, want: bool) -> bool
+    ensures { λ r. ⌜ r ≡ cond want first (not first) ⌝ }
+{
+    if want {
+        return first;
+    }
+    !first
+}
+
 // Puts the states with the first key (`want`), or those with the second, into the store from word `at` on, and returns where they end.
 fn put_states<'a>(
     files: &'a [u8],
@@ -29,16 +54,21 @@ fn put_states<'a>(
     want: bool,
     nums: &mut [u32],
     at: usize,
-) -> usize {
+) -> usize
+    requires { ⌜ PutRoom (now words) n (now nums) (at + length (chosen want (states (now one) (now two) (strings (now files ++ now area) (now words) 0 n)))) ⌝ }
+    ensures { λ r. ⌜ Puts (now (files .entry) ++ now (area .entry)) (now (words .entry)) n (chosen want (states (now (one .entry)) (now (two .entry)) (strings (now (files .entry) ++ now (area .entry)) (now (words .entry)) 0 n))) (now (nums .entry)) (now (nums .exit)) at r ⌝ }
+{
     let mut k = 0;
     let mut o = at;
     loop {
         match state_at(files, area, words, n, one, two, k) {
             Word::None => return o,
             Word::At(first, v) => {
-                if first == want {
+                if wanted(first, want) {
                     put_word(nums, o, narrow(v));
                     o += 1;
+                    k += 1;
+                    continue;
                 }
                 k += 1;
             }
@@ -56,7 +86,10 @@ fn switch<'a>(
     first: usize,
     mid: usize,
     end: usize,
-) -> Switch {
+) -> Switch
+    requires { ⌜ SwitchRoom (now words) n first mid end ⌝ }
+    ensures { λ r. ⌜ SwitchIs (now (files .entry) ++ now (area .entry)) (now (words .entry)) n scope first mid end r ⌝ }
+{
     let named = name(files, area, words, n);
     let domain = option(files, area, words, n, b"-domain");
     let input = option(files, area, words, n, b"-input_supply_port");
@@ -75,6 +108,7 @@ fn switch<'a>(
     }
 }
 
+// A switch more, and the words of its states.
 pub fn create_power_switch<'a>(
     files: &'a [u8],
     area: &'a [u8],
@@ -82,7 +116,10 @@ pub fn create_power_switch<'a>(
     n: usize,
     nums: &mut [u32],
     s: State,
-) -> Made {
+) -> Made
+    requires { ⌜ WordRoom (ascii "-on_state") (ascii "-off_state") (now files ++ now area) (now words) n (now nums) s ⌝ }
+    ensures { λ r. ⌜ WordsDid (length (now (files .entry))) (now (files .entry) ++ now (area .entry)) (now (words .entry)) n (now (nums .entry)) (now (nums .exit)) s r (λ (m : Model). switch-command m (bytes (now (files .entry) ++ now (area .entry)) (pairAt (now (words .entry)) 0)) (wordsFrom (now (files .entry) ++ now (area .entry)) (now (words .entry)) n 1)) ⌝ }
+{
     if 32 <= s.switches.n {
         return full(s);
     }
@@ -117,6 +154,7 @@ pub fn create_power_switch<'a>(
     fine(u)
 }
 
+// A port state more, and the words of its states.
 pub fn add_port_state<'a>(
     files: &'a [u8],
     area: &'a [u8],
@@ -124,7 +162,10 @@ pub fn add_port_state<'a>(
     n: usize,
     nums: &mut [u32],
     s: State,
-) -> Made {
+) -> Made
+    requires { ⌜ WordRoom (ascii "-state") (ascii "-state") (now files ++ now area) (now words) n (now nums) s ⌝ }
+    ensures { λ r. ⌜ WordsDid (length (now (files .entry))) (now (files .entry) ++ now (area .entry)) (now (words .entry)) n (now (nums .entry)) (now (nums .exit)) s r (λ (m : Model). port-state-command m (bytes (now (files .entry) ++ now (area .entry)) (pairAt (now (words .entry)) 0)) (wordsFrom (now (files .entry) ++ now (area .entry)) (now (words .entry)) n 1)) ⌝ }
+{
     if 32 <= s.portstates.n {
         return full(s);
     }

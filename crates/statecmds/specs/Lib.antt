@@ -1,0 +1,5 @@
+pub mod Words
+pub mod Chosen
+pub mod Stated
+pub mod Puts
+pub mod Switches
