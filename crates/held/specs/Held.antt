@@ -81,10 +81,14 @@ pub record Lent (o : ℕ) (area₀ area nums₀ nums : List ℕ) : Type 0 where
   pub low : take 1472 nums ≡ take 1472 nums₀
   pub high : drop 14656 nums ≡ drop 14656 nums₀
 
--- what is carried out from the state s on comes to the reading d; the log's buffer was log₀ at the start
-pub record Ran (files area₀ area nums₀ nums log₀ log : List ℕ) (s : State) (r : Out) (d : Reading) : Type 0 where
+-- an answer stands for the reading d, and what d has in its log was written to the buffer, which was log₀ at the start
+pub record Comes (files area nums log₀ log : List ℕ) (r : Out) (d : Reading) : Type 0 where
   pub result : readingOf files area nums (logOf d) r ≡ d
-  pub held : r .tag ≡ 0 → Held files area nums 0 (r .state)
   pub logged : r .tag ≡ 0 → Logged log₀ log (r .state .fill .log) (logOf d)
+
+-- what is carried out from the state s on, when the log's buffer was log₁: by what stood in the log it comes to the reading D
+pub record Ran (files area₀ area nums₀ nums log₁ log : List ℕ) (s : State) (r : Out) (D : Bytes → Reading) : Type 0 where
+  pub held : r .tag ≡ 0 → Held files area nums 0 (r .state)
   pub more : r .tag ≡ 0 → s .fill .end ≤ r .state .fill .end
   pub lent : Lent (s .fill .end) area₀ area nums₀ nums
+  pub reads : (log₀ text : Bytes) → Logged log₀ log₁ (s .fill .log) text → Comes files area nums log₀ log r (D text)
