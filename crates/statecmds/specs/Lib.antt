@@ -3,3 +3,4 @@ pub mod Chosen
 pub mod Stated
 pub mod Puts
 pub mod Switches
+pub mod Stays

@@ -11,7 +11,7 @@ use Rattle.text.specs.Ascii.{Bytes}
 use Rattle.store.specs.Strings.{string}
 use Rattle.store.specs.View.{Store, wordsAt, switchOf, portStateOf, modelOf}
 use Rattle.store.specs.Order.{Within, switchWords, portWords, Shaped, Bounded}
-use Rattle.store.specs.Rows.{word-place, word-put, wordsIn, rowsIn, words-put, word-put-before, word-put-behind, word-put-long, rows-kept}
+use Rattle.store.specs.Rows.{word-place, word-put, wordsIn, rowsIn, storeOf, words-put, word-put-before, word-put-behind, word-put-long, rows-kept}
 use Rattle.store.specs.Tables.{map-same, within-le, within-append}
 use Rattle.store.specs.declared.stored.Stored.{Stored}
 use Rattle.store.specs.declared.state.Switch.{Switch}
@@ -112,3 +112,7 @@ module _ (st : Store) (s : State) (v : Shaped st s) (vs : List Stored) where
 
 pub grown-bounded : (e : Stored → ℕ) (n : ℕ) (st : Store) (s : State) (vs : List Stored) → Bounded e n st s → Within e n vs → (k : ℕ) → Bounded e n (worded st vs) (words-set s k)
 grown-bounded e n st s vs v w k = record { scope = v .scope; top = v .top; domains = v .domains; nets = v .nets; ports = v .ports; switches = v .switches; isolations = v .isolations; retentions = v .retentions; shifters = v .shifters; portstates = v .portstates; tables = v .tables; variables = v .variables; rows = v .rows; words = within-append e (v .words) w }
+
+-- ---- the store as the numbers hold it grows by the words
+pub store-more : (l : List ℕ) (s : State) (ws : List Stored) → s .fill .rows ≤ 1024 → word-place (s .fill .words + length ws) ≤ length l → storeOf (wordsPut l (s .fill .words) ws) (words-set s (s .fill .words + length ws)) ≡ worded (storeOf l s) ws
+store-more l s ws h g = λ i. record { rows = words-rows l (s .fill .words) ws (s .fill .rows) h i; words = words-more l (s .fill .words) ws g i }
