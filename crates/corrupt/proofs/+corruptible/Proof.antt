@@ -63,36 +63,144 @@ pub +corruptible-spec : {M : Type 1} → statement M
     (λ c. search retaineds)  -- returns
     (λ c κs. search rooms)  -- stem-requires
     (λ c κs. search needs)  -- part-requires-2
-    (λ c κs. (own-given _ _ _ _ _ _ _ [] _ _ _ _ (c .before .before .before .before .before .before .before .before .before .before .before .before .before .before .before .before .before .before .before .before .pre .1 .0) (c .before .before .before .before .before .before .before .before .before .before .before .before .before .before .before .before .before .before .before .before .pre .1 .1 .0) _ _ (c .before .before .before .before .before .before .stem .ensures) _ (c .before .before .part2 .ensures), c .before .before .before .before .before .before .before .before .before .before .before .before .before .before .before .before .before .before .before .before .pre .1 .1 .1))  -- own-requires
+    (λ c κs.
+    let at-part2 = c .before .before in
+    let at-stem = at-part2 .before .before .before .before in
+    let start = at-stem .before .before .before .before .before .before .before .before .before .before .before .before .before .before in
+    (own-given _ _ _ _ _ _ _ [] _ _ _ _ (start .pre .1 .0) (start .pre .1 .1 .0) _ _ (at-stem .stem .ensures) _ (at-part2 .part2 .ensures), start .pre .1 .1 .1))  -- own-requires
     (λ c. search needs)  -- same-length-2
     (λ c. search needs)  -- same-length-3
     (λ c. search needs)  -- same-length-4
-    (λ c. walk-full _ _ _ _ _ _ _ _ _ _ _ _ (c .before .before .before .before .before .before .before .before .before .before .before .before .before .before .before .before .before .before .before .before .before .before .before .before .before .before .pre .1 .0) (c .before .before .before .before .before .before .before .before .before .before .before .before .before .before .before .before .before .before .before .before .before .before .before .before .before .before .pre .1 .1 .0) _ (c .before .before .before .before .before .before .before .before .before .before .before .before .before .before .before .before .part .ensures) _ (c .before .before .before .before .before .before .before .before .before .before .before .before .before .before .before .retained .ensures) (c .before .before .before .before .before .before .before .before .before .before .before .before .before .before .if1 .left) _ _ (c .before .before .before .before .before .before .before .before .before .before .before .before .stem .ensures) _ (c .before .before .before .before .before .before .before .before .part2 .ensures) _ _ _ _ _ _ (c .before .before .before .before .before .own .ensures) (c .if2 .taken))  -- returns-2
+    (λ c.
+    let at-own = c .before .before .before .before .before in
+    let at-part2 = at-own .before .before .before in
+    let at-stem = at-part2 .before .before .before .before in
+    let at-if1 = at-stem .before .before in
+    let at-retained = at-if1 .before in
+    let at-part = at-retained .before in
+    let start = at-part .before .before .before .before .before .before .before .before .before .before in
+    walk-full _ _ _ _ _ _ _ _ _ _ _ _ (start .pre .1 .0) (start .pre .1 .1 .0) _ (at-part .part .ensures) _ (at-retained .retained .ensures) (at-if1 .if1 .left) _ _ (at-stem .stem .ensures) _ (at-part2 .part2 .ensures) _ _ _ _ _ _ (at-own .own .ensures) (c .if2 .taken))  -- returns-2
     (λ c. search needs)  -- same-length-5
     (λ c. search needs)  -- same-length-6
     (λ c. search needs)  -- same-length-7
-    (λ c. walk-last _ _ _ _ _ _ _ _ _ _ _ _ (c .before .before .before .before .before .before .before .before .before .before .before .before .before .before .before .before .before .before .before .before .before .before .before .before .before .before .before .pre .1 .0) (c .before .before .before .before .before .before .before .before .before .before .before .before .before .before .before .before .before .before .before .before .before .before .before .before .before .before .before .pre .1 .1 .0) _ (c .before .before .before .before .before .before .before .before .before .before .before .before .before .before .before .before .before .part .ensures) _ (c .before .before .before .before .before .before .before .before .before .before .before .before .before .before .before .before .retained .ensures) (c .before .before .before .before .before .before .before .before .before .before .before .before .before .before .before .if1 .left) _ _ (c .before .before .before .before .before .before .before .before .before .before .before .before .before .stem .ensures) _ (c .before .before .before .before .before .before .before .before .before .part2 .ensures) _ _ _ _ _ _ (c .before .before .before .before .before .before .own .ensures) (c .before .if2 .left) (c .if3 .taken))  -- returns-3
-    (λ c κs. module-row _ _ _ _ _ _ _ _ _ _ (c .before .before .before .before .before .before .before .before .before .before .before .before .before .before .before .before .before .before .before .before .before .before .before .before .before .before .before .pre .1 .0))  -- insts-end-requires
-    (λ c κs. module-row _ _ _ _ _ _ _ _ _ _ (c .before .before .before .before .before .before .before .before .before .before .before .before .before .before .before .before .before .before .before .before .before .before .before .before .before .before .before .before .pre .1 .0))  -- insts-from-requires
-    (λ c. (search needs, (search needs, (search needs, round-start _ _ _ _ _ _ _ _ _ _ _ _ _ _ _ (c .before .before .before .before .before .before .before .before .before .before .before .before .before .before .before .before .before .before .before .before .before .before .before .before .before .before .before .before .before .pre .1 .0) (c .before .before .before .before .before .before .before .before .before .before .before .before .before .before .before .before .before .before .before .before .before .before .before .before .before .before .before .before .before .pre .1 .1 .0) (c .before .before .before .before .before .before .before .before .before .before .before .before .before .before .before .stem .ensures) (c .before .before .if3 .left) _ _ _ _ _ (c .before .before .before .before .before .before .before .before .own .ensures) (c .before .before .before .if2 .left) _ _ (c .insts-from .ensures) (c .before .insts-end .ensures)))))  -- loop-holds
+    (λ c.
+    let at-if2 = c .before in
+    let at-own = at-if2 .before .before .before .before .before in
+    let at-part2 = at-own .before .before .before in
+    let at-stem = at-part2 .before .before .before .before in
+    let at-if1 = at-stem .before .before in
+    let at-retained = at-if1 .before in
+    let at-part = at-retained .before in
+    let start = at-part .before .before .before .before .before .before .before .before .before .before in
+    walk-last _ _ _ _ _ _ _ _ _ _ _ _ (start .pre .1 .0) (start .pre .1 .1 .0) _ (at-part .part .ensures) _ (at-retained .retained .ensures) (at-if1 .if1 .left) _ _ (at-stem .stem .ensures) _ (at-part2 .part2 .ensures) _ _ _ _ _ _ (at-own .own .ensures) (at-if2 .if2 .left) (c .if3 .taken))  -- returns-3
+    (λ c κs.
+    let start = c .before .before .before .before .before .before .before .before .before .before .before .before .before .before .before .before .before .before .before .before .before .before .before .before .before .before .before in
+    module-row _ _ _ _ _ _ _ _ _ _ (start .pre .1 .0))  -- insts-end-requires
+    (λ c κs.
+    let start = c .before .before .before .before .before .before .before .before .before .before .before .before .before .before .before .before .before .before .before .before .before .before .before .before .before .before .before .before in
+    module-row _ _ _ _ _ _ _ _ _ _ (start .pre .1 .0))  -- insts-from-requires
+    (λ c.
+    let at-insts-end = c .before in
+    let at-if3 = at-insts-end .before in
+    let at-if2 = at-if3 .before in
+    let at-own = at-if2 .before .before .before .before .before in
+    let at-stem = at-own .before .before .before .before .before .before .before in
+    let start = at-stem .before .before .before .before .before .before .before .before .before .before .before .before .before .before in
+    (search needs, (search needs, (search needs, round-start _ _ _ _ _ _ _ _ _ _ _ _ _ _ _ (start .pre .1 .0) (start .pre .1 .1 .0) (at-stem .stem .ensures) (at-if3 .if3 .left) _ _ _ _ _ (at-own .own .ensures) (at-if2 .if2 .left) _ _ (c .insts-from .ensures) (at-insts-end .insts-end .ensures)))))  -- loop-holds
     (λ c κs. search needs)  -- next-inst-requires
     (λ c. search needs)  -- enum-known-r
     (λ c. search needs)  -- enum-told
     (λ c. search needs)  -- same-length-8
     (λ c. search needs)  -- same-length-9
     (λ c. search needs)  -- same-length-10
-    (λ c. walk-done _ _ _ _ _ _ _ _ _ _ _ _ (c .before .before .before .before .before .before .before .before .before .before .before .before .before .before .before .before .before .before .before .before .before .before .before .before .before .before .before .before .before .before .before .before .before .pre .1 .0) (c .before .before .before .before .before .before .before .before .before .before .before .before .before .before .before .before .before .before .before .before .before .before .before .before .before .before .before .before .before .before .before .before .before .pre .1 .1 .0) _ (c .before .before .before .before .before .before .before .before .before .before .before .before .before .before .before .before .before .before .before .before .before .before .before .part .ensures) _ (c .before .before .before .before .before .before .before .before .before .before .before .before .before .before .before .before .before .before .before .before .before .before .retained .ensures) (c .before .before .before .before .before .before .before .before .before .before .before .before .before .before .before .before .before .before .before .before .before .if1 .left) _ _ (c .before .before .before .before .before .before .before .before .before .before .before .before .before .before .before .before .before .before .before .stem .ensures) _ (c .before .before .before .before .before .before .before .before .before .before .before .before .before .before .before .part2 .ensures) _ _ _ _ _ _ (c .before .before .before .before .before .before .before .before .before .before .before .before .own .ensures) (c .before .before .before .before .before .before .before .if2 .left) (c .before .before .before .before .before .before .if3 .left) _ _ _ _ (round-end _ _ _ _ _ _ _ _ _ _ _ _ _ _ _ _ _ _ _ _ _ _ (c .before .before .before .loop .inv .1 .1 .1) _ (c .before .before .next-inst .ensures) (c .enum-told .given .1)) (c .before .before .before .loop .inv .1 .1 .1 .front))  -- returns-4
-    (λ c κs. c .before .before .before .before .loop .inv .1 .1 .1 .given .few)  -- entering-requires
-    (λ c. round-less _ _ _ _ _ _ _ _ _ _ _ _ _ _ _ _ _ _ _ _ _ _ (c .before .before .before .before .before .before .loop .inv .1 .1 .1) _ (c .before .before .before .before .before .next-inst .ensures) _ _ _ _ (c .before .before .before .r .given .1))  -- loop-less
-    (λ c. (c .before .before .before .before .before .before .loop .inv .0, (c .before .before .before .before .before .before .loop .inv .1 .0, (c .before .before .before .before .before .before .loop .inv .1 .1 .0, round-pass _ _ _ _ _ _ _ _ _ _ _ _ _ _ _ _ _ _ _ _ _ _ (c .before .before .before .before .before .before .loop .inv .1 .1 .1) _ (c .before .before .before .before .before .next-inst .ensures) _ _ _ _ (c .before .before .before .r .given .1) _ (c .before .entering .ensures) (c .if4 .taken)))))  -- loop-again
+    (λ c.
+    let at-next-inst = c .before .before in
+    let at-loop = at-next-inst .before in
+    let at-if3 = at-loop .before .before .before in
+    let at-if2 = at-if3 .before in
+    let at-own = at-if2 .before .before .before .before .before in
+    let at-part2 = at-own .before .before .before in
+    let at-stem = at-part2 .before .before .before .before in
+    let at-if1 = at-stem .before .before in
+    let at-retained = at-if1 .before in
+    let at-part = at-retained .before in
+    let start = at-part .before .before .before .before .before .before .before .before .before .before in
+    walk-done _ _ _ _ _ _ _ _ _ _ _ _ (start .pre .1 .0) (start .pre .1 .1 .0) _ (at-part .part .ensures) _ (at-retained .retained .ensures) (at-if1 .if1 .left) _ _ (at-stem .stem .ensures) _ (at-part2 .part2 .ensures) _ _ _ _ _ _ (at-own .own .ensures) (at-if2 .if2 .left) (at-if3 .if3 .left) _ _ _ _ (round-end _ _ _ _ _ _ _ _ _ _ _ _ _ _ _ _ _ _ _ _ _ _ (at-loop .loop .inv .1 .1 .1) _ (at-next-inst .next-inst .ensures) (c .enum-told .given .1)) (at-loop .loop .inv .1 .1 .1 .front))  -- returns-4
+    (λ c κs.
+    let at-loop = c .before .before .before .before in
+    at-loop .loop .inv .1 .1 .1 .given .few)  -- entering-requires
+    (λ c.
+    let at-r = c .before .before .before in
+    let at-next-inst = at-r .before .before in
+    let at-loop = at-next-inst .before in
+    round-less _ _ _ _ _ _ _ _ _ _ _ _ _ _ _ _ _ _ _ _ _ _ (at-loop .loop .inv .1 .1 .1) _ (at-next-inst .next-inst .ensures) _ _ _ _ (at-r .r .given .1))  -- loop-less
+    (λ c.
+    let at-entering = c .before in
+    let at-r = at-entering .before .before in
+    let at-next-inst = at-r .before .before in
+    let at-loop = at-next-inst .before in
+    (at-loop .loop .inv .0, (at-loop .loop .inv .1 .0, (at-loop .loop .inv .1 .1 .0, round-pass _ _ _ _ _ _ _ _ _ _ _ _ _ _ _ _ _ _ _ _ _ _ (at-loop .loop .inv .1 .1 .1) _ (at-next-inst .next-inst .ensures) _ _ _ _ (at-r .r .given .1) _ (at-entering .entering .ensures) (c .if4 .taken)))))  -- loop-again
     (λ c κs. search needs)  -- part-of-requires
     (λ c κs. search needs)  -- put-requires
     (λ c. search needs)  -- sub-corruptible
     (λ c. search needs)  -- sub-corruptible-2
-    (λ c κs. (omega (arith, c .before .before .before .before .before .before .before .before .before .before .before .before .before .before .before .before .before .before .before .before .before .before .before .before .before .before .before .before .before .before .before .before .before .before .before .before .before .before .before .before .before .before .before .before .pre .0, c .before .before .before .before .before .before .before .before .before .before .before .before .before .before .loop .inv .1 .1 .1 .more), (round-given _ _ _ _ _ _ _ _ _ _ _ _ _ _ _ _ _ _ _ _ _ _ (c .before .before .before .before .before .before .before .before .before .before .before .before .before .before .loop .inv .1 .1 .1) _ (c .before .before .before .before .before .before .before .before .before .before .before .before .before .next-inst .ensures) _ _ _ _ (c .before .before .before .before .before .before .before .before .before .before .before .r .given .1) _ (c .before .before .before .before .before .before .before .before .before .entering .ensures) (c .before .before .before .before .before .before .before .before .if4 .left) _ (c .before .before .before .before .before .before .part-of .ensures) _ _ (c .before .before .before .before .before .put .ensures), (round-long _ _ _ _ _ _ _ _ _ _ _ _ _ _ _ _ _ _ _ _ _ _ (c .before .before .before .before .before .before .before .before .before .before .before .before .before .before .loop .inv .1 .1 .1) _ (c .before .before .before .before .before .before .before .before .before .before .before .before .before .next-inst .ensures) _ _ _ _ (c .before .before .before .before .before .before .before .before .before .before .before .r .given .1) _ (c .before .before .before .before .before .before .before .before .before .entering .ensures) (c .before .before .before .before .before .before .before .before .if4 .left) _ (c .before .before .before .before .before .before .part-of .ensures) _ _ (c .before .before .before .before .before .put .ensures) (c .before .before .before .before .before .put .kept .0), c .before .before .before .before .before .before .before .before .before .before .before .before .before .before .loop .inv .1 .1 .1 .turn .ready))))  -- corruptible-requires
-    (λ c. c .before .before .before .before .before .before .before .corruptible .kept .1 .1 .1 .1 .1 .1 .1 .1 .1 .1 .1 .1 .0 ∙ c .before .before .before .before .before .before .before .before .before .before .before .before .before .put .kept .0 ∙ c .before .before .before .before .before .before .before .before .before .before .before .before .before .before .before .before .before .before .before .before .before .before .loop .inv .0 ∙ c .before .before .before .before .before .before .before .before .before .before .before .before .before .before .before .before .before .before .before .before .before .before .before .before .before .before .before .before .before .before .before .before .before .before .before .before .before .before .stem .kept .0)  -- same-length-11
-    (λ c. c .before .before .before .before .before .before .before .corruptible .kept .1 .1 .1 .1 .1 .1 .1 .1 .1 .1 .1 .1 .1 .1 .1 .0 ∙ c .before .before .before .before .before .before .before .before .before .before .before .before .before .before .before .before .before .before .before .before .before .before .loop .inv .1 .0 ∙ c .before .before .before .before .before .before .before .before .before .before .before .before .before .before .before .before .before .before .before .before .before .before .before .before .before .before .before .before .before .before .before .own .kept .1 .1 .1 .1 .1 .1 .1 .1 .1 .0)  -- same-length-12
-    (λ c. c .before .before .before .before .before .before .before .corruptible .kept .1 .1 .1 .1 .1 .1 .1 .1 .1 .1 .1 .1 .1 .1 .1 .1 .0 ∙ c .before .before .before .before .before .before .before .before .before .before .before .before .before .before .before .before .before .before .before .before .before .before .loop .inv .1 .1 .0 ∙ c .before .before .before .before .before .before .before .before .before .before .before .before .before .before .before .before .before .before .before .before .before .before .before .before .before .before .before .before .before .before .before .own .kept .1 .1 .1 .1 .1 .1 .1 .1 .1 .1 .0)  -- same-length-13
-    (λ c. walk-done _ _ _ _ _ _ _ _ _ _ _ _ (c .before .before .before .before .before .before .before .before .before .before .before .before .before .before .before .before .before .before .before .before .before .before .before .before .before .before .before .before .before .before .before .before .before .before .before .before .before .before .before .before .before .before .before .before .before .before .before .before .before .before .before .before .pre .1 .0) (c .before .before .before .before .before .before .before .before .before .before .before .before .before .before .before .before .before .before .before .before .before .before .before .before .before .before .before .before .before .before .before .before .before .before .before .before .before .before .before .before .before .before .before .before .before .before .before .before .before .before .before .before .pre .1 .1 .0) _ (c .before .before .before .before .before .before .before .before .before .before .before .before .before .before .before .before .before .before .before .before .before .before .before .before .before .before .before .before .before .before .before .before .before .before .before .before .before .before .before .before .before .before .part .ensures) _ (c .before .before .before .before .before .before .before .before .before .before .before .before .before .before .before .before .before .before .before .before .before .before .before .before .before .before .before .before .before .before .before .before .before .before .before .before .before .before .before .before .before .retained .ensures) (c .before .before .before .before .before .before .before .before .before .before .before .before .before .before .before .before .before .before .before .before .before .before .before .before .before .before .before .before .before .before .before .before .before .before .before .before .before .before .before .before .if1 .left) _ _ (c .before .before .before .before .before .before .before .before .before .before .before .before .before .before .before .before .before .before .before .before .before .before .before .before .before .before .before .before .before .before .before .before .before .before .before .before .before .before .stem .ensures) _ (c .before .before .before .before .before .before .before .before .before .before .before .before .before .before .before .before .before .before .before .before .before .before .before .before .before .before .before .before .before .before .before .before .before .before .part2 .ensures) _ _ _ _ _ _ (c .before .before .before .before .before .before .before .before .before .before .before .before .before .before .before .before .before .before .before .before .before .before .before .before .before .before .before .before .before .before .before .own .ensures) (c .before .before .before .before .before .before .before .before .before .before .before .before .before .before .before .before .before .before .before .before .before .before .before .before .before .before .if2 .left) (c .before .before .before .before .before .before .before .before .before .before .before .before .before .before .before .before .before .before .before .before .before .before .before .before .before .if3 .left) _ _ _ _ (round-stop _ _ _ _ _ _ _ _ _ _ _ _ _ _ _ _ _ _ _ _ _ _ (c .before .before .before .before .before .before .before .before .before .before .before .before .before .before .before .before .before .before .before .before .before .before .loop .inv .1 .1 .1) _ (c .before .before .before .before .before .before .before .before .before .before .before .before .before .before .before .before .before .before .before .before .before .next-inst .ensures) _ _ _ _ (c .before .before .before .before .before .before .before .before .before .before .before .before .before .before .before .before .before .before .before .r .given .1) _ (c .before .before .before .before .before .before .before .before .before .before .before .before .before .before .before .before .before .entering .ensures) (c .before .before .before .before .before .before .before .before .before .before .before .before .before .before .before .before .if4 .left) _ (c .before .before .before .before .before .before .before .before .before .before .before .before .before .before .part-of .ensures) _ _ (c .before .before .before .before .before .before .before .before .before .before .before .before .before .put .ensures) _ _ _ _ (c .before .before .before .before .before .before .before .corruptible .ensures) (c .if5 .taken)) (round-front _ _ _ _ _ _ _ _ _ _ _ _ _ _ _ _ _ _ _ _ _ _ (c .before .before .before .before .before .before .before .before .before .before .before .before .before .before .before .before .before .before .before .before .before .before .loop .inv .1 .1 .1) _ (c .before .before .before .before .before .before .before .before .before .before .before .before .before .before .before .before .before .before .before .before .before .next-inst .ensures) _ _ _ _ (c .before .before .before .before .before .before .before .before .before .before .before .before .before .before .before .before .before .before .before .r .given .1) _ (c .before .before .before .before .before .before .before .before .before .before .before .before .before .before .before .before .before .entering .ensures) (c .before .before .before .before .before .before .before .before .before .before .before .before .before .before .before .before .if4 .left) _ (c .before .before .before .before .before .before .before .before .before .before .before .before .before .before .part-of .ensures) _ _ (c .before .before .before .before .before .before .before .before .before .before .before .before .before .put .ensures) _ _ _ _ (c .before .before .before .before .before .before .before .corruptible .ensures)))  -- returns-5
-    (λ c. round-less _ _ _ _ _ _ _ _ _ _ _ _ _ _ _ _ _ _ _ _ _ _ (c .before .before .before .before .before .before .before .before .before .before .before .before .before .before .before .before .before .before .before .before .before .before .loop .inv .1 .1 .1) _ (c .before .before .before .before .before .before .before .before .before .before .before .before .before .before .before .before .before .before .before .before .before .next-inst .ensures) _ _ _ _ (c .before .before .before .before .before .before .before .before .before .before .before .before .before .before .before .before .before .before .before .r .given .1))  -- loop-less-2
-    (λ c. (c .before .before .before .before .before .before .before .corruptible .kept .1 .1 .1 .1 .1 .1 .1 .1 .1 .1 .1 .1 .0 ∙ c .before .before .before .before .before .before .before .before .before .before .before .before .before .put .kept .0 ∙ c .before .before .before .before .before .before .before .before .before .before .before .before .before .before .before .before .before .before .before .before .before .before .loop .inv .0, (c .before .before .before .before .before .before .before .corruptible .kept .1 .1 .1 .1 .1 .1 .1 .1 .1 .1 .1 .1 .1 .1 .1 .0 ∙ c .before .before .before .before .before .before .before .before .before .before .before .before .before .before .before .before .before .before .before .before .before .before .loop .inv .1 .0, (c .before .before .before .before .before .before .before .corruptible .kept .1 .1 .1 .1 .1 .1 .1 .1 .1 .1 .1 .1 .1 .1 .1 .1 .0 ∙ c .before .before .before .before .before .before .before .before .before .before .before .before .before .before .before .before .before .before .before .before .before .before .loop .inv .1 .1 .0, round-on _ _ _ _ _ _ _ _ _ _ _ _ _ _ _ _ _ _ _ _ _ _ (c .before .before .before .before .before .before .before .before .before .before .before .before .before .before .before .before .before .before .before .before .before .before .loop .inv .1 .1 .1) _ (c .before .before .before .before .before .before .before .before .before .before .before .before .before .before .before .before .before .before .before .before .before .next-inst .ensures) _ _ _ _ (c .before .before .before .before .before .before .before .before .before .before .before .before .before .before .before .before .before .before .before .r .given .1) _ (c .before .before .before .before .before .before .before .before .before .before .before .before .before .before .before .before .before .entering .ensures) (c .before .before .before .before .before .before .before .before .before .before .before .before .before .before .before .before .if4 .left) _ (c .before .before .before .before .before .before .before .before .before .before .before .before .before .before .part-of .ensures) _ _ (c .before .before .before .before .before .before .before .before .before .before .before .before .before .put .ensures) _ _ _ _ (c .before .before .before .before .before .before .before .corruptible .ensures) (c .if5 .left) (c .before .before .before .before .before .before .before .corruptible .kept .1 .1 .1 .1 .1 .1 .1 .1 .1 .1 .1 .1 .0 ∙ c .before .before .before .before .before .before .before .before .before .before .before .before .before .put .kept .0)))))  -- loop-again-2
+    (λ c κs.
+    let at-put = c .before .before .before .before .before in
+    let at-part-of = at-put .before in
+    let at-if4 = at-part-of .before .before in
+    let at-entering = at-if4 .before in
+    let at-r = at-entering .before .before in
+    let at-next-inst = at-r .before .before in
+    let at-loop = at-next-inst .before in
+    let start = at-loop .before .before .before .before .before .before .before .before .before .before .before .before .before .before .before .before .before .before .before .before .before .before .before .before .before .before .before .before .before .before in
+    (omega (arith, start .pre .0, at-loop .loop .inv .1 .1 .1 .more), (round-given _ _ _ _ _ _ _ _ _ _ _ _ _ _ _ _ _ _ _ _ _ _ (at-loop .loop .inv .1 .1 .1) _ (at-next-inst .next-inst .ensures) _ _ _ _ (at-r .r .given .1) _ (at-entering .entering .ensures) (at-if4 .if4 .left) _ (at-part-of .part-of .ensures) _ _ (at-put .put .ensures), (round-long _ _ _ _ _ _ _ _ _ _ _ _ _ _ _ _ _ _ _ _ _ _ (at-loop .loop .inv .1 .1 .1) _ (at-next-inst .next-inst .ensures) _ _ _ _ (at-r .r .given .1) _ (at-entering .entering .ensures) (at-if4 .if4 .left) _ (at-part-of .part-of .ensures) _ _ (at-put .put .ensures) (at-put .put .kept .0), at-loop .loop .inv .1 .1 .1 .turn .ready))))  -- corruptible-requires
+    (λ c.
+    let at-corruptible = c .before .before .before .before .before .before .before in
+    let at-put = at-corruptible .before .before .before .before .before .before in
+    let at-loop = at-put .before .before .before .before .before .before .before .before .before in
+    let at-stem = at-loop .before .before .before .before .before .before .before .before .before .before .before .before .before .before .before .before in
+    at-corruptible .corruptible .kept .1 .1 .1 .1 .1 .1 .1 .1 .1 .1 .1 .1 .0 ∙ at-put .put .kept .0 ∙ at-loop .loop .inv .0 ∙ at-stem .stem .kept .0)  -- same-length-11
+    (λ c.
+    let at-corruptible = c .before .before .before .before .before .before .before in
+    let at-loop = at-corruptible .before .before .before .before .before .before .before .before .before .before .before .before .before .before .before in
+    let at-own = at-loop .before .before .before .before .before .before .before .before .before in
+    at-corruptible .corruptible .kept .1 .1 .1 .1 .1 .1 .1 .1 .1 .1 .1 .1 .1 .1 .1 .0 ∙ at-loop .loop .inv .1 .0 ∙ at-own .own .kept .1 .1 .1 .1 .1 .1 .1 .1 .1 .0)  -- same-length-12
+    (λ c.
+    let at-corruptible = c .before .before .before .before .before .before .before in
+    let at-loop = at-corruptible .before .before .before .before .before .before .before .before .before .before .before .before .before .before .before in
+    let at-own = at-loop .before .before .before .before .before .before .before .before .before in
+    at-corruptible .corruptible .kept .1 .1 .1 .1 .1 .1 .1 .1 .1 .1 .1 .1 .1 .1 .1 .1 .0 ∙ at-loop .loop .inv .1 .1 .0 ∙ at-own .own .kept .1 .1 .1 .1 .1 .1 .1 .1 .1 .1 .0)  -- same-length-13
+    (λ c.
+    let at-corruptible = c .before .before .before .before .before .before .before in
+    let at-put = at-corruptible .before .before .before .before .before .before in
+    let at-part-of = at-put .before in
+    let at-if4 = at-part-of .before .before in
+    let at-entering = at-if4 .before in
+    let at-r = at-entering .before .before in
+    let at-next-inst = at-r .before .before in
+    let at-loop = at-next-inst .before in
+    let at-if3 = at-loop .before .before .before in
+    let at-if2 = at-if3 .before in
+    let at-own = at-if2 .before .before .before .before .before in
+    let at-part2 = at-own .before .before .before in
+    let at-stem = at-part2 .before .before .before .before in
+    let at-if1 = at-stem .before .before in
+    let at-retained = at-if1 .before in
+    let at-part = at-retained .before in
+    let start = at-part .before .before .before .before .before .before .before .before .before .before in
+    walk-done _ _ _ _ _ _ _ _ _ _ _ _ (start .pre .1 .0) (start .pre .1 .1 .0) _ (at-part .part .ensures) _ (at-retained .retained .ensures) (at-if1 .if1 .left) _ _ (at-stem .stem .ensures) _ (at-part2 .part2 .ensures) _ _ _ _ _ _ (at-own .own .ensures) (at-if2 .if2 .left) (at-if3 .if3 .left) _ _ _ _ (round-stop _ _ _ _ _ _ _ _ _ _ _ _ _ _ _ _ _ _ _ _ _ _ (at-loop .loop .inv .1 .1 .1) _ (at-next-inst .next-inst .ensures) _ _ _ _ (at-r .r .given .1) _ (at-entering .entering .ensures) (at-if4 .if4 .left) _ (at-part-of .part-of .ensures) _ _ (at-put .put .ensures) _ _ _ _ (at-corruptible .corruptible .ensures) (c .if5 .taken)) (round-front _ _ _ _ _ _ _ _ _ _ _ _ _ _ _ _ _ _ _ _ _ _ (at-loop .loop .inv .1 .1 .1) _ (at-next-inst .next-inst .ensures) _ _ _ _ (at-r .r .given .1) _ (at-entering .entering .ensures) (at-if4 .if4 .left) _ (at-part-of .part-of .ensures) _ _ (at-put .put .ensures) _ _ _ _ (at-corruptible .corruptible .ensures)))  -- returns-5
+    (λ c.
+    let at-r = c .before .before .before .before .before .before .before .before .before .before .before .before .before .before .before .before .before .before .before in
+    let at-next-inst = at-r .before .before in
+    let at-loop = at-next-inst .before in
+    round-less _ _ _ _ _ _ _ _ _ _ _ _ _ _ _ _ _ _ _ _ _ _ (at-loop .loop .inv .1 .1 .1) _ (at-next-inst .next-inst .ensures) _ _ _ _ (at-r .r .given .1))  -- loop-less-2
+    (λ c.
+    let at-corruptible = c .before .before .before .before .before .before .before in
+    let at-put = at-corruptible .before .before .before .before .before .before in
+    let at-part-of = at-put .before in
+    let at-if4 = at-part-of .before .before in
+    let at-entering = at-if4 .before in
+    let at-r = at-entering .before .before in
+    let at-next-inst = at-r .before .before in
+    let at-loop = at-next-inst .before in
+    (at-corruptible .corruptible .kept .1 .1 .1 .1 .1 .1 .1 .1 .1 .1 .1 .1 .0 ∙ at-put .put .kept .0 ∙ at-loop .loop .inv .0, (at-corruptible .corruptible .kept .1 .1 .1 .1 .1 .1 .1 .1 .1 .1 .1 .1 .1 .1 .1 .0 ∙ at-loop .loop .inv .1 .0, (at-corruptible .corruptible .kept .1 .1 .1 .1 .1 .1 .1 .1 .1 .1 .1 .1 .1 .1 .1 .1 .0 ∙ at-loop .loop .inv .1 .1 .0, round-on _ _ _ _ _ _ _ _ _ _ _ _ _ _ _ _ _ _ _ _ _ _ (at-loop .loop .inv .1 .1 .1) _ (at-next-inst .next-inst .ensures) _ _ _ _ (at-r .r .given .1) _ (at-entering .entering .ensures) (at-if4 .if4 .left) _ (at-part-of .part-of .ensures) _ _ (at-put .put .ensures) _ _ _ _ (at-corruptible .corruptible .ensures) (c .if5 .left) (at-corruptible .corruptible .kept .1 .1 .1 .1 .1 .1 .1 .1 .1 .1 .1 .1 .0 ∙ at-put .put .kept .0)))))  -- loop-again-2

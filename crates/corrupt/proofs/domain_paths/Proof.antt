@@ -29,23 +29,76 @@ domain-paths-spec =
     Inv-loop
     μ-loop
     (λ c κs. search needs)  -- start-requires
-    (λ c. (refl, (refl, (refl, elements-start _ _ _ _ _ _ _ _ _ _ _ _ _ _ (c .before .before .before .before .before .before .before .before .before .before .pre) _ (c .start .ensures)))))  -- loop-holds
-    (λ c κs. element-row _ _ _ _ _ _ _ _ _ _ _ _ _ _ _ _ _ _ _ _ (c .before .loop .inv .1 .1 .1) (c .loop-test .taken))  -- row-requires
-    (λ c κs. element-given _ _ _ _ _ _ _ _ _ _ _ _ _ _ _ _ _ _ _ _ (c .before .before .loop .inv .1 .1 .1))  -- element-module-requires
-    (λ c. record { fits = element-fits _ _ _ _ _ _ _ _ _ _ _ _ _ _ _ _ _ _ _ _ (c .before .before .before .before .loop .inv .1 .1 .1) (c .before .before .before .loop-test .taken) })  -- add-i
+    (λ c.
+    let start = c .before .before .before .before .before .before .before .before .before .before in
+    (refl, (refl, (refl, elements-start _ _ _ _ _ _ _ _ _ _ _ _ _ _ (start .pre) _ (c .start .ensures)))))  -- loop-holds
+    (λ c κs.
+    let at-loop = c .before in
+    element-row _ _ _ _ _ _ _ _ _ _ _ _ _ _ _ _ _ _ _ _ (at-loop .loop .inv .1 .1 .1) (c .loop-test .taken))  -- row-requires
+    (λ c κs.
+    let at-loop = c .before .before in
+    element-given _ _ _ _ _ _ _ _ _ _ _ _ _ _ _ _ _ _ _ _ (at-loop .loop .inv .1 .1 .1))  -- element-module-requires
+    (λ c.
+    let at-loop-test = c .before .before .before in
+    let at-loop = at-loop-test .before in
+    record { fits = element-fits _ _ _ _ _ _ _ _ _ _ _ _ _ _ _ _ _ _ _ _ (at-loop .loop .inv .1 .1 .1) (at-loop-test .loop-test .taken) })  -- add-i
     (λ c. search needs)  -- loop-less
-    (λ c. (c .before .before .before .before .loop .inv .0, (c .before .before .before .before .loop .inv .1 .0, (c .before .before .before .before .loop .inv .1 .1 .0, elements-pass _ _ _ _ _ _ _ _ _ _ _ _ _ _ _ _ _ _ _ _ (c .before .before .before .before .loop .inv .1 .1 .1) (c .before .before .before .loop-test .taken) _ (c .before .before .row .ensures) _ (c .before .element-module .ensures) (c .if1 .taken)))))  -- loop-again
-    (λ c κs. c .before .before .before .before .loop .inv .1 .1 .1 .given .memory-small)  -- size-requires
+    (λ c.
+    let at-element-module = c .before in
+    let at-row = at-element-module .before in
+    let at-loop-test = at-row .before in
+    let at-loop = at-loop-test .before in
+    (at-loop .loop .inv .0, (at-loop .loop .inv .1 .0, (at-loop .loop .inv .1 .1 .0, elements-pass _ _ _ _ _ _ _ _ _ _ _ _ _ _ _ _ _ _ _ _ (at-loop .loop .inv .1 .1 .1) (at-loop-test .loop-test .taken) _ (at-row .row .ensures) _ (at-element-module .element-module .ensures) (c .if1 .taken)))))  -- loop-again
+    (λ c κs.
+    let at-loop = c .before .before .before .before in
+    at-loop .loop .inv .1 .1 .1 .given .memory-small)  -- size-requires
     (λ c. search needs)  -- sub-corruptible
-    (λ c κs. (element-walk _ _ _ _ _ _ _ _ _ _ _ _ _ _ _ _ _ _ _ _ (c .before .before .before .before .before .before .before .before .loop .inv .1 .1 .1) (c .before .before .before .before .before .before .before .loop-test .taken) _ (c .before .before .before .before .before .before .row .ensures) _ (c .before .before .before .before .before .element-module .ensures) (c .before .before .before .before .if1 .left) _ (c .before .before .before .size .ensures), (omega (arith, c .before .before .before .before .before .before .before .before .loop .inv .0, c .before .before .before .before .before .before .before .before .loop .inv .1 .1 .1 .given .tail-long), c .before .before .before .before .before .before .before .before .loop .inv .1 .1 .1 .turn .ready)))  -- corruptible-requires
-    (λ c. c .before .before .before .before .before .before .before .corruptible .kept .1 .1 .1 .1 .1 .1 .1 .1 .1 .1 .1 .1 .0 ∙ c .before .before .before .before .before .before .before .before .before .before .before .before .before .before .before .before .loop .inv .0)  -- same-length
-    (λ c. c .before .before .before .before .before .before .before .corruptible .kept .1 .1 .1 .1 .1 .1 .1 .1 .1 .1 .1 .1 .1 .1 .1 .0 ∙ c .before .before .before .before .before .before .before .before .before .before .before .before .before .before .before .before .loop .inv .1 .0)  -- same-length-2
-    (λ c. c .before .before .before .before .before .before .before .corruptible .kept .1 .1 .1 .1 .1 .1 .1 .1 .1 .1 .1 .1 .1 .1 .1 .1 .0 ∙ c .before .before .before .before .before .before .before .before .before .before .before .before .before .before .before .before .loop .inv .1 .1 .0)  -- same-length-3
-    (λ c. elements-stop _ _ _ _ _ _ _ _ _ _ _ _ _ _ _ _ _ _ _ _ (c .before .before .before .before .before .before .before .before .before .before .before .before .before .before .before .before .loop .inv .1 .1 .1) (c .before .before .before .before .before .before .before .before .before .before .before .before .before .before .before .loop-test .taken) _ (c .before .before .before .before .before .before .before .before .before .before .before .before .before .before .row .ensures) _ (c .before .before .before .before .before .before .before .before .before .before .before .before .before .element-module .ensures) (c .before .before .before .before .before .before .before .before .before .before .before .before .if1 .left) _ (c .before .before .before .before .before .before .before .before .before .before .before .size .ensures) _ _ _ _ _ (c .before .before .before .before .before .before .before .corruptible .ensures) (c .if2 .taken))  -- returns
-    (λ c. record { fits = element-fits _ _ _ _ _ _ _ _ _ _ _ _ _ _ _ _ _ _ _ _ (c .before .before .before .before .before .before .before .before .before .before .before .before .before .before .before .before .loop .inv .1 .1 .1) (c .before .before .before .before .before .before .before .before .before .before .before .before .before .before .before .loop-test .taken) })  -- add-i-2
+    (λ c κs.
+    let at-size = c .before .before .before in
+    let at-if1 = at-size .before in
+    let at-element-module = at-if1 .before in
+    let at-row = at-element-module .before in
+    let at-loop-test = at-row .before in
+    let at-loop = at-loop-test .before in
+    (element-walk _ _ _ _ _ _ _ _ _ _ _ _ _ _ _ _ _ _ _ _ (at-loop .loop .inv .1 .1 .1) (at-loop-test .loop-test .taken) _ (at-row .row .ensures) _ (at-element-module .element-module .ensures) (at-if1 .if1 .left) _ (at-size .size .ensures), (omega (arith, at-loop .loop .inv .0, at-loop .loop .inv .1 .1 .1 .given .tail-long), at-loop .loop .inv .1 .1 .1 .turn .ready)))  -- corruptible-requires
+    (λ c.
+    let at-corruptible = c .before .before .before .before .before .before .before in
+    let at-loop = at-corruptible .before .before .before .before .before .before .before .before .before in
+    at-corruptible .corruptible .kept .1 .1 .1 .1 .1 .1 .1 .1 .1 .1 .1 .1 .0 ∙ at-loop .loop .inv .0)  -- same-length
+    (λ c.
+    let at-corruptible = c .before .before .before .before .before .before .before in
+    let at-loop = at-corruptible .before .before .before .before .before .before .before .before .before in
+    at-corruptible .corruptible .kept .1 .1 .1 .1 .1 .1 .1 .1 .1 .1 .1 .1 .1 .1 .1 .0 ∙ at-loop .loop .inv .1 .0)  -- same-length-2
+    (λ c.
+    let at-corruptible = c .before .before .before .before .before .before .before in
+    let at-loop = at-corruptible .before .before .before .before .before .before .before .before .before in
+    at-corruptible .corruptible .kept .1 .1 .1 .1 .1 .1 .1 .1 .1 .1 .1 .1 .1 .1 .1 .1 .0 ∙ at-loop .loop .inv .1 .1 .0)  -- same-length-3
+    (λ c.
+    let at-corruptible = c .before .before .before .before .before .before .before in
+    let at-size = at-corruptible .before .before .before .before in
+    let at-if1 = at-size .before in
+    let at-element-module = at-if1 .before in
+    let at-row = at-element-module .before in
+    let at-loop-test = at-row .before in
+    let at-loop = at-loop-test .before in
+    elements-stop _ _ _ _ _ _ _ _ _ _ _ _ _ _ _ _ _ _ _ _ (at-loop .loop .inv .1 .1 .1) (at-loop-test .loop-test .taken) _ (at-row .row .ensures) _ (at-element-module .element-module .ensures) (at-if1 .if1 .left) _ (at-size .size .ensures) _ _ _ _ _ (at-corruptible .corruptible .ensures) (c .if2 .taken))  -- returns
+    (λ c.
+    let at-loop-test = c .before .before .before .before .before .before .before .before .before .before .before .before .before .before .before in
+    let at-loop = at-loop-test .before in
+    record { fits = element-fits _ _ _ _ _ _ _ _ _ _ _ _ _ _ _ _ _ _ _ _ (at-loop .loop .inv .1 .1 .1) (at-loop-test .loop-test .taken) })  -- add-i-2
     (λ c. search needs)  -- loop-less-2
-    (λ c. (c .before .before .before .before .before .before .before .corruptible .kept .1 .1 .1 .1 .1 .1 .1 .1 .1 .1 .1 .1 .0 ∙ c .before .before .before .before .before .before .before .before .before .before .before .before .before .before .before .before .loop .inv .0, (c .before .before .before .before .before .before .before .corruptible .kept .1 .1 .1 .1 .1 .1 .1 .1 .1 .1 .1 .1 .1 .1 .1 .0 ∙ c .before .before .before .before .before .before .before .before .before .before .before .before .before .before .before .before .loop .inv .1 .0, (c .before .before .before .before .before .before .before .corruptible .kept .1 .1 .1 .1 .1 .1 .1 .1 .1 .1 .1 .1 .1 .1 .1 .1 .0 ∙ c .before .before .before .before .before .before .before .before .before .before .before .before .before .before .before .before .loop .inv .1 .1 .0, elements-on _ _ _ _ _ _ _ _ _ _ _ _ _ _ _ _ _ _ _ _ (c .before .before .before .before .before .before .before .before .before .before .before .before .before .before .before .before .loop .inv .1 .1 .1) (c .before .before .before .before .before .before .before .before .before .before .before .before .before .before .before .loop-test .taken) _ (c .before .before .before .before .before .before .before .before .before .before .before .before .before .before .row .ensures) _ (c .before .before .before .before .before .before .before .before .before .before .before .before .before .element-module .ensures) (c .before .before .before .before .before .before .before .before .before .before .before .before .if1 .left) _ (c .before .before .before .before .before .before .before .before .before .before .before .size .ensures) _ _ _ _ _ (c .before .before .before .before .before .before .before .corruptible .ensures) (c .if2 .left)))))  -- loop-again-2
+    (λ c.
+    let at-corruptible = c .before .before .before .before .before .before .before in
+    let at-size = at-corruptible .before .before .before .before in
+    let at-if1 = at-size .before in
+    let at-element-module = at-if1 .before in
+    let at-row = at-element-module .before in
+    let at-loop-test = at-row .before in
+    let at-loop = at-loop-test .before in
+    (at-corruptible .corruptible .kept .1 .1 .1 .1 .1 .1 .1 .1 .1 .1 .1 .1 .0 ∙ at-loop .loop .inv .0, (at-corruptible .corruptible .kept .1 .1 .1 .1 .1 .1 .1 .1 .1 .1 .1 .1 .1 .1 .1 .0 ∙ at-loop .loop .inv .1 .0, (at-corruptible .corruptible .kept .1 .1 .1 .1 .1 .1 .1 .1 .1 .1 .1 .1 .1 .1 .1 .1 .0 ∙ at-loop .loop .inv .1 .1 .0, elements-on _ _ _ _ _ _ _ _ _ _ _ _ _ _ _ _ _ _ _ _ (at-loop .loop .inv .1 .1 .1) (at-loop-test .loop-test .taken) _ (at-row .row .ensures) _ (at-element-module .element-module .ensures) (at-if1 .if1 .left) _ (at-size .size .ensures) _ _ _ _ _ (at-corruptible .corruptible .ensures) (c .if2 .left)))))  -- loop-again-2
     (λ c. search needs)  -- same-length-4
     (λ c. search needs)  -- same-length-5
     (λ c. search needs)  -- same-length-6
-    (λ c. elements-end _ _ _ _ _ _ _ _ _ _ _ _ _ _ _ _ _ _ _ _ (c .before .loop .inv .1 .1 .1) (c .loop-test .left)))  -- returns-2
+    (λ c.
+    let at-loop = c .before in
+    elements-end _ _ _ _ _ _ _ _ _ _ _ _ _ _ _ _ _ _ _ _ (at-loop .loop .inv .1 .1 .1) (c .loop-test .left)))  -- returns-2

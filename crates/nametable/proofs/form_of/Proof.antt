@@ -1,3 +1,4 @@
+-- `nametable::form_of` meets its contract. Assumes nothing.
 use Rattle.text.specs.Cases.{cases}
 use Rattle.nametable.proofs.form_of.Statement.{statement}
 use Rattle.nametable.proofs.form_of.Tie as tie

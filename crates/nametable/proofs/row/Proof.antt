@@ -1,3 +1,4 @@
+-- `nametable::row` meets its contract. Assumes nothing.
 use borrow.Author.Needs.{needs}
 use Rattle.nametable.proofs.Rows.{reads}
 use Rattle.nametable.proofs.row.Statement.{statement}

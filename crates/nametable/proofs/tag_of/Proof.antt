@@ -1,3 +1,4 @@
+-- `nametable::tag_of` meets its contract. Assumes nothing.
 use Rattle.nametable.proofs.Rows.{tags}
 use Rattle.nametable.proofs.tag_of.Statement.{statement}
 use Rattle.nametable.proofs.tag_of.Tie as tie
