@@ -1,4 +1,14 @@
 // A command by its number in the table of names, where it writes neither the area nor the log nor words of states.
+ghost use mathlib.Core.List.{_++_};
+ghost use Prim.Native.Nat.{ℕ};
+ghost use lib.ListN.{length};
+ghost use Rattle.text.specs.Ascii.{Bytes};
+ghost use Rattle.spans.specs.Span.{bytes, pairAt};
+ghost use Rattle.args.specs.View.{wordsFrom};
+ghost use Rattle.model.specs.Numbers.{namedBy};
+ghost use Rattle.store.specs.View.{Store, modelOf};
+ghost use Rattle.made.specs.Made.{Room, Ready, Did};
+ghost use Rattle.enter.specs.Entered.{done, Enters};
 use domaincmds::create_power_domain;
 use domaincmds::set_domain_supply_net;
 use isolationcmds::set_isolation;
@@ -18,6 +28,7 @@ use store::state::State;
 use tablecmds::add_pst_state;
 use tablecmds::create_pst;
 
+// What the command does to the records; its words begin with its name.
 pub fn enter<'a>(
     files: &'a [u8],
     area: &'a [u8],
@@ -25,7 +36,10 @@ pub fn enter<'a>(
     n: usize,
     s: State,
     c: usize,
-) -> Made {
+) -> Made
+    requires { ⌜ (Room (now words) n s) × (Enters n c) ⌝ }
+    ensures { λ r. ⌜ ((st : Store) (log : Bytes) → Ready (length (now (files .entry))) (now (files .entry) ++ now (area .entry)) (now (words .entry)) n st s → Did (length (now (files .entry))) (now (files .entry) ++ now (area .entry)) st log s r (done (namedBy c) (modelOf (now (files .entry) ++ now (area .entry)) st s log) (bytes (now (files .entry) ++ now (area .entry)) (pairAt (now (words .entry)) 0)) (wordsFrom (now (files .entry) ++ now (area .entry)) (now (words .entry)) n 1))) ⌝ }
+{
     match c {
         0 => set(files, area, words, n, s),
         3 => set_design_top(files, area, words, n, s),
