@@ -1,0 +1,3 @@
+// Glue, package and report.
+pub mod report;
+pub mod texts;

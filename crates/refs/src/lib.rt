@@ -1,0 +1,211 @@
+// A text in pieces: a stored name, or its first bytes; a slash; another stored name; and a part of the job. A text without its first byte is a text.
+use names::name::Name;
+use names::put::put_mapped;
+use out::bytewise::becomes;
+use out::bytewise::flat;
+use text::part::part;
+
+// The bytes of the name, the first `upto` of them where `cut` is set; a slash where `sep` is set; the bytes of `last`; `len` bytes of the job from `at`
+// on.
+pub struct Ref {
+    pub name: Name,
+    pub cut: bool,
+    pub upto: usize,
+    pub sep: bool,
+    pub last: Name,
+    pub at: usize,
+    pub len: usize,
+}
+
+// No name.
+pub fn no_name() -> Name {
+    names::name::alone(spans::span::Span { at: 0, len: 0 }, 0)
+}
+
+// The first byte of a text, and the text without it.
+pub enum Step {
+    Byte(u8, Ref),
+    End,
+}
+
+// A whole name.
+pub fn whole(n: Name) -> Ref {
+    Ref {
+        name: n,
+        cut: false,
+        upto: 0,
+        sep: false,
+        last: no_name(),
+        at: 0,
+        len: 0,
+    }
+}
+
+// The first bytes of a name.
+pub fn front(n: Name, upto: usize) -> Ref {
+    Ref {
+        name: n,
+        cut: true,
+        upto: upto,
+        sep: false,
+        last: no_name(),
+        at: 0,
+        len: 0,
+    }
+}
+
+// A part of the job.
+pub fn of_job(at: usize, len: usize) -> Ref {
+    Ref {
+        name: no_name(),
+        cut: false,
+        upto: 0,
+        sep: false,
+        last: no_name(),
+        at: at,
+        len: len,
+    }
+}
+
+// The first byte of a part of the job.
+fn of_part(job: &[u8], at: usize, len: usize) -> Step {
+    if (len == 0) | (job.len() <= at) {
+        return Step::End;
+    }
+    Step::Byte(job[at], of_job(at + 1, len - 1))
+}
+
+// The first byte of what stands behind the name and the slash.
+fn of_last(job: &[u8], files: &[u8], area: &[u8], r: Ref) -> Step {
+    let n = r.last;
+    match names::name::next(files, area, n) {
+        names::name::Step::End => of_part(job, r.at, r.len),
+        names::name::Step::Byte(b, u) => {
+            let left = Ref {
+                name: no_name(),
+                cut: false,
+                upto: 0,
+                sep: false,
+                last: u,
+                at: r.at,
+                len: r.len,
+            };
+            Step::Byte(b, left)
+        }
+    }
+}
+
+// The first byte of what stands behind the name.
+fn behind(job: &[u8], files: &[u8], area: &[u8], r: Ref) -> Step {
+    if r.sep {
+        let n = r.last;
+        let left = Ref {
+            name: no_name(),
+            cut: false,
+            upto: 0,
+            sep: false,
+            last: n,
+            at: r.at,
+            len: r.len,
+        };
+        return Step::Byte(b'/', left);
+    }
+    of_last(job, files, area, r)
+}
+
+// The first byte of what is left, and what is left then.
+pub fn next(job: &[u8], files: &[u8], area: &[u8], r: Ref) -> Step {
+    if r.cut & (r.upto == 0) {
+        return behind(job, files, area, r);
+    }
+    let n = r.name;
+    let l = r.last;
+    match names::name::next(files, area, n) {
+        names::name::Step::End => behind(job, files, area, r),
+        names::name::Step::Byte(b, u) => {
+            let left = Ref {
+                name: u,
+                cut: r.cut,
+                upto: spans::span::minus(r.upto, 1),
+                sep: r.sep,
+                last: l,
+                at: r.at,
+                len: r.len,
+            };
+            Step::Byte(b, left)
+        }
+    }
+}
+
+// Whether two texts are the same.
+pub fn same_refs(job: &[u8], files: &[u8], area: &[u8], a: Ref, b: Ref) -> bool {
+    let mut x = a;
+    let mut y = b;
+    loop {
+        match next(job, files, area, x) {
+            Step::End => match next(job, files, area, y) {
+                Step::End => return true,
+                Step::Byte(_, _) => return false,
+            },
+            Step::Byte(p, u) => match next(job, files, area, y) {
+                Step::End => return false,
+                Step::Byte(q, v) => {
+                    if p != q {
+                        return false;
+                    }
+                    x = u;
+                    y = v;
+                }
+            },
+        }
+    }
+}
+
+// A slash as a dot, where dots are wanted.
+pub fn dot(dots: bool, b: u8) -> u8 {
+    if dots & (b == b'/') {
+        return b'.';
+    }
+    b
+}
+
+// Writes a text byte by byte in one of the modes of `becomes`, with `/` as `.` where dots are wanted.
+fn put_stream(out: &mut [u8], at: usize, m: u8, dots: bool, job: &[u8], files: &[u8], area: &[u8], r: Ref) -> usize {
+    let mut o = at;
+    let mut x = r;
+    loop {
+        match next(job, files, area, x) {
+            Step::End => return o,
+            Step::Byte(b, u) => {
+                o = becomes(out, o, m, dot(dots, b));
+                x = u;
+            }
+        }
+    }
+}
+
+// Writes what stands behind the name and the slash in one of the modes of `becomes`.
+fn put_last(out: &mut [u8], at: usize, m: u8, job: &[u8], files: &[u8], area: &[u8], r: Ref) -> usize {
+    let n = r.last;
+    let o = put_mapped(out, at, m, files, area, n);
+    flat(out, o, m, part(job, r.at, r.len))
+}
+
+// Writes a text in one of the modes of `becomes`.
+fn put_plain(out: &mut [u8], at: usize, m: u8, job: &[u8], files: &[u8], area: &[u8], r: Ref) -> usize {
+    let n = r.name;
+    let o = put_mapped(out, at, m, files, area, n);
+    if r.sep {
+        let p = becomes(out, o, m, b'/');
+        return put_last(out, p, m, job, files, area, r);
+    }
+    put_last(out, o, m, job, files, area, r)
+}
+
+// Writes a text in one of the modes of `becomes`, with `/` as `.` where dots are wanted.
+pub fn put(out: &mut [u8], at: usize, m: u8, dots: bool, job: &[u8], files: &[u8], area: &[u8], r: Ref) -> usize {
+    if dots | r.cut {
+        return put_stream(out, at, m, dots, job, files, area, r);
+    }
+    put_plain(out, at, m, job, files, area, r)
+}
