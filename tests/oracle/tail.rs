@@ -227,3 +227,74 @@ fn retention_of(r: Retention) -> records::Retention {
 fn table_of(p: Pst) -> records::Table {
     records::Table { name: p.name, supplies: p.supplies, states: p.states }
 }
+
+/// The reference's questions about the modules of a design, one by one.
+pub struct Asked<'a> {
+    design: Design<'a>,
+    modules: &'a [ModuleDeclaration],
+}
+
+impl<'a> Asked<'a> {
+    pub fn new(modules: &'a [ModuleDeclaration]) -> Asked<'a> {
+        let design = Design { modules: modules.iter().map(|m| (m.name.name.clone(), m)).collect() };
+        Asked { design: design, modules: modules }
+    }
+
+    /// The number of a module from 1, 0 for none.
+    fn number(&self, m: Option<&'a ModuleDeclaration>) -> usize {
+        m.map_or(0, |m| 1 + self.modules.iter().position(|x| x.name.name == m.name.name).unwrap())
+    }
+
+    pub fn at(&self, from: usize, path: &[String]) -> usize {
+        self.number(self.design.module_at(&self.modules[from], path))
+    }
+
+    pub fn typed(&self, from: usize, target: &str) -> Option<Vec<String>> {
+        self.design.find_by_type(&self.modules[from], target, 0)
+    }
+
+    pub fn outputs(&self, m: usize) -> Vec<String> {
+        Design::output_ports(&self.modules[m])
+    }
+
+    pub fn inputs(&self, m: usize) -> Vec<String> {
+        Design::input_ports(&self.modules[m])
+    }
+
+    /// The names that the module itself loses.
+    pub fn losable(&self, m: usize) -> Vec<String> {
+        let mut out = Vec::new();
+        self.design.corruptible(&self.modules[m], "", &[], &mut out, 32);
+        out
+    }
+
+    /// The net at the port of an instance.
+    pub fn actual(&self, m: usize, inst: usize, sub: usize, port: &str) -> Option<String> {
+        let all = Design::instances(&self.modules[m]);
+        Design::output_actual(&self.modules[m], all[inst].2, &self.modules[sub], port)
+    }
+
+    /// The paths that elements lose from a module at the instances of a scope, as `generate` asks for them.
+    pub fn walk(&self, base: usize, scope: &[String], elements: &[String], retained: &[String]) -> Vec<String> {
+        let dotted = |rel: &str| {
+            let mut parts = scope.to_vec();
+            parts.push(rel.replace('/', "."));
+            parts.join(".")
+        };
+        let skip: Vec<String> = retained.iter().map(|e| dotted(e)).collect();
+        let mut paths = Vec::new();
+        for e in elements {
+            let prefix = if e.is_empty() { scope.join(".") } else { dotted(e) };
+            if let Some(m) = self.design.module_at(&self.modules[base], &nonempty(e, &['/'])) {
+                self.design.corruptible(m, &prefix, &skip, &mut paths, 0);
+            }
+        }
+        paths
+    }
+
+    pub fn scope_parts(&self, over: &str, top: &str) -> Vec<String> {
+        let parts = nonempty(over, &['/', '.']);
+        let skip = (parts.first().map(|p| p == top) == Some(true)) as usize;
+        parts[skip..].to_vec()
+    }
+}

@@ -1,0 +1,210 @@
+-- A path looked for among the rows of the list, and put behind them. Assumes nothing.
+use Prim.Native.Nat.{ℕ, zero, suc, _+_, _-_, _<_, _≤_, _^_}
+use mathlib.Core.Path.{_≡_, refl, sym, ap, _∙_}
+use mathlib.Core.Bool.{Bool, true, false, cond, _||_}
+use mathlib.Core.List.{List, [], _∷_, _++_, append-assoc}
+use native.Mathlib.Omega.{arith}
+use native.Mathlib.Nat.{add-zero, add-suc, suc-add}
+use native.Mathlib.Numerals.{add-one}
+use lib.Dec.{ltb}
+use lib.ListN.{length, take, drop, getD, set, length-append, length-take, length-set, drop-of-length-le}
+use lib.Seq.{drop-cons, getD-take, length-take-le, take-suc-set, take-at, drop-at, take-take, sets, sets-eq, take-append-le, drop-append-le}
+use borrow.Author.Needs.{needs}
+use borrow.Author.Tests.{lt-ltb}
+use Rattle.text.specs.Ascii.{Bytes}
+use Rattle.text.specs.Compare.{same}
+use Rattle.text.specs.Lists.{here}
+use Rattle.text.specs.Scan.{any}
+use Rattle.text.specs.Sames.{no-true}
+use Rattle.out.specs.Emit.{Out, _▸_, emit1, emit}
+use Rattle.names.specs.Name.{nameOf}
+use Rattle.names.specs.declared.name.Name.{Name}
+use Rattle.design.specs.Lists.{isIn, addNew}
+use Rattle.design.specs.Paths.{dotOf, dotted}
+use Rattle.jobindex.specs.Index.{section}
+use Rattle.paths.specs.Pieces.{Sized}
+use Rattle.listing.specs.declared.Walk.{Walk}
+use Rattle.listing.specs.Listing.{cut, pathsOf, Ascends, cost, cost-on, past, Within, Ready, Answer, ascends-on, cut-same, cut-on, cut-length}
+
+-- ---- among the rows
+
+-- t is the answer: the path is one of the rows left, or not
+pub record Left (path text : Bytes) (ends : List ℕ) (count : ℕ) (t : Bool) (k at : ℕ) : Type 0 where
+  pub keeps : isIn path (cut text at (drop k (take count ends))) ≡ t
+  pub few : count ≤ length ends
+
+module _ (path text : Bytes) (ends : List ℕ) (count : ℕ) where
+  pub left-start : count ≤ length ends → Left path text ends count (isIn path (pathsOf text ends count)) 0 0
+  left-start h = record { keeps = refl; few = h }
+
+  module _ (t : Bool) (k at : ℕ) (inv : Left path text ends count t k at) where
+    long : length (take count ends) ≡ count
+    long = length-take-le count ends (inv .few)
+
+    pub left-none : count ≤ k → false ≡ t
+    unfolding cut any
+    left-none h = rw (drop-of-length-le (take count ends) {i = k} (omega (arith, long))) at (inv .keeps)
+
+    module _ (h : k < count) (e : ℕ) (ee : e ≡ getD ends k 0) (n : ℕ) (en : n ≡ e - at) (row : Bytes) (er : row ≡ take n (drop at text)) (b : Bool) (eb : b ≡ same path row) where
+      first : b || isIn path (cut text e (drop (k + 1) (take count ends))) ≡ t
+      unfolding cut any
+      first =
+          let z : drop k (take count ends) ≡ e ∷ drop (k + 1) (take count ends) = here (take count ends) k (omega (arith, long)) ∙ rw (getD-take count ends k 0 h, ee) in
+          let y : section text at e ≡ row = rw (er, en) in
+          rw (eb, ← y) (rw z at (inv .keeps))
+
+      pub left-here : b ≡ true → true ≡ t
+      left-here g = rw g at first
+
+      pub left-on : b ≡ false → Left path text ends count t (k + 1) e
+      left-on g = record { keeps = rw g at first; few = inv .few }
+
+pub ruleset lefts = (needs, left-start, left-none, left-here, left-on)
+
+-- ---- behind the rows
+
+emit-sets : (t buf : Bytes) (at : ℕ) → at + length t ≤ length buf → emit (buf ▸ at) t ≡ sets buf at t ▸ (at + length t)
+unfolding emit emit1
+emit-sets [] buf at h = rw add-zero
+emit-sets (b ∷ t) buf at h =
+    let l : at < length buf = omega arith in
+    let h′ : at + 1 + length t ≤ length (set buf at b) = simp length-set (omega arith) in
+    simp (lt-ltb at (length buf) l) (emit-sets t (set buf at b) (at + 1) h′ ∙ rw (add-one, add-suc, suc-add))
+
+module _ (text text′ p : Bytes) (at r : ℕ) (h : at + length p ≤ length text) (e : text′ ▸ r ≡ emit (text ▸ at) p) where
+  written : text′ ≡ take at text ++ (p ++ drop (at + length p) text)
+  written = ap (λ (o : Out). o .bytes) (e ∙ emit-sets p text at h) ∙ sets-eq p text at h ∙ append-assoc (take at text) p (drop (at + length p) text)
+
+  front-long : length (take at text) ≡ at
+  front-long = length-take-le at text (omega arith)
+
+  pub front-kept : take at text′ ≡ take at text
+  front-kept = ap (take at) written ∙ take-at (take at text) (p ++ drop (at + length p) text) at front-long
+
+  pub piece-there : section text′ at (at + length p) ≡ p
+  piece-there =
+      let z : at + length p - at ≡ length p = omega arith in
+      let d : drop at text′ ≡ p ++ drop (at + length p) text = ap (drop at) written ∙ drop-at (take at text) (p ++ drop (at + length p) text) at front-long in
+      rw (z, d) (take-at p (drop (at + length p) text) (length p) refl)
+
+module _ (mem : Bytes) (e : Name) (elen : ℕ) (tail name : Bytes) (sz : Sized mem e elen tail name) (prefix : ℕ) (s : Walk) (text : Bytes) (ends : List ℕ) (rd : Ready prefix s text ends) where
+  abbrev path : Bytes
+  path = dotted (nameOf mem e) ++ (tail ++ name)
+
+  abbrev old : List Bytes
+  old = pathsOf text ends (s .count)
+
+  pub count-fits : s .count ≤ length ends
+  count-fits = omega (arith, rd .few, rd .ends-long)
+
+  length-dotted : (l : Bytes) → length (dotted l) ≡ length l
+  length-dotted [] = refl
+  length-dotted (x ∷ l) = ap suc (length-dotted l)
+
+  path-long : length path ≡ elen + (length tail + length name)
+  path-long = length-append (dotted (nameOf mem e)) (tail ++ name) ∙ omega (arith, length-append tail name, length-dotted (nameOf mem e), sz .is)
+
+  old-long : length old ≡ s .count
+  old-long = cut-length text 0 (take (s .count) ends) ∙ length-take-le (s .count) ends count-fits
+
+  module _ (b : Bool) (eb : b ≡ isIn path old) where
+    pub add-old : b ≡ true → Answer prefix (s .entered) (addNew old path) s text ends
+    unfolding addNew
+    add-old h =
+        record {
+          ready = λ o. rd;
+          entered-is = λ o. refl;
+          paths-are = λ o. sym (rw (← eb, h));
+          refused = λ o w. no-true (sym (rd .going) ∙ o);
+        }
+
+    module _ (h : b ≡ false) where
+      new-is : addNew old path ≡ old ++ (path ∷ [])
+      unfolding addNew
+      new-is = rw (← eb, h)
+
+      over-limit : (r : Walk) → r ≡ past → (Within prefix (s .entered) (old ++ (path ∷ [])) → ⊥) → Answer prefix (s .entered) (addNew old path) r text ends
+      over-limit r g out =
+          rw (g, new-is) (record {
+            ready = λ o. absurd (no-true (sym o));
+            entered-is = λ o. absurd (no-true (sym o));
+            paths-are = λ o. absurd (no-true (sym o));
+            refused = λ o w. out w;
+          })
+
+      pub add-many : s .count ≡ 1024 → (r : Walk) → r ≡ past → Answer prefix (s .entered) (addNew old path) r text ends
+      add-many m r g = over-limit r g (λ w. omega (arith, w .paths, length-append old (path ∷ []), old-long, m))
+
+      module _ (m : s .count ≡ 1024 → ⊥) where
+        pub len-fits : length tail + length name < 2 ^ 64
+        len-fits = omega (arith, sz .fits)
+
+        pub path-fits : elen + (length tail + length name) < 2 ^ 64
+        path-fits = omega (arith, sz .fits)
+
+        pub cost-fits : prefix + (elen + (length tail + length name)) < 2 ^ 64
+        cost-fits = omega (arith, sz .fits, rd .small)
+
+        pub used-fits : s .used + (prefix + (elen + (length tail + length name))) < 2 ^ 64
+        used-fits = omega (arith, sz .fits, rd .small, rd .used-low)
+
+        cost-is : cost prefix (old ++ (path ∷ [])) ≡ s .used + (prefix + (elen + (length tail + length name)))
+        cost-is = cost-on prefix old path ∙ omega (arith, rd .used-is, path-long)
+
+        pub add-long : 32768 < s .used + (prefix + (elen + (length tail + length name))) → (r : Walk) → r ≡ past → Answer prefix (s .entered) (addNew old path) r text ends
+        add-long l r g = over-limit r g (λ w. omega (arith, w .bytes, cost-is))
+
+        module _ (l : s .used + (prefix + (elen + (length tail + length name))) ≤ 32768) where
+          pub end-fits : s .end + (elen + (length tail + length name)) < 2 ^ 64
+          end-fits = omega (arith, rd .end-low)
+
+          pub end-small : s .end + (elen + (length tail + length name)) < 2 ^ 32
+          end-small = omega (arith, rd .end-low)
+
+          pub add-room : s .count < length ends
+          add-room = omega (arith, rd .few, rd .ends-long, m)
+
+          module _ (text′ : Bytes) (o : ℕ) (f : text′ ▸ o ≡ emit (text ▸ s .end) path) (kept : length text′ ≡ length text) where
+            room : s .end + length path ≤ length text
+            room = omega (arith, rd .end-low, rd .text-long, path-long)
+
+            end-is : s .end + (elen + (length tail + length name)) ≡ s .end + length path
+            end-is = omega (arith, path-long)
+
+            abbrev ends′ : List ℕ
+            ends′ = set ends (s .count) (s .end + (elen + (length tail + length name)))
+
+            ends-are : take (s .count + 1) ends′ ≡ take (s .count) ends ++ ((s .end + (elen + (length tail + length name))) ∷ [])
+            ends-are = ap (λ n. take n ends′) (add-one (s .count)) ∙ take-suc-set ends (s .count) (s .end + (elen + (length tail + length name))) add-room
+
+            new-paths : pathsOf text′ ends′ (s .count + 1) ≡ old ++ (path ∷ [])
+            new-paths =
+                ap (cut text′ 0) ends-are
+                ∙ cut-on text′ 0 (take (s .count) ends) (s .end) (s .end + (elen + (length tail + length name))) (rd .ascends)
+                ∙ ap (λ (x : Bytes). cut text′ 0 (take (s .count) ends) ++ (x ∷ [])) (ap (section text′ (s .end)) end-is ∙ piece-there text text′ path (s .end) o room f)
+                ∙ ap (λ (x : List Bytes). x ++ (path ∷ [])) (cut-same text text′ 0 (take (s .count) ends) (s .end) (rd .ascends) (front-kept text text′ path (s .end) o room f))
+
+            abbrev made : Walk
+            made = record { over = false; entered = s .entered; count = s .count + 1; end = s .end + (elen + (length tail + length name)); used = s .used + (prefix + (elen + (length tail + length name))) }
+
+            pub add-new : Answer prefix (s .entered) (addNew old path) made text′ ends′
+            add-new =
+                rw new-is (record {
+                  ready = λ q. record {
+                    going = refl;
+                    ascends = rw ends-are (ascends-on 0 (take (s .count) ends) (s .end) (s .end + (elen + (length tail + length name))) (rd .ascends) (omega arith));
+                    used-is = sym (ap (cost prefix) new-paths ∙ cost-is);
+                    end-low = omega (arith, rd .end-low);
+                    used-low = l;
+                    few = omega (arith, rd .few, m);
+                    entered-few = rd .entered-few;
+                    text-long = omega (arith, rd .text-long, kept);
+                    ends-long = omega (arith, rd .ends-long, length-set ends (s .count) (s .end + (elen + (length tail + length name))));
+                    small = rd .small;
+                  };
+                  entered-is = λ q. refl;
+                  paths-are = λ q. new-paths;
+                  refused = λ q w. no-true q;
+                })
+
+pub ruleset adds = (needs, count-fits, add-old, add-many, len-fits, path-fits, cost-fits, used-fits, add-long, end-fits, end-small, add-room, add-new)
