@@ -8,8 +8,7 @@ use paths::list::Walk;
 use ports::Step;
 
 // The module that the walk enters through an instance: one more than the number of its row, 0 where it enters none.
-fn entering(job: &[u8], index: &[u32], count: usize, dims: Dims, kind: Span) -> usize
-{
+fn entering(job: &[u8], index: &[u32], count: usize, dims: Dims, kind: Span) -> usize {
     match dims {
         Dims::One => 0,
         Dims::Zero => lookup::module_named(job, index, count, lines::part_of(job, kind)),
@@ -18,8 +17,7 @@ fn entering(job: &[u8], index: &[u32], count: usize, dims: Dims, kind: Span) -> 
 }
 
 // Puts a dot behind a module's path, where it is not empty: what is below it begins there.
-fn stem(tail: &mut [u8], elen: usize, t: usize) -> usize
-{
+fn stem(tail: &mut [u8], elen: usize, t: usize) -> usize {
     if elen + t == 0 {
         return t;
     }
@@ -40,8 +38,7 @@ fn own(
     text: &mut [u8],
     ends: &mut [u32],
     s: Walk,
-) -> Walk
-{
+) -> Walk {
     let entered = s.entered;
     if entered == 4096 {
         return paths::list::refused();
@@ -88,13 +85,34 @@ fn corruptible(
     text: &mut [u8],
     ends: &mut [u32],
     s: Walk,
-) -> Walk
-{
-    if paths::entry::retained(files, area, retained, n, below, e, elen, text::part::part(tail, 0, t)) {
+) -> Walk {
+    if paths::entry::retained(
+        files,
+        area,
+        retained,
+        n,
+        below,
+        e,
+        elen,
+        text::part::part(tail, 0, t),
+    ) {
         return s;
     }
     let u = stem(tail, elen, t);
-    let mut w = own(job, index, k, files, area, e, elen, text::part::part(tail, 0, u), prefix, text, ends, s);
+    let mut w = own(
+        job,
+        index,
+        k,
+        files,
+        area,
+        e,
+        elen,
+        text::part::part(tail, 0, u),
+        prefix,
+        text,
+        ends,
+        s,
+    );
     let full = w.over;
     if full {
         return w;
@@ -121,7 +139,26 @@ fn corruptible(
             continue;
         }
         let v = out::emit::put(tail, u, lines::part_of(job, name));
-        w = corruptible(job, index, count, row - 1, left - 1, files, area, retained, n, below, e, elen, tail, v, prefix, text, ends, w);
+        w = corruptible(
+            job,
+            index,
+            count,
+            row - 1,
+            left - 1,
+            files,
+            area,
+            retained,
+            n,
+            below,
+            e,
+            elen,
+            tail,
+            v,
+            prefix,
+            text,
+            ends,
+            w,
+        );
         let over = w.over;
         if over {
             return w;
@@ -148,8 +185,7 @@ pub fn domain_paths(
     tail: &mut [u8],
     text: &mut [u8],
     ends: &mut [u32],
-) -> Walk
-{
+) -> Walk {
     let mut w = paths::list::start();
     let mut i = 0;
     while i < m {
@@ -160,7 +196,26 @@ pub fn domain_paths(
             continue;
         }
         let elen = paths::entry::size(files, area, e);
-        w = corruptible(job, index, count, row - 1, 32, files, area, retained, n, below, e, elen, tail, 0, prefix, text, ends, w);
+        w = corruptible(
+            job,
+            index,
+            count,
+            row - 1,
+            32,
+            files,
+            area,
+            retained,
+            n,
+            below,
+            e,
+            elen,
+            tail,
+            0,
+            prefix,
+            text,
+            ends,
+            w,
+        );
         let over = w.over;
         if over {
             return w;

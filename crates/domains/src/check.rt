@@ -81,7 +81,9 @@ fn belongs<'a>(files: &'a [u8], area: &'a [u8], t: Isolations, i: usize, domain:
     let mut j = 0;
     while j < t.n {
         let x = t.all[j];
-        if same_names(files, area, named(t, j), n) & same_spans(files, area, span(x.domain), span(domain)) {
+        if same_names(files, area, named(t, j), n)
+            & same_spans(files, area, span(x.domain), span(domain))
+        {
             return true;
         }
         j += 1;
@@ -90,7 +92,14 @@ fn belongs<'a>(files: &'a [u8], area: &'a [u8], t: Isolations, i: usize, domain:
 }
 
 // Where the check of a strategy goes among the first n: one more than the place, 0 where it is there.
-fn spot<'a>(files: &'a [u8], area: &'a [u8], t: Isolations, checks: &[u32], n: usize, i: usize) -> usize {
+fn spot<'a>(
+    files: &'a [u8],
+    area: &'a [u8],
+    t: Isolations,
+    checks: &[u32],
+    n: usize,
+    i: usize,
+) -> usize {
     let mut k = 0;
     while k < n {
         let j = place(checks, k);
@@ -116,7 +125,15 @@ fn insert(checks: &mut [u32], n: usize, k: usize, x: u32) {
 }
 
 // The strategies whose checks a domain has, sorted, from the n ports: how many they are.
-pub fn checks<'a>(files: &'a [u8], area: &'a [u8], t: Isolations, ports: &[u32], n: usize, domain: Stored, found: &mut [u32]) -> usize {
+pub fn checks<'a>(
+    files: &'a [u8],
+    area: &'a [u8],
+    t: Isolations,
+    ports: &[u32],
+    n: usize,
+    domain: Stored,
+    found: &mut [u32],
+) -> usize {
     let mut m = 0;
     let mut k = n;
     while 0 < k {
@@ -137,12 +154,39 @@ pub fn checks<'a>(files: &'a [u8], area: &'a [u8], t: Isolations, ports: &[u32],
 }
 
 // Writes the checks.
-pub fn put_checks(out: &mut [u8], at: usize, job: &[u8], files: &[u8], area: &[u8], over: &[u8], from: usize, top: &[u8], t: Isolations, found: &[u32], n: usize, domain: Name) -> usize {
+pub fn put_checks(
+    out: &mut [u8],
+    at: usize,
+    job: &[u8],
+    files: &[u8],
+    area: &[u8],
+    over: &[u8],
+    from: usize,
+    top: &[u8],
+    t: Isolations,
+    found: &[u32],
+    n: usize,
+    domain: Name,
+) -> usize {
     let mut o = at;
     let mut k = 0;
     while k < n {
         let i = place(found, k);
-        o = fill4(out, o, b"      if ({0} !== {1}) $display(\"[UPF] Warning: Time: %0t, Isolation control '{0}' (%b) is not enabled when power domain '{2}' is switched OFF (strategy {3})\", $time, {0});\n", job, files, area, over, from, top, hier(signal_of(t, i)), fixed(active_of(files, area, t, i)), name_arg(domain), name_arg(named(t, i)));
+        o = fill4(
+            out,
+            o,
+            b"      if ({0} !== {1}) $display(\"[UPF] Warning: Time: %0t, Isolation control '{0}' (%b) is not enabled when power domain '{2}' is switched OFF (strategy {3})\", $time, {0});\n",
+            job,
+            files,
+            area,
+            over,
+            from,
+            top,
+            hier(signal_of(t, i)),
+            fixed(active_of(files, area, t, i)),
+            name_arg(domain),
+            name_arg(named(t, i)),
+        );
         k += 1;
     }
     o

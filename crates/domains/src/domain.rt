@@ -34,46 +34,248 @@ fn name_of(files: &[u8], area: &[u8], b: Below) -> Name {
 }
 
 // A domain with both supplies.
-fn powered(job: &[u8], index: &[u32], count: usize, k: usize, files: &[u8], area: &[u8], over: &[u8], from: usize, prefix: usize, top: &[u8], retentions: Retentions, retained: &[u32], kept: usize, isolations: Isolations, ports: &[u32], isolated: usize, d: Domain, power: Name, ground: Name, tail: &mut [u8], text: &mut [u8], ends: &mut [u32], glue: &mut [u8], report: &mut [u8], at: Told) -> Told {
+fn powered(
+    job: &[u8],
+    index: &[u32],
+    count: usize,
+    k: usize,
+    files: &[u8],
+    area: &[u8],
+    over: &[u8],
+    from: usize,
+    prefix: usize,
+    top: &[u8],
+    retentions: Retentions,
+    retained: &[u32],
+    kept: usize,
+    isolations: Isolations,
+    ports: &[u32],
+    isolated: usize,
+    d: Domain,
+    power: Name,
+    ground: Name,
+    tail: &mut [u8],
+    text: &mut [u8],
+    ends: &mut [u32],
+    glue: &mut [u8],
+    report: &mut [u8],
+    at: Told,
+) -> Told {
     let mut elements: [u32; 325] = [0; 325];
     let m = domain_elements(files, area, d, &mut elements);
-    let w = domain_paths(job, index, count, k, files, area, retained, kept, 0 < prefix, &elements, m, prefix, tail, text, ends);
+    let w = domain_paths(
+        job,
+        index,
+        count,
+        k,
+        files,
+        area,
+        retained,
+        kept,
+        0 < prefix,
+        &elements,
+        m,
+        prefix,
+        tail,
+        text,
+        ends,
+    );
     if w.over {
-        return Told { over: true, glue: 0, report: 0 };
+        return Told {
+            over: true,
+            glue: 0,
+            report: 0,
+        };
     }
     let n = w.count;
     let mut found: [u32; 256] = [0; 256];
     let c = checks(files, area, isolations, ports, isolated, d.name, &mut found);
     let domain = alone(span(d.name), 0);
     let a = put_wire(glue, at.glue, job, files, area, domain, power, ground);
-    let b = put_always(glue, a, job, files, area, over, from, top, isolations, &found, c, text, ends, n, domain);
-    let e = put_initial(glue, b, job, files, area, over, from, top, text, ends, n, domain);
-    let r = powered_line(report, at.report, job, files, area, over, from, top, retentions, d.name, domain, &elements, m, power, ground, n);
-    Told { over: false, glue: e, report: r }
+    let b = put_always(
+        glue,
+        a,
+        job,
+        files,
+        area,
+        over,
+        from,
+        top,
+        isolations,
+        &found,
+        c,
+        text,
+        ends,
+        n,
+        domain,
+    );
+    let e = put_initial(
+        glue,
+        b,
+        job,
+        files,
+        area,
+        over,
+        from,
+        top,
+        text,
+        ends,
+        n,
+        domain,
+    );
+    let r = powered_line(
+        report,
+        at.report,
+        job,
+        files,
+        area,
+        over,
+        from,
+        top,
+        retentions,
+        d.name,
+        domain,
+        &elements,
+        m,
+        power,
+        ground,
+        n,
+    );
+    Told {
+        over: false,
+        glue: e,
+        report: r,
+    }
 }
 
 // A domain.
-fn domain(job: &[u8], index: &[u32], count: usize, k: usize, files: &[u8], area: &[u8], over: &[u8], from: usize, prefix: usize, top: &[u8], retentions: Retentions, retained: &[u32], kept: usize, isolations: Isolations, ports: &[u32], isolated: usize, d: Domain, tail: &mut [u8], text: &mut [u8], ends: &mut [u32], glue: &mut [u8], report: &mut [u8], at: Told) -> Told {
+fn domain(
+    job: &[u8],
+    index: &[u32],
+    count: usize,
+    k: usize,
+    files: &[u8],
+    area: &[u8],
+    over: &[u8],
+    from: usize,
+    prefix: usize,
+    top: &[u8],
+    retentions: Retentions,
+    retained: &[u32],
+    kept: usize,
+    isolations: Isolations,
+    ports: &[u32],
+    isolated: usize,
+    d: Domain,
+    tail: &mut [u8],
+    text: &mut [u8],
+    ends: &mut [u32],
+    glue: &mut [u8],
+    report: &mut [u8],
+    at: Told,
+) -> Told {
     let MaybeBelow::Given(p) = d.power else {
         let r = unpowered_line(report, at.report, job, files, area, alone(span(d.name), 0));
-        return Told { over: false, glue: at.glue, report: r };
+        return Told {
+            over: false,
+            glue: at.glue,
+            report: r,
+        };
     };
     let MaybeBelow::Given(g) = d.ground else {
         let r = unpowered_line(report, at.report, job, files, area, alone(span(d.name), 0));
-        return Told { over: false, glue: at.glue, report: r };
+        return Told {
+            over: false,
+            glue: at.glue,
+            report: r,
+        };
     };
     let power = name_of(files, area, p);
     let ground = name_of(files, area, g);
-    powered(job, index, count, k, files, area, over, from, prefix, top, retentions, retained, kept, isolations, ports, isolated, d, power, ground, tail, text, ends, glue, report, at)
+    powered(
+        job,
+        index,
+        count,
+        k,
+        files,
+        area,
+        over,
+        from,
+        prefix,
+        top,
+        retentions,
+        retained,
+        kept,
+        isolations,
+        ports,
+        isolated,
+        d,
+        power,
+        ground,
+        tail,
+        text,
+        ends,
+        glue,
+        report,
+        at,
+    )
 }
 
 // All domains.
-pub fn domains(job: &[u8], index: &[u32], count: usize, k: usize, files: &[u8], area: &[u8], over: &[u8], from: usize, prefix: usize, top: &[u8], retentions: Retentions, retained: &[u32], kept: usize, isolations: Isolations, ports: &[u32], isolated: usize, t: Domains, tail: &mut [u8], text: &mut [u8], ends: &mut [u32], glue: &mut [u8], report: &mut [u8], at: Told) -> Told {
+pub fn domains(
+    job: &[u8],
+    index: &[u32],
+    count: usize,
+    k: usize,
+    files: &[u8],
+    area: &[u8],
+    over: &[u8],
+    from: usize,
+    prefix: usize,
+    top: &[u8],
+    retentions: Retentions,
+    retained: &[u32],
+    kept: usize,
+    isolations: Isolations,
+    ports: &[u32],
+    isolated: usize,
+    t: Domains,
+    tail: &mut [u8],
+    text: &mut [u8],
+    ends: &mut [u32],
+    glue: &mut [u8],
+    report: &mut [u8],
+    at: Told,
+) -> Told {
     let mut o = at;
     let mut i = 0;
     while i < t.n {
         let d = t.all[i];
-        o = domain(job, index, count, k, files, area, over, from, prefix, top, retentions, retained, kept, isolations, ports, isolated, d, tail, text, ends, glue, report, o);
+        o = domain(
+            job,
+            index,
+            count,
+            k,
+            files,
+            area,
+            over,
+            from,
+            prefix,
+            top,
+            retentions,
+            retained,
+            kept,
+            isolations,
+            ports,
+            isolated,
+            d,
+            tail,
+            text,
+            ends,
+            glue,
+            report,
+            o,
+        );
         if o.over {
             return o;
         }
@@ -83,7 +285,17 @@ pub fn domains(job: &[u8], index: &[u32], count: usize, k: usize, files: &[u8], 
 }
 
 // The warnings about the elements of a domain that lead to no module.
-fn not_found(out: &mut [u8], at: Warned, job: &[u8], index: &[u32], count: usize, k: usize, files: &[u8], area: &[u8], d: Domain) -> Warned {
+fn not_found(
+    out: &mut [u8],
+    at: Warned,
+    job: &[u8],
+    index: &[u32],
+    count: usize,
+    k: usize,
+    files: &[u8],
+    area: &[u8],
+    d: Domain,
+) -> Warned {
     let mut elements: [u32; 325] = [0; 325];
     let m = domain_elements(files, area, d, &mut elements);
     let mut o = at;
@@ -94,14 +306,39 @@ fn not_found(out: &mut [u8], at: Warned, job: &[u8], index: &[u32], count: usize
         if elements::element_module(job, index, count, k, files, area, e) != 0 {
             continue;
         }
-        let p = fill2(out, o.at, b"warning: power domain '{0}': element '{1}' not found\n", job, files, area, b"", 0, b"", name_arg(alone(span(d.name), 0)), name_arg(e));
-        o = Warned { at: p, count: o.count + 1 };
+        let p = fill2(
+            out,
+            o.at,
+            b"warning: power domain '{0}': element '{1}' not found\n",
+            job,
+            files,
+            area,
+            b"",
+            0,
+            b"",
+            name_arg(alone(span(d.name), 0)),
+            name_arg(e),
+        );
+        o = Warned {
+            at: p,
+            count: o.count + 1,
+        };
     }
     o
 }
 
 // The warnings about all domains with both supplies.
-pub fn domain_warnings(out: &mut [u8], at: Warned, job: &[u8], index: &[u32], count: usize, k: usize, files: &[u8], area: &[u8], t: Domains) -> Warned {
+pub fn domain_warnings(
+    out: &mut [u8],
+    at: Warned,
+    job: &[u8],
+    index: &[u32],
+    count: usize,
+    k: usize,
+    files: &[u8],
+    area: &[u8],
+    t: Domains,
+) -> Warned {
     let mut o = at;
     let mut i = 0;
     while i < t.n {

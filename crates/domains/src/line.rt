@@ -30,7 +30,13 @@ pub fn retained(files: &[u8], area: &[u8], t: Retentions, table: &mut [u32]) -> 
 }
 
 // The entries of the retentions of a domain.
-fn retained_of<'a>(files: &'a [u8], area: &'a [u8], t: Retentions, domain: Stored, table: &mut [u32]) -> usize {
+fn retained_of<'a>(
+    files: &'a [u8],
+    area: &'a [u8],
+    t: Retentions,
+    domain: Stored,
+    table: &mut [u32],
+) -> usize {
     let mut n = 0;
     let mut i = 0;
     while i < t.n {
@@ -44,7 +50,15 @@ fn retained_of<'a>(files: &'a [u8], area: &'a [u8], t: Retentions, domain: Store
 }
 
 // Writes a retained entry as a path.
-fn put_retained(out: &mut [u8], at: usize, files: &[u8], area: &[u8], over: &[u8], from: usize, e: Name) -> usize {
+fn put_retained(
+    out: &mut [u8],
+    at: usize,
+    files: &[u8],
+    area: &[u8],
+    over: &[u8],
+    from: usize,
+    e: Name,
+) -> usize {
     let o = put_path(out, at, 0, over, from);
     if has_parts(over, from) {
         let p = byte(out, o, b'.');
@@ -54,7 +68,16 @@ fn put_retained(out: &mut [u8], at: usize, files: &[u8], area: &[u8], over: &[u8
 }
 
 // Writes the retained entries of a table, a comma between them.
-fn put_exempt(out: &mut [u8], at: usize, files: &[u8], area: &[u8], over: &[u8], from: usize, table: &[u32], n: usize) -> usize {
+fn put_exempt(
+    out: &mut [u8],
+    at: usize,
+    files: &[u8],
+    area: &[u8],
+    over: &[u8],
+    from: usize,
+    table: &[u32],
+    n: usize,
+) -> usize {
     if n == 0 {
         return at;
     }
@@ -71,12 +94,54 @@ fn put_exempt(out: &mut [u8], at: usize, files: &[u8], area: &[u8], over: &[u8],
 }
 
 // The line of a domain with both supplies, which loses n paths.
-pub fn powered_line(out: &mut [u8], at: usize, job: &[u8], files: &[u8], area: &[u8], over: &[u8], from: usize, top: &[u8], t: Retentions, d: Stored, domain: Name, elements: &[u32], m: usize, power: Name, ground: Name, n: usize) -> usize {
+pub fn powered_line(
+    out: &mut [u8],
+    at: usize,
+    job: &[u8],
+    files: &[u8],
+    area: &[u8],
+    over: &[u8],
+    from: usize,
+    top: &[u8],
+    t: Retentions,
+    d: Stored,
+    domain: Name,
+    elements: &[u32],
+    m: usize,
+    power: Name,
+    ground: Name,
+    n: usize,
+) -> usize {
     let mut own: [u32; 5120] = [0; 5120];
     let k = retained_of(files, area, t, d, &mut own);
-    let a = fill1(out, at, b"power domain {0}: elements [", job, files, area, over, from, top, name_arg(domain));
+    let a = fill1(
+        out,
+        at,
+        b"power domain {0}: elements [",
+        job,
+        files,
+        area,
+        over,
+        from,
+        top,
+        name_arg(domain),
+    );
     let b = put_names(out, a, files, area, elements, m, b", ");
-    let c = fill4(out, b, b"], power {2}, ground {3}, ", job, files, area, over, from, top, fixed(0), fixed(0), name_arg(power), name_arg(ground));
+    let c = fill4(
+        out,
+        b,
+        b"], power {2}, ground {3}, ",
+        job,
+        files,
+        area,
+        over,
+        from,
+        top,
+        fixed(0),
+        fixed(0),
+        name_arg(power),
+        name_arg(ground),
+    );
     let e = out::number::decimal(out, c, n as u64);
     let f = put(out, e, b" corruptible signals");
     let g = put_exempt(out, f, files, area, over, from, &own, k);
@@ -84,6 +149,24 @@ pub fn powered_line(out: &mut [u8], at: usize, job: &[u8], files: &[u8], area: &
 }
 
 // The line of a domain without.
-pub fn unpowered_line(out: &mut [u8], at: usize, job: &[u8], files: &[u8], area: &[u8], domain: Name) -> usize {
-    fill1(out, at, b"power domain {0}: no primary supplies (always on)\n", job, files, area, b"", 0, b"", name_arg(domain))
+pub fn unpowered_line(
+    out: &mut [u8],
+    at: usize,
+    job: &[u8],
+    files: &[u8],
+    area: &[u8],
+    domain: Name,
+) -> usize {
+    fill1(
+        out,
+        at,
+        b"power domain {0}: no primary supplies (always on)\n",
+        job,
+        files,
+        area,
+        b"",
+        0,
+        b"",
+        name_arg(domain),
+    )
 }

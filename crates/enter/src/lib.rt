@@ -1,9 +1,11 @@
 // A command by its number in the table of names, where it writes neither the area nor the log nor words of states.
-use netcmds::create_supply_net;
 use domaincmds::create_power_domain;
 use domaincmds::set_domain_supply_net;
+use isolationcmds::set_isolation;
+use isolationcmds::set_isolation_control;
 use made::Made;
 use made::fine;
+use netcmds::create_supply_net;
 use plaincmds::not_simulated;
 use plaincmds::set;
 use plaincmds::set_design_top;
@@ -12,11 +14,9 @@ use plaincmds::set_retention;
 use plaincmds::unsupported;
 use portcmds::connect_supply_net;
 use portcmds::create_supply_port;
+use store::state::State;
 use tablecmds::add_pst_state;
 use tablecmds::create_pst;
-use store::state::State;
-use isolationcmds::set_isolation;
-use isolationcmds::set_isolation_control;
 
 pub fn enter<'a>(
     files: &'a [u8],

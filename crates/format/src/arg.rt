@@ -69,7 +69,18 @@ fn put_literal(out: &mut [u8], at: usize, m: u8, k: u8) -> usize {
 }
 
 // Writes an argument in one of the modes of `becomes`.
-pub fn put(out: &mut [u8], at: usize, m: u8, job: &[u8], files: &[u8], area: &[u8], over: &[u8], from: usize, top: &[u8], a: Arg) -> usize {
+pub fn put(
+    out: &mut [u8],
+    at: usize,
+    m: u8,
+    job: &[u8],
+    files: &[u8],
+    area: &[u8],
+    over: &[u8],
+    from: usize,
+    top: &[u8],
+    a: Arg,
+) -> usize {
     let r = a.text;
     if a.wrap == 0 {
         return refs::put(out, at, m, false, job, files, area, r);

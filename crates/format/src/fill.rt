@@ -23,7 +23,22 @@ fn picked(j: u8, a: Arg, b: Arg, c: Arg, d: Arg, e: Arg) -> Arg {
 }
 
 // What a byte between braces stands for.
-fn argument(out: &mut [u8], at: usize, k: u8, job: &[u8], files: &[u8], area: &[u8], over: &[u8], from: usize, top: &[u8], a: Arg, b: Arg, c: Arg, d: Arg, e: Arg) -> usize {
+fn argument(
+    out: &mut [u8],
+    at: usize,
+    k: u8,
+    job: &[u8],
+    files: &[u8],
+    area: &[u8],
+    over: &[u8],
+    from: usize,
+    top: &[u8],
+    a: Arg,
+    b: Arg,
+    c: Arg,
+    d: Arg,
+    e: Arg,
+) -> usize {
     if (b'0' <= k) & (k <= b'4') {
         let p = picked(k - b'0', a, b, c, d, e);
         return put_arg(out, at, 0, job, files, area, over, from, top, p);
@@ -60,7 +75,23 @@ fn run_end(t: &[u8], at: usize) -> usize {
 }
 
 // What the mark at i adds: nothing at the end.
-fn mark(out: &mut [u8], at: usize, t: &[u8], i: usize, job: &[u8], files: &[u8], area: &[u8], over: &[u8], from: usize, top: &[u8], a: Arg, b: Arg, c: Arg, d: Arg, e: Arg) -> usize {
+fn mark(
+    out: &mut [u8],
+    at: usize,
+    t: &[u8],
+    i: usize,
+    job: &[u8],
+    files: &[u8],
+    area: &[u8],
+    over: &[u8],
+    from: usize,
+    top: &[u8],
+    a: Arg,
+    b: Arg,
+    c: Arg,
+    d: Arg,
+    e: Arg,
+) -> usize {
     if t.len() <= i {
         return at;
     }
@@ -89,39 +120,120 @@ fn mark_end(t: &[u8], i: usize) -> usize {
 }
 
 // Writes the template t with its five arguments in their places.
-pub fn fill(out: &mut [u8], at: usize, t: &[u8], job: &[u8], files: &[u8], area: &[u8], over: &[u8], from: usize, top: &[u8], a: Arg, b: Arg, c: Arg, d: Arg, e: Arg) -> usize {
+pub fn fill(
+    out: &mut [u8],
+    at: usize,
+    t: &[u8],
+    job: &[u8],
+    files: &[u8],
+    area: &[u8],
+    over: &[u8],
+    from: usize,
+    top: &[u8],
+    a: Arg,
+    b: Arg,
+    c: Arg,
+    d: Arg,
+    e: Arg,
+) -> usize {
     let mut o = at;
     let mut i = 0;
     while i < t.len() {
         let z = run_end(t, i);
         let run = &t[i..z];
         o = put(out, o, run);
-        o = mark(out, o, t, z, job, files, area, over, from, top, a, b, c, d, e);
+        o = mark(
+            out,
+            o,
+            t,
+            z,
+            job,
+            files,
+            area,
+            over,
+            from,
+            top,
+            a,
+            b,
+            c,
+            d,
+            e,
+        );
         i = mark_end(t, z);
     }
     o
 }
 
 // With one argument.
-pub fn fill1(out: &mut [u8], at: usize, t: &[u8], job: &[u8], files: &[u8], area: &[u8], over: &[u8], from: usize, top: &[u8], a: Arg) -> usize {
+pub fn fill1(
+    out: &mut [u8],
+    at: usize,
+    t: &[u8],
+    job: &[u8],
+    files: &[u8],
+    area: &[u8],
+    over: &[u8],
+    from: usize,
+    top: &[u8],
+    a: Arg,
+) -> usize {
     let z = fixed(0);
     fill(out, at, t, job, files, area, over, from, top, a, z, z, z, z)
 }
 
 // With two.
-pub fn fill2(out: &mut [u8], at: usize, t: &[u8], job: &[u8], files: &[u8], area: &[u8], over: &[u8], from: usize, top: &[u8], a: Arg, b: Arg) -> usize {
+pub fn fill2(
+    out: &mut [u8],
+    at: usize,
+    t: &[u8],
+    job: &[u8],
+    files: &[u8],
+    area: &[u8],
+    over: &[u8],
+    from: usize,
+    top: &[u8],
+    a: Arg,
+    b: Arg,
+) -> usize {
     let z = fixed(0);
     fill(out, at, t, job, files, area, over, from, top, a, b, z, z, z)
 }
 
 // With three.
-pub fn fill3(out: &mut [u8], at: usize, t: &[u8], job: &[u8], files: &[u8], area: &[u8], over: &[u8], from: usize, top: &[u8], a: Arg, b: Arg, c: Arg) -> usize {
+pub fn fill3(
+    out: &mut [u8],
+    at: usize,
+    t: &[u8],
+    job: &[u8],
+    files: &[u8],
+    area: &[u8],
+    over: &[u8],
+    from: usize,
+    top: &[u8],
+    a: Arg,
+    b: Arg,
+    c: Arg,
+) -> usize {
     let z = fixed(0);
     fill(out, at, t, job, files, area, over, from, top, a, b, c, z, z)
 }
 
 // With four.
-pub fn fill4(out: &mut [u8], at: usize, t: &[u8], job: &[u8], files: &[u8], area: &[u8], over: &[u8], from: usize, top: &[u8], a: Arg, b: Arg, c: Arg, d: Arg) -> usize {
+pub fn fill4(
+    out: &mut [u8],
+    at: usize,
+    t: &[u8],
+    job: &[u8],
+    files: &[u8],
+    area: &[u8],
+    over: &[u8],
+    from: usize,
+    top: &[u8],
+    a: Arg,
+    b: Arg,
+    c: Arg,
+    d: Arg,
+) -> usize {
     let z = fixed(0);
     fill(out, at, t, job, files, area, over, from, top, a, b, c, d, z)
 }

@@ -18,7 +18,15 @@ pub fn put_slice(out: &mut [u8], at: usize, m: u8, dots: bool, p: &[u8]) -> usiz
 }
 
 // Writes each part with a byte before it.
-pub fn put_parts(out: &mut [u8], at: usize, m: u8, dots: bool, over: &[u8], from: usize, sep: u8) -> usize {
+pub fn put_parts(
+    out: &mut [u8],
+    at: usize,
+    m: u8,
+    dots: bool,
+    over: &[u8],
+    from: usize,
+    sep: u8,
+) -> usize {
     let mut o = at;
     let mut i = from;
     loop {
@@ -48,7 +56,11 @@ pub fn put_path(out: &mut [u8], at: usize, m: u8, over: &[u8], from: usize) -> u
 pub fn has_parts(over: &[u8], from: usize) -> bool {
     match next_part(over, from) {
         PartAt::End => false,
-        PartAt::Part { at: _, len: _, next: _ } => true,
+        PartAt::Part {
+            at: _,
+            len: _,
+            next: _,
+        } => true,
     }
 }
 
@@ -61,7 +73,17 @@ fn has_bytes(job: &[u8], files: &[u8], area: &[u8], r: Ref) -> bool {
 }
 
 // Writes a name below the scope, with dots.
-pub fn put_hier(out: &mut [u8], at: usize, m: u8, job: &[u8], files: &[u8], area: &[u8], over: &[u8], from: usize, r: Ref) -> usize {
+pub fn put_hier(
+    out: &mut [u8],
+    at: usize,
+    m: u8,
+    job: &[u8],
+    files: &[u8],
+    area: &[u8],
+    over: &[u8],
+    from: usize,
+    r: Ref,
+) -> usize {
     let o = put_path(out, at, m, over, from);
     if has_parts(over, from) & has_bytes(job, files, area, r) {
         let p = becomes(out, o, m, b'.');
@@ -71,7 +93,18 @@ pub fn put_hier(out: &mut [u8], at: usize, m: u8, job: &[u8], files: &[u8], area
 }
 
 // Writes what stands behind the top in a path from the top on.
-fn put_below(out: &mut [u8], at: usize, m: u8, dots: bool, job: &[u8], files: &[u8], area: &[u8], over: &[u8], from: usize, r: Ref) -> usize {
+fn put_below(
+    out: &mut [u8],
+    at: usize,
+    m: u8,
+    dots: bool,
+    job: &[u8],
+    files: &[u8],
+    area: &[u8],
+    over: &[u8],
+    from: usize,
+    r: Ref,
+) -> usize {
     let o = put_parts(out, at, m, dots, over, from, dot(dots, b'/'));
     if has_bytes(job, files, area, r) {
         let p = becomes(out, o, m, dot(dots, b'/'));
@@ -81,14 +114,36 @@ fn put_below(out: &mut [u8], at: usize, m: u8, dots: bool, job: &[u8], files: &[
 }
 
 // Writes a name below the scope as a path from the top on, with slashes.
-pub fn put_slashed(out: &mut [u8], at: usize, m: u8, job: &[u8], files: &[u8], area: &[u8], over: &[u8], from: usize, top: &[u8], r: Ref) -> usize {
+pub fn put_slashed(
+    out: &mut [u8],
+    at: usize,
+    m: u8,
+    job: &[u8],
+    files: &[u8],
+    area: &[u8],
+    over: &[u8],
+    from: usize,
+    top: &[u8],
+    r: Ref,
+) -> usize {
     let o = becomes(out, at, m, b'/');
     let p = put_slice(out, o, m, false, top);
     put_below(out, p, m, false, job, files, area, over, from, r)
 }
 
 // The same with dots, and none in front.
-pub fn put_dots(out: &mut [u8], at: usize, m: u8, job: &[u8], files: &[u8], area: &[u8], over: &[u8], from: usize, top: &[u8], r: Ref) -> usize {
+pub fn put_dots(
+    out: &mut [u8],
+    at: usize,
+    m: u8,
+    job: &[u8],
+    files: &[u8],
+    area: &[u8],
+    over: &[u8],
+    from: usize,
+    top: &[u8],
+    r: Ref,
+) -> usize {
     let o = put_slice(out, at, m, true, top);
     put_below(out, o, m, true, job, files, area, over, from, r)
 }

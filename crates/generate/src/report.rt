@@ -25,8 +25,32 @@ fn stored(s: Stored) -> Name {
 }
 
 // The line of the scope: its path, its module, the number of nets, the nets.
-pub fn scope_line(out: &mut [u8], job: &[u8], files: &[u8], area: &[u8], over: &[u8], from: usize, top: &[u8], at: usize, len: usize, nets: &[u32], n: usize) -> usize {
-    let a = fill2(out, 0, b"scope {0} ({1}), ", job, files, area, over, from, top, wrapped(2, of_job(0, 0)), wrapped(0, of_job(at, len)));
+pub fn scope_line(
+    out: &mut [u8],
+    job: &[u8],
+    files: &[u8],
+    area: &[u8],
+    over: &[u8],
+    from: usize,
+    top: &[u8],
+    at: usize,
+    len: usize,
+    nets: &[u32],
+    n: usize,
+) -> usize {
+    let a = fill2(
+        out,
+        0,
+        b"scope {0} ({1}), ",
+        job,
+        files,
+        area,
+        over,
+        from,
+        top,
+        wrapped(2, of_job(0, 0)),
+        wrapped(0, of_job(at, len)),
+    );
     let b = out::number::decimal(out, a, n as u64);
     let c = put(out, b, b" supply nets: ");
     let d = put_names(out, c, files, area, nets, n, b", ");
@@ -34,12 +58,31 @@ pub fn scope_line(out: &mut [u8], job: &[u8], files: &[u8], area: &[u8], over: &
 }
 
 // The lines of level shifters.
-pub fn shifter_lines(out: &mut [u8], at: usize, job: &[u8], files: &[u8], area: &[u8], t: Shifters) -> usize {
+pub fn shifter_lines(
+    out: &mut [u8],
+    at: usize,
+    job: &[u8],
+    files: &[u8],
+    area: &[u8],
+    t: Shifters,
+) -> usize {
     let mut o = at;
     let mut i = 0;
     while i < t.n {
         let x = t.all[i];
-        o = fill2(out, o, b"level shifter {0} on {1}: transparent\n", job, files, area, b"", 0, b"", name_arg(stored(x.name)), name_arg(stored(x.domain)));
+        o = fill2(
+            out,
+            o,
+            b"level shifter {0} on {1}: transparent\n",
+            job,
+            files,
+            area,
+            b"",
+            0,
+            b"",
+            name_arg(stored(x.name)),
+            name_arg(stored(x.domain)),
+        );
         i += 1;
     }
     o
@@ -56,7 +99,15 @@ fn put_state(out: &mut [u8], at: usize, files: &[u8], area: &[u8], r: Row) -> us
 }
 
 // The states of table k, a space between them.
-fn put_states(out: &mut [u8], at: usize, files: &[u8], area: &[u8], nums: &[u32], rows: usize, k: usize) -> usize {
+fn put_states(
+    out: &mut [u8],
+    at: usize,
+    files: &[u8],
+    area: &[u8],
+    nums: &[u32],
+    rows: usize,
+    k: usize,
+) -> usize {
     let mut o = at;
     let mut first = true;
     let mut i = 0;
@@ -77,10 +128,38 @@ fn put_states(out: &mut [u8], at: usize, files: &[u8], area: &[u8], nums: &[u32]
 }
 
 // The line of table k.
-fn table_line(out: &mut [u8], at: usize, job: &[u8], files: &[u8], area: &[u8], nums: &[u32], rows: usize, k: usize, x: Table) -> usize {
+fn table_line(
+    out: &mut [u8],
+    at: usize,
+    job: &[u8],
+    files: &[u8],
+    area: &[u8],
+    nums: &[u32],
+    rows: usize,
+    k: usize,
+    x: Table,
+) -> usize {
     let mut supplies: [u32; 320] = [0; 320];
-    let n = below(files, area, span(x.scope), span(x.supplies), &mut supplies, 0);
-    let a = fill1(out, at, b"PST {0} over [", job, files, area, b"", 0, b"", name_arg(stored(x.name)));
+    let n = below(
+        files,
+        area,
+        span(x.scope),
+        span(x.supplies),
+        &mut supplies,
+        0,
+    );
+    let a = fill1(
+        out,
+        at,
+        b"PST {0} over [",
+        job,
+        files,
+        area,
+        b"",
+        0,
+        b"",
+        name_arg(stored(x.name)),
+    );
     let b = put_names(out, a, files, area, &supplies, n, b", ");
     let c = put(out, b, b"]: ");
     let d = put_states(out, c, files, area, nums, rows, k);
@@ -88,7 +167,16 @@ fn table_line(out: &mut [u8], at: usize, job: &[u8], files: &[u8], area: &[u8], 
 }
 
 // The lines of tables.
-pub fn table_lines(out: &mut [u8], at: usize, job: &[u8], files: &[u8], area: &[u8], nums: &[u32], rows: usize, t: Tables) -> usize {
+pub fn table_lines(
+    out: &mut [u8],
+    at: usize,
+    job: &[u8],
+    files: &[u8],
+    area: &[u8],
+    nums: &[u32],
+    rows: usize,
+    t: Tables,
+) -> usize {
     let mut o = at;
     let mut i = 0;
     while i < t.n {
@@ -120,7 +208,15 @@ fn template(kind: u32) -> &'static [u8] {
 }
 
 // The warnings of reading.
-pub fn read_warnings(out: &mut [u8], at: usize, job: &[u8], files: &[u8], area: &[u8], nums: &[u32], rows: usize) -> Warned {
+pub fn read_warnings(
+    out: &mut [u8],
+    at: usize,
+    job: &[u8],
+    files: &[u8],
+    area: &[u8],
+    nums: &[u32],
+    rows: usize,
+) -> Warned {
     let mut o = at;
     let mut n = 0;
     let mut i = 0;
@@ -130,7 +226,18 @@ pub fn read_warnings(out: &mut [u8], at: usize, job: &[u8], files: &[u8], area: 
         if r.kind < 3 {
             continue;
         }
-        o = fill1(out, o, template(r.kind), job, files, area, b"", 0, b"", name_arg(stored(r.name)));
+        o = fill1(
+            out,
+            o,
+            template(r.kind),
+            job,
+            files,
+            area,
+            b"",
+            0,
+            b"",
+            name_arg(stored(r.name)),
+        );
         n += 1;
     }
     Warned { at: o, count: n }

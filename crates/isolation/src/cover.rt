@@ -60,10 +60,31 @@ fn kept(ports: &mut [u32], c: Cover, x: Isolated) -> Cover {
 }
 
 // A warning more: a port of an instance has no plain net.
-fn not_plain(out: &mut [u8], warn: bool, job: &[u8], files: &[u8], area: &[u8], c: Cover, s: Strategy, port: Ref) -> Cover {
+fn not_plain(
+    out: &mut [u8],
+    warn: bool,
+    job: &[u8],
+    files: &[u8],
+    area: &[u8],
+    c: Cover,
+    s: Strategy,
+    port: Ref,
+) -> Cover {
     let mut o = c.at;
     if warn {
-        o = fill2(out, o, b"warning: isolation strategy '{0}': port '{1}' actual is not a plain net; not simulated\n", job, files, area, b"", 0, b"", name(s.name), wrapped(0, port));
+        o = fill2(
+            out,
+            o,
+            b"warning: isolation strategy '{0}': port '{1}' actual is not a plain net; not simulated\n",
+            job,
+            files,
+            area,
+            b"",
+            0,
+            b"",
+            name(s.name),
+            wrapped(0, port),
+        );
     }
     Cover {
         over: c.over,
@@ -74,7 +95,21 @@ fn not_plain(out: &mut [u8], warn: bool, job: &[u8], files: &[u8], area: &[u8], 
 }
 
 // The port of an instance at a place, whose net is known.
-fn covered(out: &mut [u8], warn: bool, job: &[u8], files: &[u8], area: &[u8], ports: &mut [u32], c: Cover, s: Strategy, e: Name, port: Ref, upto: usize, own: Ref, net: Net) -> Cover {
+fn covered(
+    out: &mut [u8],
+    warn: bool,
+    job: &[u8],
+    files: &[u8],
+    area: &[u8],
+    ports: &mut [u32],
+    c: Cover,
+    s: Strategy,
+    e: Name,
+    port: Ref,
+    upto: usize,
+    own: Ref,
+    net: Net,
+) -> Cover {
     match net {
         Net::None => not_plain(out, warn, job, files, area, c, s, port),
         Net::Own => {
@@ -87,7 +122,15 @@ fn covered(out: &mut [u8], warn: bool, job: &[u8], files: &[u8], area: &[u8], po
                 at: own.at,
                 len: own.len,
             };
-            kept(ports, c, Isolated { strategy: s.number, port: port, parent: parent })
+            kept(
+                ports,
+                c,
+                Isolated {
+                    strategy: s.number,
+                    port: port,
+                    parent: parent,
+                },
+            )
         }
         Net::Of(n) => {
             let parent = Ref {
@@ -99,13 +142,34 @@ fn covered(out: &mut [u8], warn: bool, job: &[u8], files: &[u8], area: &[u8], po
                 at: n.at,
                 len: n.len,
             };
-            kept(ports, c, Isolated { strategy: s.number, port: port, parent: parent })
+            kept(
+                ports,
+                c,
+                Isolated {
+                    strategy: s.number,
+                    port: port,
+                    parent: parent,
+                },
+            )
         }
     }
 }
 
 // All output ports of the instance that an element is.
-pub fn cover_outputs(out: &mut [u8], warn: bool, job: &[u8], index: &[u32], count: usize, k: usize, files: &[u8], area: &[u8], ports: &mut [u32], c: Cover, s: Strategy, e: Name) -> Cover {
+pub fn cover_outputs(
+    out: &mut [u8],
+    warn: bool,
+    job: &[u8],
+    index: &[u32],
+    count: usize,
+    k: usize,
+    files: &[u8],
+    area: &[u8],
+    ports: &mut [u32],
+    c: Cover,
+    s: Strategy,
+    e: Name,
+) -> Cover {
     let p = place(job, index, count, k, files, area, whole(e));
     if !p.found {
         return c;
@@ -132,7 +196,21 @@ pub fn cover_outputs(out: &mut [u8], warn: bool, job: &[u8], index: &[u32], coun
             continue;
         }
         let net = actual::output_actual(job, index, p.conns, end, p.sub, lines::part_of(job, n));
-        x = covered(out, warn, job, files, area, ports, x, s, e, port, p.upto, port, net);
+        x = covered(
+            out,
+            warn,
+            job,
+            files,
+            area,
+            ports,
+            x,
+            s,
+            e,
+            port,
+            p.upto,
+            port,
+            net,
+        );
         if x.over {
             return x;
         }
@@ -157,7 +235,22 @@ fn copy_name(files: &[u8], area: &[u8], n: Name, buffer: &mut [u8]) -> usize {
 }
 
 // The port that an element with a slash is: the port stands behind the last slash.
-fn cover_port(out: &mut [u8], warn: bool, job: &[u8], index: &[u32], count: usize, k: usize, files: &[u8], area: &[u8], ports: &mut [u32], c: Cover, s: Strategy, e: Name, upto: usize, rest: Name) -> Cover {
+fn cover_port(
+    out: &mut [u8],
+    warn: bool,
+    job: &[u8],
+    index: &[u32],
+    count: usize,
+    k: usize,
+    files: &[u8],
+    area: &[u8],
+    ports: &mut [u32],
+    c: Cover,
+    s: Strategy,
+    e: Name,
+    upto: usize,
+    rest: Name,
+) -> Cover {
     let port = whole(e);
     if is_covered(job, files, area, ports, c.ports, port) {
         return c;
@@ -179,14 +272,56 @@ fn cover_port(out: &mut [u8], warn: bool, job: &[u8], index: &[u32], count: usiz
         at: 0,
         len: 0,
     };
-    covered(out, warn, job, files, area, ports, c, s, e, port, p.upto, own, net)
+    covered(
+        out,
+        warn,
+        job,
+        files,
+        area,
+        ports,
+        c,
+        s,
+        e,
+        port,
+        p.upto,
+        own,
+        net,
+    )
 }
 
 // What an element of a strategy is: a port, or an instance.
-pub fn cover_element(out: &mut [u8], warn: bool, job: &[u8], index: &[u32], count: usize, k: usize, files: &[u8], area: &[u8], ports: &mut [u32], c: Cover, s: Strategy, e: Name) -> Cover {
+pub fn cover_element(
+    out: &mut [u8],
+    warn: bool,
+    job: &[u8],
+    index: &[u32],
+    count: usize,
+    k: usize,
+    files: &[u8],
+    area: &[u8],
+    ports: &mut [u32],
+    c: Cover,
+    s: Strategy,
+    e: Name,
+) -> Cover {
     let l = last_slash(files, area, e);
     if l.found {
-        return cover_port(out, warn, job, index, count, k, files, area, ports, c, s, e, l.upto, l.rest);
+        return cover_port(
+            out,
+            warn,
+            job,
+            index,
+            count,
+            k,
+            files,
+            area,
+            ports,
+            c,
+            s,
+            e,
+            l.upto,
+            l.rest,
+        );
     }
     cover_outputs(out, warn, job, index, count, k, files, area, ports, c, s, e)
 }

@@ -79,7 +79,21 @@ fn is_led(files: &[u8], area: &[u8], t: Isolations, ports: &[u32], n: usize, i: 
 }
 
 // Writes a template for each port of a strategy like this one: the parent's net, the clamp value, the strategy, the port.
-fn each_port(out: &mut [u8], at: usize, tpl: &[u8], job: &[u8], files: &[u8], area: &[u8], over: &[u8], from: usize, top: &[u8], t: Isolations, ports: &[u32], n: usize, i: usize) -> usize {
+fn each_port(
+    out: &mut [u8],
+    at: usize,
+    tpl: &[u8],
+    job: &[u8],
+    files: &[u8],
+    area: &[u8],
+    over: &[u8],
+    from: usize,
+    top: &[u8],
+    t: Isolations,
+    ports: &[u32],
+    n: usize,
+    i: usize,
+) -> usize {
     let mut o = at;
     let mut k = 0;
     while k < n {
@@ -89,30 +103,122 @@ fn each_port(out: &mut [u8], at: usize, tpl: &[u8], job: &[u8], files: &[u8], ar
             continue;
         }
         let s = t.all[x.strategy];
-        o = fill4(out, o, tpl, job, files, area, over, from, top, wrapped(1, x.parent), fixed(clamp(files, area, s.clamp)), name_arg(alone(span(s.name), 0)), wrapped(2, x.port));
+        o = fill4(
+            out,
+            o,
+            tpl,
+            job,
+            files,
+            area,
+            over,
+            from,
+            top,
+            wrapped(1, x.parent),
+            fixed(clamp(files, area, s.clamp)),
+            name_arg(alone(span(s.name), 0)),
+            wrapped(2, x.port),
+        );
     }
     o
 }
 
 // The process of a strategy.
-fn process(out: &mut [u8], at: usize, job: &[u8], files: &[u8], area: &[u8], over: &[u8], from: usize, top: &[u8], t: Isolations, ports: &[u32], n: usize, i: usize) -> usize {
+fn process(
+    out: &mut [u8],
+    at: usize,
+    job: &[u8],
+    files: &[u8],
+    area: &[u8],
+    over: &[u8],
+    from: usize,
+    top: &[u8],
+    t: Isolations,
+    ports: &[u32],
+    n: usize,
+    i: usize,
+) -> usize {
     let a = hier(signal_of(t, i));
     let b = fixed(active_of(files, area, t, i));
-    let o = fill2(out, at, b"  always @({0}) begin\n    if ({0} === {1}) begin\n", job, files, area, over, from, top, a, b);
-    let p = each_port(out, o, b"      force {0} = '{1};\n      $display(\"[UPF] Time: %0t, Isolation enabled (strategy {2}) on port '{3}', clamp {1}\", $time);\n", job, files, area, over, from, top, t, ports, n, i);
+    let o = fill2(
+        out,
+        at,
+        b"  always @({0}) begin\n    if ({0} === {1}) begin\n",
+        job,
+        files,
+        area,
+        over,
+        from,
+        top,
+        a,
+        b,
+    );
+    let p = each_port(
+        out,
+        o,
+        b"      force {0} = '{1};\n      $display(\"[UPF] Time: %0t, Isolation enabled (strategy {2}) on port '{3}', clamp {1}\", $time);\n",
+        job,
+        files,
+        area,
+        over,
+        from,
+        top,
+        t,
+        ports,
+        n,
+        i,
+    );
     let q = put(out, p, b"    end else begin\n");
-    let r = each_port(out, q, b"      release {0};\n      $display(\"[UPF] Time: %0t, Isolation disabled (strategy {2}) on port '{3}'\", $time);\n", job, files, area, over, from, top, t, ports, n, i);
+    let r = each_port(
+        out,
+        q,
+        b"      release {0};\n      $display(\"[UPF] Time: %0t, Isolation disabled (strategy {2}) on port '{3}'\", $time);\n",
+        job,
+        files,
+        area,
+        over,
+        from,
+        top,
+        t,
+        ports,
+        n,
+        i,
+    );
     put(out, r, b"    end\n  end\n")
 }
 
 // All processes.
-pub fn processes(out: &mut [u8], at: usize, job: &[u8], files: &[u8], area: &[u8], over: &[u8], from: usize, top: &[u8], t: Isolations, ports: &[u32], n: usize) -> usize {
+pub fn processes(
+    out: &mut [u8],
+    at: usize,
+    job: &[u8],
+    files: &[u8],
+    area: &[u8],
+    over: &[u8],
+    from: usize,
+    top: &[u8],
+    t: Isolations,
+    ports: &[u32],
+    n: usize,
+) -> usize {
     let mut o = at;
     let mut k = 0;
     while k < n {
         let x = port_at(ports, k);
         if !is_led(files, area, t, ports, k, x.strategy) {
-            o = process(out, o, job, files, area, over, from, top, t, ports, n, x.strategy);
+            o = process(
+                out,
+                o,
+                job,
+                files,
+                area,
+                over,
+                from,
+                top,
+                t,
+                ports,
+                n,
+                x.strategy,
+            );
         }
         k += 1;
     }

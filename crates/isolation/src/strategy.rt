@@ -129,7 +129,17 @@ fn warned(c: Cover, o: usize) -> Cover {
 }
 
 // A warning about a strategy, by a template of its name and another.
-fn remarked(out: &mut [u8], warn: bool, t: &[u8], job: &[u8], files: &[u8], area: &[u8], c: Cover, a: Arg, b: Arg) -> Cover {
+fn remarked(
+    out: &mut [u8],
+    warn: bool,
+    t: &[u8],
+    job: &[u8],
+    files: &[u8],
+    area: &[u8],
+    c: Cover,
+    a: Arg,
+    b: Arg,
+) -> Cover {
     if warn {
         let o = fill2(out, c.at, t, job, files, area, b"", 0, b"", a, b);
         return warned(c, o);
@@ -138,11 +148,31 @@ fn remarked(out: &mut [u8], warn: bool, t: &[u8], job: &[u8], files: &[u8], area
 }
 
 // The warning about a clamp value.
-fn clamp_remarked(out: &mut [u8], warn: bool, job: &[u8], files: &[u8], area: &[u8], c: Cover, n: Name, m: Maybe) -> Cover {
+fn clamp_remarked(
+    out: &mut [u8],
+    warn: bool,
+    job: &[u8],
+    files: &[u8],
+    area: &[u8],
+    c: Cover,
+    n: Name,
+    m: Maybe,
+) -> Cover {
     if !warn {
         return warned(c, c.at);
     }
-    let o = fill1(out, c.at, b"warning: isolation strategy '{0}': clamp value '", job, files, area, b"", 0, b"", name_arg(n));
+    let o = fill1(
+        out,
+        c.at,
+        b"warning: isolation strategy '{0}': clamp value '",
+        job,
+        files,
+        area,
+        b"",
+        0,
+        b"",
+        name_arg(n),
+    );
     match m {
         Maybe::Not => warned(c, o),
         Maybe::Given(s) => {
@@ -154,11 +184,35 @@ fn clamp_remarked(out: &mut [u8], warn: bool, job: &[u8], files: &[u8], area: &[
 }
 
 // The line of a strategy in the report.
-fn line(out: &mut [u8], warn: bool, job: &[u8], files: &[u8], area: &[u8], c: Cover, x: Isolation, signal: Name) -> Cover {
+fn line(
+    out: &mut [u8],
+    warn: bool,
+    job: &[u8],
+    files: &[u8],
+    area: &[u8],
+    c: Cover,
+    x: Isolation,
+    signal: Name,
+) -> Cover {
     if warn {
         return c;
     }
-    let o = fill(out, c.at, b"isolation {0} on {1}: clamp {2} control {3} sense {4}\n", job, files, area, b"", 0, b"", name_arg(stored(x.name)), name_arg(stored(x.domain)), or_literal(x.clamp, 7), name_arg(signal), or_literal(x.sense, 10));
+    let o = fill(
+        out,
+        c.at,
+        b"isolation {0} on {1}: clamp {2} control {3} sense {4}\n",
+        job,
+        files,
+        area,
+        b"",
+        0,
+        b"",
+        name_arg(stored(x.name)),
+        name_arg(stored(x.domain)),
+        or_literal(x.clamp, 7),
+        name_arg(signal),
+        or_literal(x.sense, 10),
+    );
     Cover {
         over: c.over,
         ports: c.ports,
@@ -192,7 +246,22 @@ pub fn domain_elements(files: &[u8], area: &[u8], d: Domain, table: &mut [u32]) 
 }
 
 // Each element of a table: its ports where `outputs` is set, else as it is written.
-fn cover_all(out: &mut [u8], warn: bool, job: &[u8], index: &[u32], count: usize, k: usize, files: &[u8], area: &[u8], ports: &mut [u32], c: Cover, s: Strategy, table: &[u32], n: usize, outputs: bool) -> Cover {
+fn cover_all(
+    out: &mut [u8],
+    warn: bool,
+    job: &[u8],
+    index: &[u32],
+    count: usize,
+    k: usize,
+    files: &[u8],
+    area: &[u8],
+    ports: &mut [u32],
+    c: Cover,
+    s: Strategy,
+    table: &[u32],
+    n: usize,
+    outputs: bool,
+) -> Cover {
     let mut x = c;
     let mut i = 0;
     while i < n {
@@ -224,21 +293,76 @@ fn is_outputs<'a>(files: &'a [u8], area: &'a [u8], m: Maybe) -> bool {
 }
 
 // A strategy that has a signal and a clamp value, of a known domain.
-fn in_domain(out: &mut [u8], warn: bool, job: &[u8], index: &[u32], count: usize, k: usize, files: &[u8], area: &[u8], ports: &mut [u32], c: Cover, s: Strategy, x: Isolation, d: Domain, signal: Name) -> Cover {
+fn in_domain(
+    out: &mut [u8],
+    warn: bool,
+    job: &[u8],
+    index: &[u32],
+    count: usize,
+    k: usize,
+    files: &[u8],
+    area: &[u8],
+    ports: &mut [u32],
+    c: Cover,
+    s: Strategy,
+    x: Isolation,
+    d: Domain,
+    signal: Name,
+) -> Cover {
     let mut table: [u32; 325] = [0; 325];
     let n = below(files, area, span(x.scope), span(x.elements), &mut table, 0);
     if 0 < n {
-        let a = cover_all(out, warn, job, index, count, k, files, area, ports, c, s, &table, n, false);
+        let a = cover_all(
+            out,
+            warn,
+            job,
+            index,
+            count,
+            k,
+            files,
+            area,
+            ports,
+            c,
+            s,
+            &table,
+            n,
+            false,
+        );
         if a.over {
             return a;
         }
         return line(out, warn, job, files, area, a, x, signal);
     }
     if !is_outputs(files, area, x.applies) {
-        return remarked(out, warn, b"warning: isolation strategy '{0}': -applies_to {1} not simulated (outputs only)\n", job, files, area, c, name_arg(s.name), or_literal(x.applies, 7));
+        return remarked(
+            out,
+            warn,
+            b"warning: isolation strategy '{0}': -applies_to {1} not simulated (outputs only)\n",
+            job,
+            files,
+            area,
+            c,
+            name_arg(s.name),
+            or_literal(x.applies, 7),
+        );
     }
     let m = domain_elements(files, area, d, &mut table);
-    let a = cover_all(out, warn, job, index, count, k, files, area, ports, c, s, &table, m, true);
+    let a = cover_all(
+        out,
+        warn,
+        job,
+        index,
+        count,
+        k,
+        files,
+        area,
+        ports,
+        c,
+        s,
+        &table,
+        m,
+        true,
+    );
     if a.over {
         return a;
     }
@@ -246,19 +370,68 @@ fn in_domain(out: &mut [u8], warn: bool, job: &[u8], index: &[u32], count: usize
 }
 
 // A strategy.
-fn strategy(out: &mut [u8], warn: bool, job: &[u8], index: &[u32], count: usize, k: usize, files: &[u8], area: &[u8], domains: Domains, ports: &mut [u32], c: Cover, s: Strategy, x: Isolation) -> Cover {
+fn strategy(
+    out: &mut [u8],
+    warn: bool,
+    job: &[u8],
+    index: &[u32],
+    count: usize,
+    k: usize,
+    files: &[u8],
+    area: &[u8],
+    domains: Domains,
+    ports: &mut [u32],
+    c: Cover,
+    s: Strategy,
+    x: Isolation,
+) -> Cover {
     let Maybe::Given(signal) = x.signal else {
-        return remarked(out, warn, b"warning: isolation strategy '{0}' has no -isolation_signal; not simulated\n", job, files, area, c, name_arg(s.name), fixed(7));
+        return remarked(
+            out,
+            warn,
+            b"warning: isolation strategy '{0}' has no -isolation_signal; not simulated\n",
+            job,
+            files,
+            area,
+            c,
+            name_arg(s.name),
+            fixed(7),
+        );
     };
     if clamp(files, area, x.clamp) == 0 {
         return clamp_remarked(out, warn, job, files, area, c, s.name, x.clamp);
     }
     let i = find_domain(files, area, domains, x.domain);
     if domains.n <= i {
-        return remarked(out, warn, b"warning: isolation strategy '{0}': unknown domain '{1}'\n", job, files, area, c, name_arg(s.name), name_arg(stored(x.domain)));
+        return remarked(
+            out,
+            warn,
+            b"warning: isolation strategy '{0}': unknown domain '{1}'\n",
+            job,
+            files,
+            area,
+            c,
+            name_arg(s.name),
+            name_arg(stored(x.domain)),
+        );
     }
     let d = domains.all[i];
-    in_domain(out, warn, job, index, count, k, files, area, ports, c, s, x, d, stored(signal))
+    in_domain(
+        out,
+        warn,
+        job,
+        index,
+        count,
+        k,
+        files,
+        area,
+        ports,
+        c,
+        s,
+        x,
+        d,
+        stored(signal),
+    )
 }
 
 // Whether a strategy has elements.
@@ -267,7 +440,21 @@ fn has_elements(files: &[u8], area: &[u8], x: Isolation) -> bool {
 }
 
 // The strategies with elements, or those without.
-fn round(out: &mut [u8], warn: bool, job: &[u8], index: &[u32], count: usize, k: usize, files: &[u8], area: &[u8], t: Isolations, domains: Domains, ports: &mut [u32], c: Cover, with: bool) -> Cover {
+fn round(
+    out: &mut [u8],
+    warn: bool,
+    job: &[u8],
+    index: &[u32],
+    count: usize,
+    k: usize,
+    files: &[u8],
+    area: &[u8],
+    t: Isolations,
+    domains: Domains,
+    ports: &mut [u32],
+    c: Cover,
+    with: bool,
+) -> Cover {
     let mut a = c;
     let mut i = 0;
     while i < t.n {
@@ -280,7 +467,21 @@ fn round(out: &mut [u8], warn: bool, job: &[u8], index: &[u32], count: usize, k:
         if has_elements(files, area, x) != with {
             continue;
         }
-        a = strategy(out, warn, job, index, count, k, files, area, domains, ports, a, s, x);
+        a = strategy(
+            out,
+            warn,
+            job,
+            index,
+            count,
+            k,
+            files,
+            area,
+            domains,
+            ports,
+            a,
+            s,
+            x,
+        );
         if a.over {
             return a;
         }
@@ -289,16 +490,57 @@ fn round(out: &mut [u8], warn: bool, job: &[u8], index: &[u32], count: usize, k:
 }
 
 // All strategies: the isolated ports into their table, and the lines of the report, or where `warn` is set the warnings, behind `at`.
-pub fn isolation(out: &mut [u8], at: usize, warn: bool, job: &[u8], index: &[u32], count: usize, k: usize, files: &[u8], area: &[u8], t: Isolations, domains: Domains, ports: &mut [u32]) -> Cover {
+pub fn isolation(
+    out: &mut [u8],
+    at: usize,
+    warn: bool,
+    job: &[u8],
+    index: &[u32],
+    count: usize,
+    k: usize,
+    files: &[u8],
+    area: &[u8],
+    t: Isolations,
+    domains: Domains,
+    ports: &mut [u32],
+) -> Cover {
     let c = Cover {
         over: false,
         ports: 0,
         warnings: 0,
         at: at,
     };
-    let a = round(out, warn, job, index, count, k, files, area, t, domains, ports, c, true);
+    let a = round(
+        out,
+        warn,
+        job,
+        index,
+        count,
+        k,
+        files,
+        area,
+        t,
+        domains,
+        ports,
+        c,
+        true,
+    );
     if a.over {
         return a;
     }
-    round(out, warn, job, index, count, k, files, area, t, domains, ports, a, false)
+    round(
+        out,
+        warn,
+        job,
+        index,
+        count,
+        k,
+        files,
+        area,
+        t,
+        domains,
+        ports,
+        a,
+        false,
+    )
 }

@@ -129,7 +129,15 @@ fn nowhere() -> Place {
 }
 
 // The instance that the parts of a text lead to from module k.
-pub fn place(job: &[u8], index: &[u32], count: usize, k: usize, files: &[u8], area: &[u8], r: Ref) -> Place {
+pub fn place(
+    job: &[u8],
+    index: &[u32],
+    count: usize,
+    k: usize,
+    files: &[u8],
+    area: &[u8],
+    r: Ref,
+) -> Place {
     let mut m = k;
     let mut x = r;
     let mut upto = 0;

@@ -17,7 +17,14 @@ pub fn form(quoted: bool) -> u8 {
 }
 
 // Puts the entries of a value, each below a scope, behind the first n names of a table, and returns how many there are then.
-pub fn below<'a>(files: &'a [u8], area: &'a [u8], scope: Span, v: Span, table: &mut [u32], n: usize) -> usize {
+pub fn below<'a>(
+    files: &'a [u8],
+    area: &'a [u8],
+    scope: Span,
+    v: Span,
+    table: &mut [u32],
+    n: usize,
+) -> usize {
     let text = fetch(files, area, v);
     let mut k = n;
     let mut at = 0;
@@ -92,7 +99,15 @@ pub fn nth_below<'a>(files: &'a [u8], area: &'a [u8], scope: Span, v: Span, k: u
 }
 
 // Writes the names of a table, a text between them.
-pub fn put_names(out: &mut [u8], at: usize, files: &[u8], area: &[u8], table: &[u32], n: usize, sep: &[u8]) -> usize {
+pub fn put_names(
+    out: &mut [u8],
+    at: usize,
+    files: &[u8],
+    area: &[u8],
+    table: &[u32],
+    n: usize,
+    sep: &[u8],
+) -> usize {
     let mut o = at;
     let mut k = 0;
     while k < n {

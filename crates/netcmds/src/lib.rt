@@ -1,10 +1,10 @@
 // create_supply_net: a net that is known is no new one.
-use names::compare::same_names;
-use names::name::Name;
-use names::name::scoped;
 use made::Made;
 use made::fine;
 use made::full;
+use names::compare::same_names;
+use names::name::Name;
+use names::name::scoped;
 use portcmds::named_below;
 use store::state::Nets;
 use store::state::State;

@@ -65,8 +65,15 @@ bytes-short mem n =
 pub name-short : (mem : Bytes) (n : Name) → length (nameOf mem n) ≤ 2 * length mem + 1
 unfolding nameOf
 name-short mem n =
-    omega (arith, bytes-short mem n .0, bytes-short mem n .1, entry-short (n .form) (bytes mem (n .word)), slash-short (n .sep),
-    length-append (bytes mem (n .scope)) (slash (n .sep) ++ entryOf (n .form) (bytes mem (n .word))), length-append (slash (n .sep)) (entryOf (n .form) (bytes mem (n .word))))
+    omega (
+      arith,
+      bytes-short mem n .0,
+      bytes-short mem n .1,
+      entry-short (n .form) (bytes mem (n .word)),
+      slash-short (n .sep),
+      length-append (bytes mem (n .scope)) (slash (n .sep) ++ entryOf (n .form) (bytes mem (n .word))),
+      length-append (slash (n .sep)) (entryOf (n .form) (bytes mem (n .word))),
+    )
 
 -- the bytes counted and those left are all
 pub record Counts (files area : Bytes) (total : ℕ) (x : Name) (i : ℕ) : Type 0 where

@@ -1,11 +1,11 @@
 // set, set_design_top, set_retention, set_level_shifter, and commands of no name of the table.
+use args::argument::name;
+use args::argument::option;
+use args::argument::positional;
 use made::Made;
 use made::fine;
 use made::full;
 use made::warned;
-use args::argument::name;
-use args::argument::option;
-use args::argument::positional;
 use spans::span::Found;
 use spans::span::Span;
 use spans::span::is;

@@ -1,10 +1,10 @@
 // create_supply_port, connect_supply_net.
+use args::argument::name;
+use args::argument::option;
 use made::Made;
 use made::fine;
 use made::full;
 use made::with_row;
-use args::argument::name;
-use args::argument::option;
 use store::row::Row;
 use store::state::Port;
 use store::state::State;

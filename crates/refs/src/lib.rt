@@ -1,4 +1,15 @@
 // A text in pieces: a stored name, or its first bytes; a slash; another stored name; and a part of the job. A text without its first byte is a text.
+ghost use Prim.Native.Nat.{_+_};
+ghost use mathlib.Core.Path.{_≡_};
+ghost use mathlib.Core.Bool.{false};
+ghost use mathlib.Core.List.{_++_};
+ghost use lib.ListN.{take, drop};
+ghost use Rattle.text.specs.Ascii.{Bytes};
+ghost use Rattle.text.specs.Compare.{same as Compare·same};
+ghost use Rattle.out.specs.Emit.{_▸_, emit};
+ghost use Rattle.out.specs.Bytewise.{flat as Bytewise·flat, becomes as Bytewise·becomes};
+ghost use Rattle.names.specs.Name.{nameOf, slash};
+ghost use Rattle.refs.specs.Text.{textOf, stepOf, noName, wholeRef, frontRef, jobRef, dotOf, asDots};
 use names::name::Name;
 use names::put::put_mapped;
 use out::bytewise::becomes;
@@ -18,7 +29,9 @@ pub struct Ref {
 }
 
 // No name.
-pub fn no_name() -> Name {
+pub fn no_name() -> Name
+    ensures { λ r. ⌜ r ≡ noName ⌝ }
+{
     names::name::alone(spans::span::Span { at: 0, len: 0 }, 0)
 }
 
@@ -29,7 +42,9 @@ pub enum Step {
 }
 
 // A whole name.
-pub fn whole(n: Name) -> Ref {
+pub fn whole(n: Name) -> Ref
+    ensures { λ r. ⌜ r ≡ wholeRef n ⌝ }
+{
     Ref {
         name: n,
         cut: false,
@@ -42,7 +57,9 @@ pub fn whole(n: Name) -> Ref {
 }
 
 // The first bytes of a name.
-pub fn front(n: Name, upto: usize) -> Ref {
+pub fn front(n: Name, upto: usize) -> Ref
+    ensures { λ r. ⌜ r ≡ frontRef n upto ⌝ }
+{
     Ref {
         name: n,
         cut: true,
@@ -55,7 +72,9 @@ pub fn front(n: Name, upto: usize) -> Ref {
 }
 
 // A part of the job.
-pub fn of_job(at: usize, len: usize) -> Ref {
+pub fn of_job(at: usize, len: usize) -> Ref
+    ensures { λ r. ⌜ r ≡ jobRef at len ⌝ }
+{
     Ref {
         name: no_name(),
         cut: false,
@@ -68,7 +87,9 @@ pub fn of_job(at: usize, len: usize) -> Ref {
 }
 
 // The first byte of a part of the job.
-fn of_part(job: &[u8], at: usize, len: usize) -> Step {
+fn of_part(job: &[u8], at: usize, len: usize) -> Step
+    ensures { λ r. ⌜ (mem : Bytes) → take len (drop at (now (job .entry))) ≡ stepOf (now (job .entry)) mem r ⌝ }
+{
     if (len == 0) | (job.len() <= at) {
         return Step::End;
     }
@@ -76,7 +97,9 @@ fn of_part(job: &[u8], at: usize, len: usize) -> Step {
 }
 
 // The first byte of what stands behind the name and the slash.
-fn of_last(job: &[u8], files: &[u8], area: &[u8], r: Ref) -> Step {
+fn of_last(job: &[u8], files: &[u8], area: &[u8], r: Ref) -> Step
+    ensures { λ u. ⌜ nameOf (now (files .entry) ++ now (area .entry)) (r .last) ++ take (r .len) (drop (r .at) (now (job .entry))) ≡ stepOf (now (job .entry)) (now (files .entry) ++ now (area .entry)) u ⌝ }
+{
     let n = r.last;
     match names::name::next(files, area, n) {
         names::name::Step::End => of_part(job, r.at, r.len),
@@ -96,7 +119,9 @@ fn of_last(job: &[u8], files: &[u8], area: &[u8], r: Ref) -> Step {
 }
 
 // The first byte of what stands behind the name.
-fn behind(job: &[u8], files: &[u8], area: &[u8], r: Ref) -> Step {
+fn behind(job: &[u8], files: &[u8], area: &[u8], r: Ref) -> Step
+    ensures { λ u. ⌜ slash (r .sep) ++ (nameOf (now (files .entry) ++ now (area .entry)) (r .last) ++ take (r .len) (drop (r .at) (now (job .entry)))) ≡ stepOf (now (job .entry)) (now (files .entry) ++ now (area .entry)) u ⌝ }
+{
     if r.sep {
         let n = r.last;
         let left = Ref {
@@ -114,7 +139,9 @@ fn behind(job: &[u8], files: &[u8], area: &[u8], r: Ref) -> Step {
 }
 
 // The first byte of what is left, and what is left then.
-pub fn next(job: &[u8], files: &[u8], area: &[u8], r: Ref) -> Step {
+pub fn next(job: &[u8], files: &[u8], area: &[u8], r: Ref) -> Step
+    ensures { λ u. ⌜ textOf (now (job .entry)) (now (files .entry) ++ now (area .entry)) r ≡ stepOf (now (job .entry)) (now (files .entry) ++ now (area .entry)) u ⌝ }
+{
     if r.cut & (r.upto == 0) {
         return behind(job, files, area, r);
     }
@@ -138,7 +165,9 @@ pub fn next(job: &[u8], files: &[u8], area: &[u8], r: Ref) -> Step {
 }
 
 // Whether two texts are the same.
-pub fn same_refs(job: &[u8], files: &[u8], area: &[u8], a: Ref, b: Ref) -> bool {
+pub fn same_refs(job: &[u8], files: &[u8], area: &[u8], a: Ref, b: Ref) -> bool
+    ensures { λ r. ⌜ r ≡ Compare·same (textOf (now (job .entry)) (now (files .entry) ++ now (area .entry)) a) (textOf (now (job .entry)) (now (files .entry) ++ now (area .entry)) b) ⌝ }
+{
     let mut x = a;
     let mut y = b;
     loop {
@@ -162,7 +191,9 @@ pub fn same_refs(job: &[u8], files: &[u8], area: &[u8], a: Ref, b: Ref) -> bool 
 }
 
 // A slash as a dot, where dots are wanted.
-pub fn dot(dots: bool, b: u8) -> u8 {
+pub fn dot(dots: bool, b: u8) -> u8
+    ensures { λ r. ⌜ r ≡ dotOf dots b ⌝ }
+{
     if dots & (b == b'/') {
         return b'.';
     }
@@ -170,7 +201,9 @@ pub fn dot(dots: bool, b: u8) -> u8 {
 }
 
 // Writes a text byte by byte in one of the modes of `becomes`, with `/` as `.` where dots are wanted.
-fn put_stream(out: &mut [u8], at: usize, m: u8, dots: bool, job: &[u8], files: &[u8], area: &[u8], r: Ref) -> usize {
+fn put_stream(out: &mut [u8], at: usize, m: u8, dots: bool, job: &[u8], files: &[u8], area: &[u8], r: Ref) -> usize
+    ensures { λ o. ⌜ now (out .exit) ▸ o ≡ emit (now (out .entry) ▸ at) (Bytewise·flat (Bytewise·becomes m) (asDots dots (textOf (now (job .entry)) (now (files .entry) ++ now (area .entry)) r))) ⌝ }
+{
     let mut o = at;
     let mut x = r;
     loop {
@@ -185,14 +218,19 @@ fn put_stream(out: &mut [u8], at: usize, m: u8, dots: bool, job: &[u8], files: &
 }
 
 // Writes what stands behind the name and the slash in one of the modes of `becomes`.
-fn put_last(out: &mut [u8], at: usize, m: u8, job: &[u8], files: &[u8], area: &[u8], r: Ref) -> usize {
+fn put_last(out: &mut [u8], at: usize, m: u8, job: &[u8], files: &[u8], area: &[u8], r: Ref) -> usize
+    ensures { λ o. ⌜ now (out .exit) ▸ o ≡ emit (now (out .entry) ▸ at) (Bytewise·flat (Bytewise·becomes m) (nameOf (now (files .entry) ++ now (area .entry)) (r .last) ++ take (r .len) (drop (r .at) (now (job .entry))))) ⌝ }
+{
     let n = r.last;
     let o = put_mapped(out, at, m, files, area, n);
     flat(out, o, m, part(job, r.at, r.len))
 }
 
 // Writes a text in one of the modes of `becomes`.
-fn put_plain(out: &mut [u8], at: usize, m: u8, job: &[u8], files: &[u8], area: &[u8], r: Ref) -> usize {
+fn put_plain(out: &mut [u8], at: usize, m: u8, job: &[u8], files: &[u8], area: &[u8], r: Ref) -> usize
+    requires { ⌜ r .cut ≡ false ⌝ }
+    ensures { λ o. ⌜ now (out .exit) ▸ o ≡ emit (now (out .entry) ▸ at) (Bytewise·flat (Bytewise·becomes m) (textOf (now (job .entry)) (now (files .entry) ++ now (area .entry)) r)) ⌝ }
+{
     let n = r.name;
     let o = put_mapped(out, at, m, files, area, n);
     if r.sep {
@@ -203,7 +241,9 @@ fn put_plain(out: &mut [u8], at: usize, m: u8, job: &[u8], files: &[u8], area: &
 }
 
 // Writes a text in one of the modes of `becomes`, with `/` as `.` where dots are wanted.
-pub fn put(out: &mut [u8], at: usize, m: u8, dots: bool, job: &[u8], files: &[u8], area: &[u8], r: Ref) -> usize {
+pub fn put(out: &mut [u8], at: usize, m: u8, dots: bool, job: &[u8], files: &[u8], area: &[u8], r: Ref) -> usize
+    ensures { λ o. ⌜ now (out .exit) ▸ o ≡ emit (now (out .entry) ▸ at) (Bytewise·flat (Bytewise·becomes m) (asDots dots (textOf (now (job .entry)) (now (files .entry) ++ now (area .entry)) r))) ⌝ }
+{
     if dots | r.cut {
         return put_stream(out, at, m, dots, job, files, area, r);
     }

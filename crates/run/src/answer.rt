@@ -32,7 +32,18 @@ fn refused(number: usize, place: usize) -> Answer {
 }
 
 // Checks 7 to 10, of records that were read.
-fn texts(job: &[u8], files: &[u8], area: &[u8], nums: &[u32], head: Header, s: State, glue: &mut [u8], package: &mut [u8], report: &mut [u8], room: usize) -> Answer {
+fn texts(
+    job: &[u8],
+    files: &[u8],
+    area: &[u8],
+    nums: &[u32],
+    head: Header,
+    s: State,
+    glue: &mut [u8],
+    package: &mut [u8],
+    report: &mut [u8],
+    room: usize,
+) -> Answer {
     let mut way: [u8; 2208] = [0; 2208];
     let p = find_scope(job, nums, head, files, area, s.head.top, &mut way);
     if p.number != 0 {
@@ -40,14 +51,46 @@ fn texts(job: &[u8], files: &[u8], area: &[u8], nums: &[u32], head: Header, s: S
     }
     let top = part_of(job, head.top);
     let t = if p.way {
-        generate(job, nums, head.modules, p.module, files, area, part(&way, 0, p.len), 0, top, s, glue, package, report)
+        generate(
+            job,
+            nums,
+            head.modules,
+            p.module,
+            files,
+            area,
+            part(&way, 0, p.len),
+            0,
+            top,
+            s,
+            glue,
+            package,
+            report,
+        )
     } else {
-        generate(job, nums, head.modules, p.module, files, area, part_of(job, head.over), p.from, top, s, glue, package, report)
+        generate(
+            job,
+            nums,
+            head.modules,
+            p.module,
+            files,
+            area,
+            part_of(job, head.over),
+            p.from,
+            top,
+            s,
+            glue,
+            package,
+            report,
+        )
     };
     if t.over {
         return refused(13, 0);
     }
-    if (glue.len() < t.glue) | (package.len() < t.package) | (report.len() < t.report) | (room < s.fill.log) {
+    if (glue.len() < t.glue)
+        | (package.len() < t.package)
+        | (report.len() < t.report)
+        | (room < s.fill.log)
+    {
         return refused(14, 0);
     }
     Answer {
@@ -61,7 +104,16 @@ fn texts(job: &[u8], files: &[u8], area: &[u8], nums: &[u32], head: Header, s: S
 }
 
 // Checks 2 to 10, the areas being large enough.
-fn checked(job: &[u8], files: &mut [u8], area: &mut [u8], nums: &mut [u32], glue: &mut [u8], package: &mut [u8], report: &mut [u8], log: &mut [u8]) -> Answer {
+fn checked(
+    job: &[u8],
+    files: &mut [u8],
+    area: &mut [u8],
+    nums: &mut [u32],
+    glue: &mut [u8],
+    package: &mut [u8],
+    report: &mut [u8],
+    log: &mut [u8],
+) -> Answer {
     match job::read_job(job, nums) {
         Read::Refused { number, line } => refused(number as usize, line),
         Read::Taken { head } => {
@@ -71,13 +123,33 @@ fn checked(job: &[u8], files: &mut [u8], area: &mut [u8], nums: &mut [u32], glue
                 return refused(r.tag, s.count.commands);
             }
             let room = log.len();
-            texts(job, &files[..65536], area, nums, head, s, glue, package, report, room)
+            texts(
+                job,
+                &files[..65536],
+                area,
+                nums,
+                head,
+                s,
+                glue,
+                package,
+                report,
+                room,
+            )
         }
     }
 }
 
 // A job, answered. Outputs past their length, and the work areas, are zero afterwards.
-pub fn run(job: &[u8], files: &mut [u8], area: &mut [u8], nums: &mut [u32], glue: &mut [u8], package: &mut [u8], report: &mut [u8], log: &mut [u8]) -> Answer {
+pub fn run(
+    job: &[u8],
+    files: &mut [u8],
+    area: &mut [u8],
+    nums: &mut [u32],
+    glue: &mut [u8],
+    package: &mut [u8],
+    report: &mut [u8],
+    log: &mut [u8],
+) -> Answer {
     let mut a = refused(1, 0);
     if (65536 <= files.len()) & (65536 <= area.len()) & (16384 <= nums.len()) {
         a = checked(job, files, area, nums, glue, package, report, log);

@@ -95,7 +95,15 @@ fn by_type(job: &[u8], index: &[u32], head: Header, kind: &[u8], way: &mut [u8])
 }
 
 // The scope of a job whose commands set this design top. `way` is lent for the path of a type.
-pub fn find_scope<'a>(job: &[u8], index: &[u32], head: Header, files: &'a [u8], area: &'a [u8], t: Maybe, way: &mut [u8]) -> Scope {
+pub fn find_scope<'a>(
+    job: &[u8],
+    index: &[u32],
+    head: Header,
+    files: &'a [u8],
+    area: &'a [u8],
+    t: Maybe,
+    way: &mut [u8],
+) -> Scope {
     if head.over.len != 0 {
         return by_override(job, index, head);
     }
@@ -105,7 +113,13 @@ pub fn find_scope<'a>(job: &[u8], index: &[u32], head: Header, files: &'a [u8], 
             if is_name(files, area, alone(span(s), 0), part_of(job, head.top)) {
                 return top(head);
             }
-            by_type(job, index, head, spans::span::fetch(files, area, span(s)), way)
+            by_type(
+                job,
+                index,
+                head,
+                spans::span::fetch(files, area, span(s)),
+                way,
+            )
         }
     }
 }

@@ -1,11 +1,11 @@
 // create_power_switch, add_port_state: their states are words of the store.
-use made::Made;
-use made::fine;
-use made::full;
 use args::argument::name;
 use args::argument::option;
 use args::state::State as Word;
 use args::state::state_at;
+use made::Made;
+use made::fine;
+use made::full;
 use store::state::PortState;
 use store::state::State;
 use store::state::Switch;

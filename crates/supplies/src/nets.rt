@@ -117,7 +117,15 @@ fn created(files: &[u8], area: &[u8], t: Nets, table: &mut [u32]) -> usize {
 }
 
 // The nets of ports behind the first n.
-fn of_ports<'a>(files: &'a [u8], area: &'a [u8], nums: &[u32], rows: usize, t: Ports, table: &mut [u32], n: usize) -> usize {
+fn of_ports<'a>(
+    files: &'a [u8],
+    area: &'a [u8],
+    nums: &[u32],
+    rows: usize,
+    t: Ports,
+    table: &mut [u32],
+    n: usize,
+) -> usize {
     let mut k = n;
     let mut i = 0;
     while i < t.n {
@@ -131,7 +139,13 @@ fn of_ports<'a>(files: &'a [u8], area: &'a [u8], nums: &[u32], rows: usize, t: P
 }
 
 // The nets of switches behind the first n.
-fn of_switches<'a>(files: &'a [u8], area: &'a [u8], t: Switches, table: &mut [u32], n: usize) -> usize {
+fn of_switches<'a>(
+    files: &'a [u8],
+    area: &'a [u8],
+    t: Switches,
+    table: &mut [u32],
+    n: usize,
+) -> usize {
     let mut k = n;
     let mut i = 0;
     while i < t.n {
@@ -149,7 +163,16 @@ fn of_switches<'a>(files: &'a [u8], area: &'a [u8], t: Switches, table: &mut [u3
 }
 
 // Puts the supply nets into a table, and returns how many they are.
-pub fn supply_nets<'a>(files: &'a [u8], area: &'a [u8], nums: &[u32], rows: usize, nets: Nets, ports: Ports, switches: Switches, table: &mut [u32]) -> usize {
+pub fn supply_nets<'a>(
+    files: &'a [u8],
+    area: &'a [u8],
+    nums: &[u32],
+    rows: usize,
+    nets: Nets,
+    ports: Ports,
+    switches: Switches,
+    table: &mut [u32],
+) -> usize {
     let a = created(files, area, nets, table);
     let b = of_ports(files, area, nums, rows, ports, table, a);
     of_switches(files, area, switches, table, b)

@@ -82,7 +82,19 @@ pub fn control(files: &[u8], area: &[u8], controls: &[u32], n: usize, w: Ref) ->
 }
 
 // Writes what a word of n bytes stands for.
-fn put_word(out: &mut [u8], at: usize, job: &[u8], files: &[u8], area: &[u8], over: &[u8], from: usize, controls: &[u32], count: usize, e: Name, n: usize) -> usize {
+fn put_word(
+    out: &mut [u8],
+    at: usize,
+    job: &[u8],
+    files: &[u8],
+    area: &[u8],
+    over: &[u8],
+    from: usize,
+    controls: &[u32],
+    count: usize,
+    e: Name,
+    n: usize,
+) -> usize {
     let w = front(e, n);
     let k = control(files, area, controls, count, w);
     if k != 0 {
@@ -96,7 +108,18 @@ fn put_word(out: &mut [u8], at: usize, job: &[u8], files: &[u8], area: &[u8], ov
 }
 
 // Writes a condition.
-pub fn put_condition(out: &mut [u8], at: usize, job: &[u8], files: &[u8], area: &[u8], over: &[u8], from: usize, controls: &[u32], count: usize, e: Name) -> usize {
+pub fn put_condition(
+    out: &mut [u8],
+    at: usize,
+    job: &[u8],
+    files: &[u8],
+    area: &[u8],
+    over: &[u8],
+    from: usize,
+    controls: &[u32],
+    count: usize,
+    e: Name,
+) -> usize {
     let mut o = at;
     let mut x = e;
     loop {

@@ -29,7 +29,19 @@ pub struct Warned {
 }
 
 // The warnings about a condition.
-fn condition_warnings(out: &mut [u8], at: Warned, job: &[u8], files: &[u8], area: &[u8], over: &[u8], from: usize, top: &[u8], controls: &[u32], n: usize, e: Name) -> Warned {
+fn condition_warnings(
+    out: &mut [u8],
+    at: Warned,
+    job: &[u8],
+    files: &[u8],
+    area: &[u8],
+    over: &[u8],
+    from: usize,
+    top: &[u8],
+    controls: &[u32],
+    n: usize,
+    e: Name,
+) -> Warned {
     let mut o = at;
     let mut x = e;
     loop {
@@ -41,9 +53,25 @@ fn condition_warnings(out: &mut [u8], at: Warned, job: &[u8], files: &[u8], area
                     continue;
                 }
                 let k = word_size(files, area, x);
-                if (control(files, area, controls, n, front(x, k)) == 0) & !is_number(files, area, x, k) {
-                    let p = fill1(out, o.at, b"warning: power switch state uses unknown control port '{0}'\n", job, files, area, over, from, top, wrapped(0, front(x, k)));
-                    o = Warned { at: p, count: o.count + 1 };
+                if (control(files, area, controls, n, front(x, k)) == 0)
+                    & !is_number(files, area, x, k)
+                {
+                    let p = fill1(
+                        out,
+                        o.at,
+                        b"warning: power switch state uses unknown control port '{0}'\n",
+                        job,
+                        files,
+                        area,
+                        over,
+                        from,
+                        top,
+                        wrapped(0, front(x, k)),
+                    );
+                    o = Warned {
+                        at: p,
+                        count: o.count + 1,
+                    };
                 }
                 x = behind(files, area, x, k);
             }
@@ -52,34 +80,98 @@ fn condition_warnings(out: &mut [u8], at: Warned, job: &[u8], files: &[u8], area
 }
 
 // The warnings about an on-state of switch w.
-fn state_warnings(out: &mut [u8], at: Warned, job: &[u8], files: &[u8], area: &[u8], over: &[u8], from: usize, top: &[u8], controls: &[u32], n: usize, w: Switch, v: Span) -> Warned {
+fn state_warnings(
+    out: &mut [u8],
+    at: Warned,
+    job: &[u8],
+    files: &[u8],
+    area: &[u8],
+    over: &[u8],
+    from: usize,
+    top: &[u8],
+    controls: &[u32],
+    n: usize,
+    w: Switch,
+    v: Span,
+) -> Warned {
     let port = nth(files, area, v, 1);
     let input = nth(files, area, span(w.input), 0);
     let e = nth(files, area, v, 2);
     if same_names(files, area, port, input) {
         return condition_warnings(out, at, job, files, area, over, from, top, controls, n, e);
     }
-    let p = fill3(out, at.at, b"warning: power switch '{0}': on_state uses input port '{1}' (expected '{2}')\n", job, files, area, over, from, top, name(stored(w.name)), name(port), name(input));
-    let o = Warned { at: p, count: at.count + 1 };
+    let p = fill3(
+        out,
+        at.at,
+        b"warning: power switch '{0}': on_state uses input port '{1}' (expected '{2}')\n",
+        job,
+        files,
+        area,
+        over,
+        from,
+        top,
+        name(stored(w.name)),
+        name(port),
+        name(input),
+    );
+    let o = Warned {
+        at: p,
+        count: at.count + 1,
+    };
     condition_warnings(out, o, job, files, area, over, from, top, controls, n, e)
 }
 
 // The warnings about switch w.
-fn of_switch(out: &mut [u8], at: Warned, job: &[u8], files: &[u8], area: &[u8], nums: &[u32], over: &[u8], from: usize, top: &[u8], w: Switch) -> Warned {
+fn of_switch(
+    out: &mut [u8],
+    at: Warned,
+    job: &[u8],
+    files: &[u8],
+    area: &[u8],
+    nums: &[u32],
+    over: &[u8],
+    from: usize,
+    top: &[u8],
+    w: Switch,
+) -> Warned {
     let mut controls: [u32; 320] = [0; 320];
     let n = entries(files, area, span(w.controls), &mut controls, 0);
     let mut o = at;
     let mut k = 0;
     while k < w.ons as usize {
         let v = word_at(nums, w.first as usize + k);
-        o = state_warnings(out, o, job, files, area, over, from, top, &controls, n, w, span(v));
+        o = state_warnings(
+            out,
+            o,
+            job,
+            files,
+            area,
+            over,
+            from,
+            top,
+            &controls,
+            n,
+            w,
+            span(v),
+        );
         k += 1;
     }
     o
 }
 
 // The warnings about all switches.
-pub fn switch_warnings(out: &mut [u8], at: Warned, job: &[u8], files: &[u8], area: &[u8], nums: &[u32], over: &[u8], from: usize, top: &[u8], t: Switches) -> Warned {
+pub fn switch_warnings(
+    out: &mut [u8],
+    at: Warned,
+    job: &[u8],
+    files: &[u8],
+    area: &[u8],
+    nums: &[u32],
+    over: &[u8],
+    from: usize,
+    top: &[u8],
+    t: Switches,
+) -> Warned {
     let mut o = at;
     let mut i = 0;
     while i < t.n {

@@ -1,11 +1,11 @@
 // create_pst, add_pst_state.
+use args::argument::name;
+use args::argument::option;
 use made::Made;
 use made::fine;
 use made::full;
 use made::warned;
 use made::with_row;
-use args::argument::name;
-use args::argument::option;
 use spans::span::same_spans;
 use store::row::Row;
 use store::state::State;
