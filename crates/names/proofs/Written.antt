@@ -2,7 +2,7 @@
 use Prim.Native.Nat.{ℕ, _+_, _-_, _≤_, _<_}
 use mathlib.Core.Path.{_≡_, refl, sym, ap, _∙_}
 use mathlib.Core.Bool.{Bool, true, false, cond}
-use mathlib.Core.List.{List, [], _∷_, _++_, append-assoc}
+use mathlib.Core.List.{List, [], _∷_, _++_}
 use lib.Dec.{eqb}
 use lib.ListN.{length, take, drop, length-drop}
 use borrow.Author.Needs.{needs}
@@ -12,26 +12,13 @@ use Rattle.text.specs.Lists.{drop-two, take-two}
 use Rattle.spans.specs.Span.{_⋯_, bytes}
 use Rattle.spans.specs.declared.span.Span.{Span}
 use Rattle.out.specs.Emit.{Out, emit, emit-append}
-use Rattle.out.specs.Bytewise.{flat, becomes, mangle, dotted, svStr}
+use Rattle.out.specs.Bytewise.{flat, becomes, mangle, dotted, svStr, flat-two, flat-same}
 use Rattle.names.specs.Name.{named, entryOf, slash, nameOf}
 use Rattle.names.specs.declared.name.Name.{Name}
 
 span-two : (t a : Bytes) (s : Span) → bytes (t ++ a) s ≡ take (s .len) (drop (s .at) t) ++ take (s .len - (length t - s .at)) (drop (s .at - length t) a)
 unfolding bytes
 span-two t a s = rw (drop-two, take-two, length-drop)
-
-flat-append : (f : ℕ → Bytes) (p q : Bytes) → flat f (p ++ q) ≡ flat f p ++ flat f q
-unfolding flat
-flat-append f [] q = refl
-flat-append f (x ∷ p) q = rw (flat-append f p q, append-assoc)
-
-flat-two : (f : ℕ → Bytes) (o o₁ o₂ : Out) (p q : Bytes) → o₂ ≡ emit o₁ (flat f q) → o₁ ≡ emit o (flat f p) → o₂ ≡ emit o (flat f (p ++ q))
-flat-two f o o₁ o₂ p q h g = rw (flat-append, emit-append, ← g) h
-
-flat-same : (p : Bytes) → flat (becomes 0) p ≡ p
-unfolding flat becomes
-flat-same [] = refl
-flat-same (b ∷ p) = ap (λ (r : Bytes). b ∷ r) (flat-same p)
 
 -- the modes by their names
 module _ (o w : Out) (p : Bytes) where

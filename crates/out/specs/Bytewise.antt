@@ -1,9 +1,9 @@
 -- Texts made byte by byte of another: `mangle`, `sv_str`, and `/` as `.`. Assumes nothing.
 use Prim.Native.Nat.{ℕ, _+_, _<_, _≤_}
 use native.Mathlib.Numerals.{add-one}
-use mathlib.Core.Path.{_≡_, refl}
+use mathlib.Core.Path.{_≡_, refl, ap}
 use mathlib.Core.Bool.{Bool, cond}
-use mathlib.Core.List.{List, [], _∷_, _++_}
+use mathlib.Core.List.{List, [], _∷_, _++_, append-assoc}
 use lib.ListN.{length, getD, drop, drop-of-length-le}
 use lib.Seq.{drop-cons}
 use lib.Dec.{eqb}
@@ -49,3 +49,18 @@ flat-next f o o′ w p i h e k = rw (e, add-one) (rw (drop-cons p i 0, emit-appe
 pub flat-done : (f : ℕ → Bytes) (o w : Out) (p : Bytes) (i : ℕ) → length p ≤ i → emit o (flat f (drop i p)) ≡ w → o ≡ w
 unfolding flat emit
 flat-done f o w p i h k = rw (drop-of-length-le p {i = i} h) at k
+
+-- two texts, one behind the other
+pub flat-append : (f : ℕ → Bytes) (p q : Bytes) → flat f (p ++ q) ≡ flat f p ++ flat f q
+unfolding flat
+flat-append f [] q = refl
+flat-append f (x ∷ p) q = rw (flat-append f p q, append-assoc)
+
+pub flat-two : (f : ℕ → Bytes) (o o₁ o₂ : Out) (p q : Bytes) → o₂ ≡ emit o₁ (flat f q) → o₁ ≡ emit o (flat f p) → o₂ ≡ emit o (flat f (p ++ q))
+flat-two f o o₁ o₂ p q h g = rw (flat-append, emit-append, ← g) h
+
+-- the byte itself in mode 0
+pub flat-same : (p : Bytes) → flat (becomes 0) p ≡ p
+unfolding flat becomes
+flat-same [] = refl
+flat-same (b ∷ p) = ap (λ (r : Bytes). b ∷ r) (flat-same p)

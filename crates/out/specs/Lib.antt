@@ -5,3 +5,4 @@ pub mod Number
 pub mod Items
 pub mod Clear
 pub mod Fits
+pub mod Marks

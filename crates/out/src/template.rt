@@ -73,7 +73,7 @@ fn is_brace(b: u8) -> bool
 }
 
 // Where the run of plain bytes that begins at `at` ends.
-fn run_end(t: &[u8], at: usize) -> usize
+pub fn run_end(t: &[u8], at: usize) -> usize
     requires { ⌜ at ≤ length (now t) ⌝ }
     ensures { λ r. ⌜ Ends (at + before isBrace (drop at (now (t .entry)))) (length (now (t .entry))) r ⌝ }
 {
@@ -116,7 +116,7 @@ fn mark<'a>(
 }
 
 // Where the mark at i ends.
-fn mark_end(t: &[u8], i: usize) -> usize
+pub fn mark_end(t: &[u8], i: usize) -> usize
     requires { ⌜ i ≤ length (now t) ⌝ }
     ensures { λ r. ⌜ r ≡ i + markSize (drop i (now (t .entry))) ⌝ }
 {

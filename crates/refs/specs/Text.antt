@@ -25,19 +25,26 @@ abbrev pub stepOf : Bytes → Bytes → Step → Bytes
 stepOf job mem (Byte b r) = b ∷ textOf job mem r
 stepOf job mem End = []
 
+-- of a part of the job: its first byte and what is left, whatever is stored
+pub record Starts (job : Bytes) (at len : ℕ) (r : Step) : Type 0 where
+  pub is : (mem : Bytes) → take len (drop at job) ≡ stepOf job mem r
+
 -- ---- texts that are made
+
+abbrev pub refOf : Name → Bool → ℕ → Bool → Name → ℕ → ℕ → Ref
+refOf n c k p l at len = record { name = n; cut = c; upto = k; sep = p; last = l; at = at; len = len }
 
 abbrev pub noName : Name
 noName = named (0 ⋯ 0) false (0 ⋯ 0) 0
 
 abbrev pub wholeRef : Name → Ref
-wholeRef n = record { name = n; cut = false; upto = 0; sep = false; last = noName; at = 0; len = 0 }
+wholeRef n = refOf n false 0 false noName 0 0
 
 abbrev pub frontRef : Name → ℕ → Ref
-frontRef n k = record { name = n; cut = true; upto = k; sep = false; last = noName; at = 0; len = 0 }
+frontRef n k = refOf n true k false noName 0 0
 
 abbrev pub jobRef : ℕ → ℕ → Ref
-jobRef at len = record { name = noName; cut = false; upto = 0; sep = false; last = noName; at = at; len = len }
+jobRef at len = refOf noName false 0 false noName at len
 
 -- ---- with dots, where they are wanted
 

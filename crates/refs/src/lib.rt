@@ -1,15 +1,13 @@
 // A text in pieces: a stored name, or its first bytes; a slash; another stored name; and a part of the job. A text without its first byte is a text.
-ghost use Prim.Native.Nat.{_+_};
 ghost use mathlib.Core.Path.{_≡_};
 ghost use mathlib.Core.Bool.{false};
 ghost use mathlib.Core.List.{_++_};
 ghost use lib.ListN.{take, drop};
-ghost use Rattle.text.specs.Ascii.{Bytes};
 ghost use Rattle.text.specs.Compare.{same as Compare·same};
 ghost use Rattle.out.specs.Emit.{_▸_, emit};
 ghost use Rattle.out.specs.Bytewise.{flat as Bytewise·flat, becomes as Bytewise·becomes};
 ghost use Rattle.names.specs.Name.{nameOf, slash};
-ghost use Rattle.refs.specs.Text.{textOf, stepOf, noName, wholeRef, frontRef, jobRef, dotOf, asDots};
+ghost use Rattle.refs.specs.Text.{textOf, stepOf, Starts, noName, wholeRef, frontRef, jobRef, dotOf, asDots};
 use names::name::Name;
 use names::put::put_mapped;
 use out::bytewise::becomes;
@@ -88,9 +86,12 @@ pub fn of_job(at: usize, len: usize) -> Ref
 
 // The first byte of a part of the job.
 fn of_part(job: &[u8], at: usize, len: usize) -> Step
-    ensures { λ r. ⌜ (mem : Bytes) → take len (drop at (now (job .entry))) ≡ stepOf (now (job .entry)) mem r ⌝ }
+    ensures { λ r. ⌜ Starts (now (job .entry)) at len r ⌝ }
 {
-    if (len == 0) | (job.len() <= at) {
+    if len == 0 {
+        return Step::End;
+    }
+    if job.len() <= at {
         return Step::End;
     }
     Step::Byte(job[at], of_job(at + 1, len - 1))
@@ -201,7 +202,16 @@ pub fn dot(dots: bool, b: u8) -> u8
 }
 
 // Writes a text byte by byte in one of the modes of `becomes`, with `/` as `.` where dots are wanted.
-fn put_stream(out: &mut [u8], at: usize, m: u8, dots: bool, job: &[u8], files: &[u8], area: &[u8], r: Ref) -> usize
+fn put_stream(
+    out: &mut [u8],
+    at: usize,
+    m: u8,
+    dots: bool,
+    job: &[u8],
+    files: &[u8],
+    area: &[u8],
+    r: Ref,
+) -> usize
     ensures { λ o. ⌜ now (out .exit) ▸ o ≡ emit (now (out .entry) ▸ at) (Bytewise·flat (Bytewise·becomes m) (asDots dots (textOf (now (job .entry)) (now (files .entry) ++ now (area .entry)) r))) ⌝ }
 {
     let mut o = at;
@@ -218,7 +228,15 @@ fn put_stream(out: &mut [u8], at: usize, m: u8, dots: bool, job: &[u8], files: &
 }
 
 // Writes what stands behind the name and the slash in one of the modes of `becomes`.
-fn put_last(out: &mut [u8], at: usize, m: u8, job: &[u8], files: &[u8], area: &[u8], r: Ref) -> usize
+fn put_last(
+    out: &mut [u8],
+    at: usize,
+    m: u8,
+    job: &[u8],
+    files: &[u8],
+    area: &[u8],
+    r: Ref,
+) -> usize
     ensures { λ o. ⌜ now (out .exit) ▸ o ≡ emit (now (out .entry) ▸ at) (Bytewise·flat (Bytewise·becomes m) (nameOf (now (files .entry) ++ now (area .entry)) (r .last) ++ take (r .len) (drop (r .at) (now (job .entry))))) ⌝ }
 {
     let n = r.last;
@@ -227,7 +245,15 @@ fn put_last(out: &mut [u8], at: usize, m: u8, job: &[u8], files: &[u8], area: &[
 }
 
 // Writes a text in one of the modes of `becomes`.
-fn put_plain(out: &mut [u8], at: usize, m: u8, job: &[u8], files: &[u8], area: &[u8], r: Ref) -> usize
+fn put_plain(
+    out: &mut [u8],
+    at: usize,
+    m: u8,
+    job: &[u8],
+    files: &[u8],
+    area: &[u8],
+    r: Ref,
+) -> usize
     requires { ⌜ r .cut ≡ false ⌝ }
     ensures { λ o. ⌜ now (out .exit) ▸ o ≡ emit (now (out .entry) ▸ at) (Bytewise·flat (Bytewise·becomes m) (textOf (now (job .entry)) (now (files .entry) ++ now (area .entry)) r)) ⌝ }
 {
@@ -241,7 +267,16 @@ fn put_plain(out: &mut [u8], at: usize, m: u8, job: &[u8], files: &[u8], area: &
 }
 
 // Writes a text in one of the modes of `becomes`, with `/` as `.` where dots are wanted.
-pub fn put(out: &mut [u8], at: usize, m: u8, dots: bool, job: &[u8], files: &[u8], area: &[u8], r: Ref) -> usize
+pub fn put(
+    out: &mut [u8],
+    at: usize,
+    m: u8,
+    dots: bool,
+    job: &[u8],
+    files: &[u8],
+    area: &[u8],
+    r: Ref,
+) -> usize
     ensures { λ o. ⌜ now (out .exit) ▸ o ≡ emit (now (out .entry) ▸ at) (Bytewise·flat (Bytewise·becomes m) (asDots dots (textOf (now (job .entry)) (now (files .entry) ++ now (area .entry)) r))) ⌝ }
 {
     if dots | r.cut {

@@ -1,4 +1,4 @@
-use Rattle.out.proofs.Marks.{marks}
+use Rattle.out.specs.Marks.{marks}
 use borrow.Author.Needs.{needs}
 use Rattle.out.proofs.template.mark.Statement.{statement}
 use Rattle.out.proofs.template.mark.Tie as tie

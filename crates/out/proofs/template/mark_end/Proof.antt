@@ -1,4 +1,4 @@
-use Rattle.out.proofs.Marks.{size-none, size-shut, size-doubled, size-argument}
+use Rattle.out.specs.Marks.{size-none, size-shut, size-doubled, size-argument}
 use borrow.Author.Needs.{needs}
 use Rattle.out.proofs.template.mark_end.Statement.{statement}
 use Rattle.out.proofs.template.mark_end.Tie as tie

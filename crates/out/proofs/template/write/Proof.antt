@@ -1,6 +1,6 @@
 use Rattle.out.specs.Emit.{_▸_, emit}
 use Rattle.out.specs.Fill.{fill, arg}
-use Rattle.out.proofs.Marks.{Fills, fills-start, fills-turn, fills-less, fills-done}
+use Rattle.out.specs.Marks.{Fills, fills-start, fills-turn, fills-less, fills-done}
 use Prim.Native.Nat.{_+_, _≤_, _-_}
 use mathlib.Core.Path.{_≡_}
 use lib.ListN.{length, drop}

@@ -1,0 +1,3 @@
+pub mod Firsts
+pub mod Streams
+pub mod Written
