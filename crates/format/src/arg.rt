@@ -1,8 +1,14 @@
 // The arguments of a template.
-use super::scope::put_dots;
-use super::scope::put_hier;
-use super::scope::put_slashed;
-use super::scope::put_slice;
+ghost use mathlib.Core.Path.{_≡_};
+ghost use mathlib.Core.List.{_++_};
+ghost use Rattle.out.specs.Emit.{_▸_, emit};
+ghost use Rattle.out.specs.Bytewise.{flat as Bytewise·flat, becomes as Bytewise·becomes};
+ghost use Rattle.scope.specs.Parts.{parts};
+ghost use Rattle.format.specs.Args.{literal, argOf, wrappedArg, nameArg, hierArg, fixedArg};
+use super::path::put_dots;
+use super::path::put_hier;
+use super::path::put_slashed;
+use super::path::put_slice;
 use names::name::Name;
 use out::bytewise::flat;
 use refs::Ref;
@@ -17,7 +23,9 @@ pub struct Arg {
 }
 
 // A stored name.
-pub fn name(n: Name) -> Arg {
+pub fn name(n: Name) -> Arg
+    ensures { λ r. ⌜ r ≡ nameArg n ⌝ }
+{
     Arg {
         wrap: 0,
         text: whole(n),
@@ -25,7 +33,9 @@ pub fn name(n: Name) -> Arg {
 }
 
 // A name below the scope, with dots.
-pub fn hier(n: Name) -> Arg {
+pub fn hier(n: Name) -> Arg
+    ensures { λ r. ⌜ r ≡ hierArg n ⌝ }
+{
     Arg {
         wrap: 1,
         text: whole(n),
@@ -33,7 +43,9 @@ pub fn hier(n: Name) -> Arg {
 }
 
 // A text in one of the wraps.
-pub fn wrapped(wrap: u8, r: Ref) -> Arg {
+pub fn wrapped(wrap: u8, r: Ref) -> Arg
+    ensures { λ z. ⌜ z ≡ wrappedArg wrap r ⌝ }
+{
     Arg {
         wrap: wrap,
         text: r,
@@ -41,7 +53,9 @@ pub fn wrapped(wrap: u8, r: Ref) -> Arg {
 }
 
 // The top, or a literal.
-pub fn fixed(wrap: u8) -> Arg {
+pub fn fixed(wrap: u8) -> Arg
+    ensures { λ r. ⌜ r ≡ fixedArg wrap ⌝ }
+{
     Arg {
         wrap: wrap,
         text: of_job(0, 0),
@@ -49,7 +63,9 @@ pub fn fixed(wrap: u8) -> Arg {
 }
 
 // Writes the literal of a number.
-fn put_literal(out: &mut [u8], at: usize, m: u8, k: u8) -> usize {
+fn put_literal(out: &mut [u8], at: usize, m: u8, k: u8) -> usize
+    ensures { λ z. ⌜ now (out .exit) ▸ z ≡ emit (now (out .entry) ▸ at) (Bytewise·flat (Bytewise·becomes m) (literal k)) ⌝ }
+{
     if k == 5 {
         return flat(out, at, m, b"1'b0");
     }
@@ -80,7 +96,9 @@ pub fn put(
     from: usize,
     top: &[u8],
     a: Arg,
-) -> usize {
+) -> usize
+    ensures { λ z. ⌜ now (out .exit) ▸ z ≡ emit (now (out .entry) ▸ at) (Bytewise·flat (Bytewise·becomes m) (argOf (now (job .entry)) (now (files .entry) ++ now (area .entry)) (parts (now (over .entry)) from) (now (top .entry)) a)) ⌝ }
+{
     let r = a.text;
     if a.wrap == 0 {
         return refs::put(out, at, m, false, job, files, area, r);

@@ -1,12 +1,26 @@
 // A template written with its arguments in their places: see the places of a template in `out`.
+ghost use mathlib.Core.Path.{_≡_};
+ghost use mathlib.Core.Bool.{true};
+ghost use mathlib.Core.List.{[], _++_};
+ghost use Prim.Native.Nat.{_≤_};
+ghost use lib.ListN.{length, drop};
+ghost use Rattle.out.specs.Emit.{_▸_, emit};
+ghost use Rattle.out.specs.Fill.{isTemplate, markText, fill as Fill·fill};
+ghost use Rattle.scope.specs.Parts.{parts};
+ghost use Rattle.format.specs.Args.{argOf, letters, pickArg};
 use super::arg::Arg;
 use super::arg::fixed;
 use super::arg::put as put_arg;
 use out::emit::byte;
 use out::emit::put;
+use out::template::mark_end;
+use out::template::run_end;
 use text::part::peek;
 
-fn picked(j: u8, a: Arg, b: Arg, c: Arg, d: Arg, e: Arg) -> Arg {
+// The argument of a number.
+fn picked(j: u8, a: Arg, b: Arg, c: Arg, d: Arg, e: Arg) -> Arg
+    ensures { λ r. ⌜ r ≡ pickArg j a b c d e ⌝ }
+{
     if j == 0 {
         return a;
     }
@@ -38,7 +52,9 @@ fn argument(
     c: Arg,
     d: Arg,
     e: Arg,
-) -> usize {
+) -> usize
+    ensures { λ z. ⌜ now (out .exit) ▸ z ≡ emit (now (out .entry) ▸ at) (letters (now (job .entry)) (now (files .entry) ++ now (area .entry)) (parts (now (over .entry)) from) (now (top .entry)) a b c d e k) ⌝ }
+{
     if (b'0' <= k) & (k <= b'4') {
         let p = picked(k - b'0', a, b, c, d, e);
         return put_arg(out, at, 0, job, files, area, over, from, top, p);
@@ -58,22 +74,6 @@ fn argument(
     at
 }
 
-fn is_brace(b: u8) -> bool {
-    (b == b'{') | (b == b'}')
-}
-
-// Where the run of plain bytes that begins at `at` ends.
-fn run_end(t: &[u8], at: usize) -> usize {
-    let mut i = at;
-    while i < t.len() {
-        if is_brace(t[i]) {
-            return i;
-        }
-        i += 1;
-    }
-    i
-}
-
 // What the mark at i adds: nothing at the end.
 fn mark(
     out: &mut [u8],
@@ -91,7 +91,10 @@ fn mark(
     c: Arg,
     d: Arg,
     e: Arg,
-) -> usize {
+) -> usize
+    requires { ⌜ i ≤ length (now t) ⌝ }
+    ensures { λ z. ⌜ now (out .exit) ▸ z ≡ emit (now (out .entry) ▸ at) (markText (letters (now (job .entry)) (now (files .entry) ++ now (area .entry)) (parts (now (over .entry)) from) (now (top .entry)) a b c d e) (drop i (now (t .entry)))) ⌝ }
+{
     if t.len() <= i {
         return at;
     }
@@ -103,20 +106,6 @@ fn mark(
         return byte(out, at, b'{');
     }
     argument(out, at, k, job, files, area, over, from, top, a, b, c, d, e)
-}
-
-// Where the mark at i ends.
-fn mark_end(t: &[u8], i: usize) -> usize {
-    if t.len() <= i {
-        return i;
-    }
-    if t[i] == b'}' {
-        return i + 2;
-    }
-    if peek(t, i + 1) == b'{' {
-        return i + 2;
-    }
-    i + 3
 }
 
 // Writes the template t with its five arguments in their places.
@@ -135,7 +124,32 @@ pub fn fill(
     c: Arg,
     d: Arg,
     e: Arg,
-) -> usize {
+) -> usize
+    requires { ⌜ isTemplate 5 (now t) ≡ true ⌝ }
+    ensures { λ z. ⌜ now (out .exit) ▸ z ≡ emit (now (out .entry) ▸ at) (Fill·fill (now (t .entry)) (argOf (now (job .entry)) (now (files .entry) ++ now (area .entry)) (parts (now (over .entry)) from) (now (top .entry)) a) (argOf (now (job .entry)) (now (files .entry) ++ now (area .entry)) (parts (now (over .entry)) from) (now (top .entry)) b) (argOf (now (job .entry)) (now (files .entry) ++ now (area .entry)) (parts (now (over .entry)) from) (now (top .entry)) c) (argOf (now (job .entry)) (now (files .entry) ++ now (area .entry)) (parts (now (over .entry)) from) (now (top .entry)) d) (argOf (now (job .entry)) (now (files .entry) ++ now (area .entry)) (parts (now (over .entry)) from) (now (top .entry)) e)) ⌝ }
+{
+    write(out, at, t, job, files, area, over, from, top, a, b, c, d, e)
+}
+
+// The same of any text.
+fn write(
+    out: &mut [u8],
+    at: usize,
+    t: &[u8],
+    job: &[u8],
+    files: &[u8],
+    area: &[u8],
+    over: &[u8],
+    from: usize,
+    top: &[u8],
+    a: Arg,
+    b: Arg,
+    c: Arg,
+    d: Arg,
+    e: Arg,
+) -> usize
+    ensures { λ z. ⌜ now (out .exit) ▸ z ≡ emit (now (out .entry) ▸ at) (Fill·fill (now (t .entry)) (argOf (now (job .entry)) (now (files .entry) ++ now (area .entry)) (parts (now (over .entry)) from) (now (top .entry)) a) (argOf (now (job .entry)) (now (files .entry) ++ now (area .entry)) (parts (now (over .entry)) from) (now (top .entry)) b) (argOf (now (job .entry)) (now (files .entry) ++ now (area .entry)) (parts (now (over .entry)) from) (now (top .entry)) c) (argOf (now (job .entry)) (now (files .entry) ++ now (area .entry)) (parts (now (over .entry)) from) (now (top .entry)) d) (argOf (now (job .entry)) (now (files .entry) ++ now (area .entry)) (parts (now (over .entry)) from) (now (top .entry)) e)) ⌝ }
+{
     let mut o = at;
     let mut i = 0;
     while i < t.len() {
@@ -176,9 +190,12 @@ pub fn fill1(
     from: usize,
     top: &[u8],
     a: Arg,
-) -> usize {
+) -> usize
+    requires { ⌜ isTemplate 1 (now t) ≡ true ⌝ }
+    ensures { λ z. ⌜ now (out .exit) ▸ z ≡ emit (now (out .entry) ▸ at) (Fill·fill (now (t .entry)) (argOf (now (job .entry)) (now (files .entry) ++ now (area .entry)) (parts (now (over .entry)) from) (now (top .entry)) a) [] [] [] []) ⌝ }
+{
     let z = fixed(0);
-    fill(out, at, t, job, files, area, over, from, top, a, z, z, z, z)
+    write(out, at, t, job, files, area, over, from, top, a, z, z, z, z)
 }
 
 // With two.
@@ -194,9 +211,12 @@ pub fn fill2(
     top: &[u8],
     a: Arg,
     b: Arg,
-) -> usize {
+) -> usize
+    requires { ⌜ isTemplate 2 (now t) ≡ true ⌝ }
+    ensures { λ z. ⌜ now (out .exit) ▸ z ≡ emit (now (out .entry) ▸ at) (Fill·fill (now (t .entry)) (argOf (now (job .entry)) (now (files .entry) ++ now (area .entry)) (parts (now (over .entry)) from) (now (top .entry)) a) (argOf (now (job .entry)) (now (files .entry) ++ now (area .entry)) (parts (now (over .entry)) from) (now (top .entry)) b) [] [] []) ⌝ }
+{
     let z = fixed(0);
-    fill(out, at, t, job, files, area, over, from, top, a, b, z, z, z)
+    write(out, at, t, job, files, area, over, from, top, a, b, z, z, z)
 }
 
 // With three.
@@ -213,9 +233,12 @@ pub fn fill3(
     a: Arg,
     b: Arg,
     c: Arg,
-) -> usize {
+) -> usize
+    requires { ⌜ isTemplate 3 (now t) ≡ true ⌝ }
+    ensures { λ z. ⌜ now (out .exit) ▸ z ≡ emit (now (out .entry) ▸ at) (Fill·fill (now (t .entry)) (argOf (now (job .entry)) (now (files .entry) ++ now (area .entry)) (parts (now (over .entry)) from) (now (top .entry)) a) (argOf (now (job .entry)) (now (files .entry) ++ now (area .entry)) (parts (now (over .entry)) from) (now (top .entry)) b) (argOf (now (job .entry)) (now (files .entry) ++ now (area .entry)) (parts (now (over .entry)) from) (now (top .entry)) c) [] []) ⌝ }
+{
     let z = fixed(0);
-    fill(out, at, t, job, files, area, over, from, top, a, b, c, z, z)
+    write(out, at, t, job, files, area, over, from, top, a, b, c, z, z)
 }
 
 // With four.
@@ -233,7 +256,10 @@ pub fn fill4(
     b: Arg,
     c: Arg,
     d: Arg,
-) -> usize {
+) -> usize
+    requires { ⌜ isTemplate 4 (now t) ≡ true ⌝ }
+    ensures { λ z. ⌜ now (out .exit) ▸ z ≡ emit (now (out .entry) ▸ at) (Fill·fill (now (t .entry)) (argOf (now (job .entry)) (now (files .entry) ++ now (area .entry)) (parts (now (over .entry)) from) (now (top .entry)) a) (argOf (now (job .entry)) (now (files .entry) ++ now (area .entry)) (parts (now (over .entry)) from) (now (top .entry)) b) (argOf (now (job .entry)) (now (files .entry) ++ now (area .entry)) (parts (now (over .entry)) from) (now (top .entry)) c) (argOf (now (job .entry)) (now (files .entry) ++ now (area .entry)) (parts (now (over .entry)) from) (now (top .entry)) d) []) ⌝ }
+{
     let z = fixed(0);
-    fill(out, at, t, job, files, area, over, from, top, a, b, c, d, z)
+    write(out, at, t, job, files, area, over, from, top, a, b, c, d, z)
 }

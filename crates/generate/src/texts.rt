@@ -7,7 +7,7 @@ use domains::domain::Told;
 use domains::domain::domain_warnings;
 use domains::domain::domains;
 use domains::line::retained;
-use format::scope::has_parts;
+use format::path::has_parts;
 use isolation::process::processes;
 use isolation::strategy::isolation;
 use out::emit::put;

@@ -1,5 +1,5 @@
 // Conditions of switches (the Rust's `bool_expr`): words of letters, digits and `_` are control ports, numbers, or unknown; every other byte stays.
-use format::scope::put_hier;
+use format::path::put_hier;
 use names::name::Name;
 use names::name::Step;
 use names::name::next;

@@ -1,0 +1,102 @@
+-- A value whole, and its entries one by one: laws as the needs ask them. Assumes nothing.
+use Prim.Native.Nat.{ℕ, zero, suc, _+_, _-_, _*_, _≤_, _<_, _^_, max}
+use native.Mathlib.Omega.{arith}
+use mathlib.Core.Path.{_≡_, refl, sym, ap, _∙_}
+use mathlib.Core.Bool.{Bool, true, false, cond}
+use mathlib.Core.List.{List, [], _∷_, _++_}
+use lib.ListN.{length, take, drop, length-drop, drop-of-length-le}
+use lib.Seq.{take-append-le}
+use borrow.Author.Needs.{needs}
+use Rattle.text.specs.Ascii.{Bytes}
+use Rattle.text.specs.Lists.{drop-two}
+use Rattle.spans.specs.Span.{_⋯_, bytes}
+use Rattle.spans.specs.Reach.{Held, filed, stored}
+use Rattle.spans.specs.declared.span.Span.{Span}
+use Rattle.tcl.specs.Lists.{list}
+use Rattle.entries.specs.Entry.{entriesLeft}
+use Rattle.entries.specs.View.{Finds}
+use Rattle.entries.specs.Loops.{entries-none, entries-first}
+use Rattle.entries.specs.declared.item.Item.{Item}
+use Rattle.entries.specs.declared.item.Item.the-variants.{Entry, None}
+use Rattle.model.specs.Commands.{nth}
+use Rattle.names.specs.Scoped.{scoped}
+use Rattle.names.specs.Name.{named, nameOf, nameEnd, entryOf, Makes}
+use Rattle.names.specs.declared.name.Name.{Name}
+use Rattle.listnames.specs.Lists.{formOf, nthBelow, Whole, Known}
+use Rattle.listnames.specs.Inside.{inside-fits, inside-ends, inside-is, named-alone}
+
+pub form-quoted : (q : Bool) → q ≡ true → 2 ≡ formOf q
+form-quoted q h = rw h
+
+pub form-plain : (q : Bool) → q ≡ false → 1 ≡ formOf q
+form-plain q h = rw h
+
+pub ruleset forms = (needs, form-quoted, form-plain)
+
+-- ---- a value as a part of the files or of the area
+module _ (files area : Bytes) (s : Span) where
+  filed-is : s .at + s .len ≤ length files → take (s .len) (drop (s .at) files) ≡ bytes (files ++ area) s
+  unfolding bytes
+  filed-is h =
+      let k : s .len ≤ length (drop (s .at) files) = rw length-drop (omega arith) in
+      sym (rw (drop-two (s .at) files area, take-append-le (s .len) (drop (s .at) files) (drop (s .at - length files) area) k))
+
+  pub value-filed : (p : Bytes) → s .at < length files → p ≡ take (s .len) (drop (s .at) files) → Held (length files) s → p ≡ bytes (files ++ area) s
+  value-filed p h e (filed g) = e ∙ filed-is g
+  value-filed p h e (stored g) = absurd (omega arith)
+
+  pub value-stored : (p : Bytes) → length files ≤ s .at → p ≡ take (s .len) (drop (s .at - length files) area) → p ≡ bytes (files ++ area) s
+  unfolding bytes
+  value-stored p h e = e ∙ sym (rw (drop-two (s .at) files area, drop-of-length-le files {i = s .at} h))
+
+pub ruleset values = (needs, value-filed, value-stored)
+
+-- ---- the k-th
+
+abbrev head-of : List Bytes → Bytes
+head-of [] = []
+head-of (e ∷ es) = e
+
+abbrev below-of : Bytes → List Bytes → Bytes
+below-of scope [] = []
+below-of scope (e ∷ es) = scoped scope e
+
+nth-head : (k : ℕ) (es : List Bytes) → nth k es ≡ head-of (drop k es)
+nth-head zero [] = refl
+nth-head (suc k) [] = refl
+nth-head zero (e ∷ es) = refl
+nth-head (suc k) (e ∷ es) = nth-head k es
+
+nth-below : (scope : Bytes) (k : ℕ) (es : List Bytes) → nthBelow scope k es ≡ below-of scope (drop k es)
+unfolding nthBelow
+nth-below scope zero [] = refl
+nth-below scope (suc k) [] = refl
+nth-below scope zero (e ∷ es) = refl
+nth-below scope (suc k) (e ∷ es) = nth-below scope k es
+
+module _ (mem : Bytes) (v : Span) (k : ℕ) (text : Bytes) (is : text ≡ bytes mem v) (r : Item) (f : Finds text (drop k (list text)) r) where
+  no-entry : r ≡ None → drop k (list (bytes mem v)) ≡ []
+  no-entry g = rw (← is) (entries-none text (drop k (list text)) r f g)
+
+  pub nth-missing : (x : Name) → r ≡ None → x ≡ named (0 ⋯ 0) false (0 ⋯ 0) 0 → Known mem (nth k (list (bytes mem v))) (v .at + v .len) x
+  unfolding nameOf bytes
+  nth-missing x g e = record { is = rw e (sym (nth-head k (list (take (v .len) (drop (v .at) mem))) ∙ ap head-of (no-entry g))); ends = rw e (omega arith) }
+
+  pub below-missing : (scope : Span) (x : Name) → r ≡ None → x ≡ named (0 ⋯ 0) false (0 ⋯ 0) 0 → Known mem (nthBelow (bytes mem scope) k (list (bytes mem v))) (max (scope .at + scope .len) (v .at + v .len)) x
+  unfolding nameOf bytes
+  below-missing scope x g e = record { is = rw e (sym (nth-below (bytes mem scope) k (list (take (v .len) (drop (v .at) mem))) ∙ ap (below-of (bytes mem scope)) (no-entry g))); ends = rw e (omega arith) }
+
+  module _ (s : Span) (q : Bool) (e : ℕ) (g : r ≡ Entry s q e) (w : Span) (ew : w ≡ (v .at + s .at) ⋯ s .len) (form : ℕ) (ef : form ≡ formOf q) where
+    one-entry : drop k (list (bytes mem v)) ≡ entryOf form (bytes mem w) ∷ entriesLeft false (drop e text)
+    one-entry = rw (← is) (entries-first text (drop k (list text)) r f s q e g) ∙ rw (ew, inside-is mem v text is (drop k (list text)) r f s q e g form ef)
+
+    w-ends : w .at + w .len ≤ v .at + v .len
+    w-ends = rw ew (inside-ends mem v text is (drop k (list text)) r f s q e g)
+
+    pub nth-there : (x : Name) → x ≡ named (0 ⋯ 0) false w form → Known mem (nth k (list (bytes mem v))) (v .at + v .len) x
+    nth-there x ex = record { is = rw ex (named-alone mem w form ∙ sym (nth-head k (list (bytes mem v)) ∙ ap head-of one-entry)); ends = rw ex (omega (arith, w-ends)) }
+
+    pub below-there : (scope : Span) (x : Name) → Makes mem scope w form x → Known mem (nthBelow (bytes mem scope) k (list (bytes mem v))) (max (scope .at + scope .len) (v .at + v .len)) x
+    below-there scope x m = record { is = m .is ∙ sym (nth-below (bytes mem scope) k (list (bytes mem v)) ∙ ap (below-of (bytes mem scope)) one-entry); ends = omega (arith, m .ends, w-ends) }
+
+pub ruleset nths = (needs, inside-fits, nth-missing, below-missing, nth-there, below-there)
