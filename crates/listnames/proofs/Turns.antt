@@ -5,11 +5,11 @@ use mathlib.Core.Path.{_≡_, refl, sym, ap, _∙_}
 use mathlib.Core.Bool.{Bool, true, false, cond}
 use mathlib.Core.List.{List, [], _∷_, _++_, map, append-assoc, append-nil}
 use lib.ListN.{length, take, drop, length-set, length-map}
-use borrow.Author.Needs.{needs}
 use Rattle.text.specs.Ascii.{Bytes}
 use Rattle.out.specs.Emit.{Out, emit}
 use Rattle.out.specs.Items.{joined, rest, unless, join-next, join-done}
 use Rattle.spans.specs.Span.{_⋯_, bytes}
+use Rattle.spans.specs.Reach.{Held}
 use Rattle.spans.specs.declared.span.Span.{Span}
 use Rattle.tcl.specs.Lists.{list}
 use Rattle.entries.specs.Entry.{entryBytes, entriesLeft}
@@ -27,6 +27,9 @@ use Rattle.listnames.specs.Inside.{inside-fits, inside-ends, inside-is, 
 
 -- ---- from what is asked of a value
 
+pub rooms-held : (files area : Bytes) (scope v : Span) (table : List ℕ) (n : ℕ) → Rooms files area scope v table n → Held (length files) v
+rooms-held files area scope v table n r = r .held
+
 pub rooms-reads : (files area : Bytes) (scope v : Span) (table : List ℕ) (n : ℕ) (text : Bytes) → Rooms files area scope v table n → text ≡ bytes (files ++ area) v → Reads (files ++ area) scope v text table n
 rooms-reads files area scope v table n text r e = record { is = e; scope-small = r .scope-small; small = r .small; rows = rw e (r .rows); room = rw e (r .room) }
 
@@ -42,6 +45,9 @@ pub record Lists (g : Bytes → Bytes) (mem text : Bytes) (table₀ : List ℕ) 
   pub names : tableNames mem table k ++ map g (entriesLeft first (drop at text)) ≡ tableNames mem table₀ n ++ map g (list text)
   pub count : k + length (entriesLeft first (drop at text)) ≡ n + length (list text)
   pub long : length table ≡ length table₀
+
+pub lists-long : (g : Bytes → Bytes) (mem text : Bytes) (table₀ : List ℕ) (n : ℕ) (table : List ℕ) (k at : ℕ) (first : Bool) → Lists g mem text table₀ n table k at first → length table ≡ length table₀
+lists-long g mem text table₀ n table k at first inv = inv .long
 
 pub lists-start : (g : Bytes → Bytes) (mem text : Bytes) (table : List ℕ) (n : ℕ) → Lists g mem text table n table n 0 true
 lists-start g mem text table n = record { names = rw (list-is text); count = rw (list-is text); long = refl }
@@ -65,7 +71,10 @@ module _ (g : Bytes → Bytes) (mem text : Bytes) (table₀ : List ℕ) (n : ℕ
         let t = entriesLeft false (drop e text) in
         let z : entriesLeft first (drop at text) ≡ entryBytes q (bytes text s) ∷ t = entries-first text (entriesLeft first (drop at text)) r f s q e h in
         record {
-          names = rw (put-names mem table k x room, is, append-assoc) (rw z at (inv .names));
+          names =
+          ap (λ (l : List Bytes). l ++ map g t) (put-names mem table k x room ∙ ap (λ (b : Bytes). tableNames mem table k ++ (b ∷ [])) is)
+          ∙ append-assoc (tableNames mem table k) (g (entryBytes q (bytes text s)) ∷ []) (map g t)
+          ∙ (rw z at (inv .names));
           count = omega (arith, inv .count, one-more text at first r f s q e h);
           long = simp length-set (inv .long);
         }
@@ -101,6 +110,10 @@ module _ (g : Bytes → Bytes) (mem text : Bytes) (table₀ : List ℕ) (n : ℕ
 
 -- ---- the two loops
 
+map-same : (l : List Bytes) → map (λ (b : Bytes). b) l ≡ l
+map-same [] = refl
+map-same (x ∷ l) = ap (λ (t : List Bytes). x ∷ t) (map-same l)
+
 module _ (mem text : Bytes) (table₀ : List ℕ) (n : ℕ) (table : List ℕ) (k at : ℕ) (first : Bool) (scope v : Span) (reads : Reads mem scope v text table₀ n) (r : Item) (f : Finds text (entriesLeft first (drop at text)) r) where
   module _ (inv : Lists (scoped (bytes mem scope)) mem text table₀ n table k at first) where
     pub below-end : r ≡ None → Listed mem table₀ n (map (scoped (bytes mem scope)) (list text)) table k
@@ -114,14 +127,7 @@ module _ (mem text : Bytes) (table₀ : List ℕ) (n : ℕ) (table : List ℕ) (
 
   module _ (inv : Lists (λ (b : Bytes). b) mem text table₀ n table k at first) where
     pub plain-end : r ≡ None → Listed mem table₀ n (list text) table k
-    plain-end h = rw map-id at (lists-end (λ (b : Bytes). b) mem text table₀ n table k at first inv r f h)
-      where
-        map-id : map (λ (b : Bytes). b) (list text) ≡ list text
-        map-id = same (list text)
-          where
-            same : (l : List Bytes) → map (λ (b : Bytes). b) l ≡ l
-            same [] = refl
-            same (x ∷ l) = ap (λ (t : List Bytes). x ∷ t) (same l)
+    plain-end h = rw (map-same (list text)) at (lists-end (λ (b : Bytes). b) mem text table₀ n table k at first inv r f h)
 
     pub plain-step : (s : Span) (q : Bool) (e : ℕ) (w : Span) (form : ℕ) (x : Name) (table′ : List ℕ) → r ≡ Entry s q e → table′ ≡ rowPut table k x → x ≡ named (0 ⋯ 0) false w form → w ≡ (v .at + s .at) ⋯ s .len → form ≡ formOf q → Lists (λ (b : Bytes). b) mem text table₀ n table′ (k + 1) e false
     plain-step s q e w form x table′ h et ex ew ef =
@@ -129,7 +135,6 @@ module _ (mem text : Bytes) (table₀ : List ℕ) (n : ℕ) (table : List ℕ) (
         let is : nameOf mem x ≡ entryBytes q (bytes text s) = rw ex (named-alone mem w form ∙ rw ew (inside-is mem v text (reads .is) (entriesLeft first (drop at text)) r f s q e h form ef)) in
         rw et (lists-step (λ (b : Bytes). b) mem text table₀ n table k at first inv r f s q e h x room is)
 
-pub ruleset lists = (needs, entry-less, inside-small, row-few, row-more, row-room, stores-made, stores-alone, below-end, below-step, plain-end, plain-step)
 
 -- ---- the names of a table, joined
 
@@ -148,5 +153,3 @@ module _ (sep mem : Bytes) (table : List ℕ) (n : ℕ) (w o : Out) (k : ℕ) (i
 
   pub joins-done : n ≤ k → o ≡ w
   joins-done h = let z : n - k ≡ 0 = omega arith in join-done o w sep k (rw (z, names-none mem table k) at (inv .keeps))
-
-pub ruleset joins = (needs, joins-next, joins-done)

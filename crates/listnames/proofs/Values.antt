@@ -13,7 +13,7 @@ use Rattle.spans.specs.Span.{_⋯_, bytes}
 use Rattle.spans.specs.Reach.{Held, filed, stored}
 use Rattle.spans.specs.declared.span.Span.{Span}
 use Rattle.tcl.specs.Lists.{list}
-use Rattle.entries.specs.Entry.{entriesLeft}
+use Rattle.entries.specs.Entry.{entryBytes, entriesLeft}
 use Rattle.entries.specs.View.{Finds}
 use Rattle.entries.specs.Loops.{entries-none, entries-first}
 use Rattle.entries.specs.declared.item.Item.{Item}
@@ -53,6 +53,10 @@ pub ruleset values = (needs, value-filed, value-stored)
 
 -- ---- the k-th
 
+empty-name : (mem : Bytes) → nameOf mem (named (0 ⋯ 0) false (0 ⋯ 0) 0) ≡ []
+unfolding nameOf bytes
+empty-name mem = refl
+
 abbrev head-of : List Bytes → Bytes
 head-of [] = []
 head-of (e ∷ es) = e
@@ -79,16 +83,17 @@ module _ (mem : Bytes) (v : Span) (k : ℕ) (text : Bytes) (is : text ≡ bytes 
   no-entry g = rw (← is) (entries-none text (drop k (list text)) r f g)
 
   pub nth-missing : (x : Name) → r ≡ None → x ≡ named (0 ⋯ 0) false (0 ⋯ 0) 0 → Known mem (nth k (list (bytes mem v))) (v .at + v .len) x
-  unfolding nameOf bytes
-  nth-missing x g e = record { is = rw e (sym (nth-head k (list (take (v .len) (drop (v .at) mem))) ∙ ap head-of (no-entry g))); ends = rw e (omega arith) }
+  nth-missing x g e = record { is = rw e (empty-name mem ∙ sym (nth-head k (list (bytes mem v)) ∙ ap head-of (no-entry g))); ends = rw e (omega arith) }
 
   pub below-missing : (scope : Span) (x : Name) → r ≡ None → x ≡ named (0 ⋯ 0) false (0 ⋯ 0) 0 → Known mem (nthBelow (bytes mem scope) k (list (bytes mem v))) (max (scope .at + scope .len) (v .at + v .len)) x
-  unfolding nameOf bytes
-  below-missing scope x g e = record { is = rw e (sym (nth-below (bytes mem scope) k (list (take (v .len) (drop (v .at) mem))) ∙ ap (below-of (bytes mem scope)) (no-entry g))); ends = rw e (omega arith) }
+  below-missing scope x g e = record { is = rw e (empty-name mem ∙ sym (nth-below (bytes mem scope) k (list (bytes mem v)) ∙ ap (below-of (bytes mem scope)) (no-entry g))); ends = rw e (omega arith) }
 
   module _ (s : Span) (q : Bool) (e : ℕ) (g : r ≡ Entry s q e) (w : Span) (ew : w ≡ (v .at + s .at) ⋯ s .len) (form : ℕ) (ef : form ≡ formOf q) where
     one-entry : drop k (list (bytes mem v)) ≡ entryOf form (bytes mem w) ∷ entriesLeft false (drop e text)
-    one-entry = rw (← is) (entries-first text (drop k (list text)) r f s q e g) ∙ rw (ew, inside-is mem v text is (drop k (list text)) r f s q e g form ef)
+    one-entry =
+        let p : drop k (list (bytes mem v)) ≡ entryBytes q (bytes text s) ∷ entriesLeft false (drop e text) = rw (← is) (entries-first text (drop k (list text)) r f s q e g) in
+        let z : entryOf form (bytes mem w) ≡ entryBytes q (bytes text s) = rw ew (inside-is mem v text is (drop k (list text)) r f s q e g form ef) in
+        p ∙ ap (λ (b : Bytes). b ∷ entriesLeft false (drop e text)) (sym z)
 
     w-ends : w .at + w .len ≤ v .at + v .len
     w-ends = rw ew (inside-ends mem v text is (drop k (list text)) r f s q e g)
@@ -99,4 +104,8 @@ module _ (mem : Bytes) (v : Span) (k : ℕ) (text : Bytes) (is : text ≡ bytes 
     pub below-there : (scope : Span) (x : Name) → Makes mem scope w form x → Known mem (nthBelow (bytes mem scope) k (list (bytes mem v))) (max (scope .at + scope .len) (v .at + v .len)) x
     below-there scope x m = record { is = m .is ∙ sym (nth-below (bytes mem scope) k (list (bytes mem v)) ∙ ap (below-of (bytes mem scope)) one-entry); ends = omega (arith, m .ends, w-ends) }
 
-pub ruleset nths = (needs, inside-fits, nth-missing, below-missing, nth-there, below-there)
+pub whole-held : (long : ℕ) (v : Span) → Whole long v → Held long v
+whole-held long v w = w .held
+
+pub inside-whole : (mem : Bytes) (v : Span) (text : Bytes) (t : List Bytes) (r : Item) (long : ℕ) (s : Span) (q : Bool) (e : ℕ) → r ≡ Entry s q e → Finds text t r → text ≡ bytes mem v → Whole long v → v .at + s .at < 2 ^ 64
+inside-whole mem v text t r long s q e g f is w = inside-fits mem v text is t r f s q e g (w .small)

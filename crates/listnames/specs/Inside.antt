@@ -32,7 +32,9 @@ module _ (mem : Bytes) (v : Span) (text : Bytes) (is : text ≡ bytes mem v) (t 
 
   -- its bytes
   pub inside-is : (form : ℕ) → form ≡ formOf q → entryOf form (bytes mem ((v .at + s .at) ⋯ s .len)) ≡ entryBytes q (bytes text s)
-  inside-is form h = rw h (form-is q (bytes mem ((v .at + s .at) ⋯ s .len)) ∙ ap (entryBytes q) (inner mem v s ends-in ∙ rw is))
+  inside-is form h =
+      let y : bytes (bytes mem v) s ≡ bytes text s = ap (λ (b : Bytes). bytes b s) (sym is) in
+      rw h (form-is q (bytes mem ((v .at + s .at) ⋯ s .len)) ∙ ap (entryBytes q) (inner mem v s ends-in ∙ y))
 
 -- a word or an entry alone
 pub named-alone : (mem : Bytes) (w : Span) (form : ℕ) → nameOf mem (named (0 ⋯ 0) false w form) ≡ entryOf form (bytes mem w)

@@ -252,3 +252,124 @@ module _ (files area : Bytes) (nums : List ℕ) (rows : ℕ) (t : Ports) (table�
         grows-done (files ++ area) table₀ n (portsNets (files ++ area) (rowsIn nums rows) t) i table k 32 (rw (no-element (t .n) (t .all) i ports-long h) at (inv .grows)) (omega (arith, ports-few))
 
 pub ruleset ports = (needs, ported-index, ported-rowed, ported-adds, ported-step, ported-done)
+
+-- ---- of switches
+
+pub record Switched (mem : Bytes) (t : Switches) (table₀ : List ℕ) (n : ℕ) (table : List ℕ) (k i : ℕ) : Type 0 where
+  pub grows : Grows mem table₀ n (switchesNets mem t) (those hasName (flatMap (bothNets mem) (drop i (take (t .n) (t .all))))) (2 * i) table k
+
+pub switched-start : (mem : Bytes) (t : Switches) (table : List ℕ) (n : ℕ) → Switched mem t table n table n 0
+switched-start mem t table n = record { grows = grows-start mem table n (switchesNets mem t) }
+
+-- what is left, one name apart
+those-first : (x : Bytes) (l : List Bytes) → those hasName (x ∷ l) ≡ those hasName (x ∷ []) ++ those hasName l
+unfolding those
+those-first x l = go (hasName x)
+  where
+    go : (b : Bool) → cond b (x ∷ those hasName l) (those hasName l) ≡ cond b (x ∷ []) [] ++ those hasName l
+    go true = refl
+    go false = refl
+
+no-nets : (mem : Bytes) → those hasName (flatMap (bothNets mem) []) ≡ []
+unfolding those flatMap
+no-nets mem = refl
+
+both-first : (mem : Bytes) (x : Switch) (xs : List Switch) → flatMap (bothNets mem) (x ∷ xs) ≡ supplyNet mem (x .scope) (x .input) ∷ supplyNet mem (x .scope) (x .output) ∷ flatMap (bothNets mem) xs
+unfolding flatMap
+both-first mem x xs = refl
+
+value-whole : (long bound : ℕ) (s : Stored) (v : Span) → v ≡ spanOf s → bound < 2 ^ 32 → far long s ≤ bound → Whole long v
+value-whole long bound s v e small h =
+    let g : reach long v ≤ bound = rw e h in
+    record { held = held-by long bound v small g; small = omega (arith, reach-end long v, g) }
+
+module _ (files area : Bytes) (t : Switches) (table₀ : List ℕ) (n : ℕ) (c : OfSwitches files area t table₀ n) where
+  switches-few : t .n ≤ 32
+  switches-few = holds-few (ofSwitch (far (length files))) (length (files ++ area)) (t .n) (t .all) (c .switches)
+
+  switches-long : t .n ≤ length (t .all)
+  switches-long = holds-long (ofSwitch (far (length files))) (length (files ++ area)) (t .n) (t .all) (c .switches)
+
+  module _ (i : ℕ) (h : i < t .n) where
+    pub switched-index : i < length (t .all)
+    switched-index = omega (arith, switches-long)
+
+    switch-at : (d : Switch) → ofSwitch (far (length files)) (getD (t .all) i d) ≤ length (files ++ area)
+    switch-at d = holds-at (ofSwitch (far (length files))) (length (files ++ area)) (t .n) (t .all) (c .switches) i d h
+
+    pub input-whole : (d : Switch) (v : Span) → v ≡ spanOf (getD (t .all) i d .input) → Whole (length files) v
+    input-whole d v e = value-whole (length files) (length (files ++ area)) (getD (t .all) i d .input) v e (c .small) (omega (arith, switch-at d))
+
+    pub output-whole : (d : Switch) (v : Span) → v ≡ spanOf (getD (t .all) i d .output) → Whole (length files) v
+    output-whole d v e = value-whole (length files) (length (files ++ area)) (getD (t .all) i d .output) v e (c .small) (omega (arith, switch-at d))
+
+    module _ (d : Switch) (sc v : Span) (es : sc ≡ spanOf (getD (t .all) i d .scope)) (a : Name) (ka : Known (files ++ area) (nthBelow (bytes (files ++ area) sc) 1 (list (bytes (files ++ area) v))) (max (sc .at + sc .len) (v .at + v .len)) a) (table : List ℕ) (k : ℕ) (inv : Switched (files ++ area) t table₀ n table k i) where
+      scope-end : sc .at + sc .len ≤ length (files ++ area)
+      scope-end = rw es (omega (arith, switch-at d, reach-end (length files) (spanOf (getD (t .all) i d .scope))))
+
+      module _ (ev : v ≡ spanOf (getD (t .all) i d .input)) where
+        input-end : v .at + v .len ≤ length (files ++ area)
+        input-end = rw ev (omega (arith, switch-at d, reach-end (length files) (spanOf (getD (t .all) i d .input))))
+
+        pub input-adds : Adds (files ++ area) table k a
+        input-adds = record { small = c .small; ends = omega (arith, ka .ends, scope-end, input-end); few = omega (arith, inv .grows .count, c .rows, switches-few); room = omega (arith, inv .grows .count, inv .grows .long, c .rows, c .room, switches-few) }
+
+        module _ (table₁ : List ℕ) (k₁ : ℕ) (na : Names (files ++ area) (addAll (tableNames (files ++ area) table k) (those hasName (nameOf (files ++ area) a ∷ []))) (k + 1) table table₁ k₁) where
+          -- behind the first of the two
+          halfway : Grows (files ++ area) table₀ n (switchesNets (files ++ area) t) (those hasName (supplyNet (files ++ area) (getD (t .all) i d .scope) (getD (t .all) i d .output) ∷ flatMap (bothNets (files ++ area)) (drop (i + 1) (take (t .n) (t .all))))) (2 * i + 1) table₁ k₁
+          halfway =
+              let mem = files ++ area in
+              let w = getD (t .all) i d in
+              let left = supplyNet mem (w .scope) (w .output) ∷ flatMap (bothNets mem) (drop (i + 1) (take (t .n) (t .all))) in
+              let e : nameOf mem a ≡ supplyNet mem (w .scope) (w .input) = ka .is ∙ rw (es, ev) in
+              let q : those hasName (flatMap (bothNets mem) (drop i (take (t .n) (t .all)))) ≡ those hasName (nameOf mem a ∷ []) ++ those hasName left =
+              rw (element (t .n) (t .all) i d switches-long h, both-first mem w (drop (i + 1) (take (t .n) (t .all))), e) (those-first (supplyNet mem (w .scope) (w .input)) left) in
+              grows-some mem table₀ n (switchesNets mem t) (2 * i) table k (those hasName (nameOf mem a ∷ [])) (those hasName left) table₁ k₁ (rw q at (inv .grows)) na
+
+          module _ (u : Span) (eu : u ≡ spanOf (getD (t .all) i d .output)) (b : Name) (kb : Known (files ++ area) (nthBelow (bytes (files ++ area) sc) 1 (list (bytes (files ++ area) u))) (max (sc .at + sc .len) (u .at + u .len)) b) where
+            output-end : u .at + u .len ≤ length (files ++ area)
+            output-end = rw eu (omega (arith, switch-at d, reach-end (length files) (spanOf (getD (t .all) i d .output))))
+
+            pub output-adds : Adds (files ++ area) table₁ k₁ b
+            output-adds = record { small = c .small; ends = omega (arith, kb .ends, scope-end, output-end); few = omega (arith, halfway .count, c .rows, switches-few); room = omega (arith, halfway .count, halfway .long, c .rows, c .room, switches-few) }
+
+            pub switched-step : (table₂ : List ℕ) (k₂ : ℕ) → Names (files ++ area) (addAll (tableNames (files ++ area) table₁ k₁) (those hasName (nameOf (files ++ area) b ∷ []))) (k₁ + 1) table₁ table₂ k₂ → Switched (files ++ area) t table₀ n table₂ k₂ (i + 1)
+            switched-step table₂ k₂ nb =
+                let mem = files ++ area in
+                let w = getD (t .all) i d in
+                let left = flatMap (bothNets mem) (drop (i + 1) (take (t .n) (t .all))) in
+                let e : nameOf mem b ≡ supplyNet mem (w .scope) (w .output) = kb .is ∙ rw (es, eu) in
+                let q : those hasName (supplyNet mem (w .scope) (w .output) ∷ left) ≡ those hasName (nameOf mem b ∷ []) ++ those hasName left = rw e (those-first (supplyNet mem (w .scope) (w .output)) left) in
+                let z : 2 * i + 1 + 1 ≡ 2 * (i + 1) = omega arith in
+                record { grows = rw z at (grows-some mem table₀ n (switchesNets mem t) (2 * i + 1) table₁ k₁ (those hasName (nameOf mem b ∷ [])) (those hasName left) table₂ k₂ (rw q at halfway) nb) }
+
+  pub switched-done : (table : List ℕ) (k i : ℕ) → Switched (files ++ area) t table₀ n table k i → t .n ≤ i → i ≤ t .n → Names (files ++ area) (addAll (tableNames (files ++ area) table₀ n) (switchesNets (files ++ area) t)) (n + 64) table₀ table k
+  switched-done table k i inv h g =
+      let z : those hasName (flatMap (bothNets (files ++ area)) (drop i (take (t .n) (t .all)))) ≡ [] = rw (no-element (t .n) (t .all) i switches-long h) (no-nets (files ++ area)) in
+      grows-done (files ++ area) table₀ n (switchesNets (files ++ area) t) (2 * i) table k 64 (rw z at (inv .grows)) (omega (arith, switches-few))
+
+pub ruleset switches = (needs, switched-index, input-whole, output-whole, input-adds, output-adds, switched-step, switched-done)
+
+-- ---- all three
+
+module _ (files area : Bytes) (nums : List ℕ) (rows : ℕ) (nets : Nets) (ports : Ports) (switches : Switches) (table : List ℕ) (s : Stands files area nums rows nets ports switches table) where
+  pub stands-nets : Creates files area nets table
+  stands-nets = record { small = s .small; nets = s .nets; room = s .room }
+
+  module _ (table₁ : List ℕ) (a : ℕ) (na : Names (files ++ area) (map (belowOf (files ++ area)) (take (nets .n) (nets .all))) 32 table table₁ a) where
+    pub stands-ports : OfPorts files area nums rows ports table₁ a
+    stands-ports = record { small = s .small; few = s .few; strings = s .strings; ports = s .ports; rows = na .count; room = omega (arith, s .room, na .long) }
+
+    module _ (table₂ : List ℕ) (b : ℕ) (nb : Names (files ++ area) (addAll (tableNames (files ++ area) table₁ a) (portsNets (files ++ area) (rowsIn nums rows) ports)) (a + 32) table₁ table₂ b) where
+      pub stands-switches : OfSwitches files area switches table₂ b
+      stands-switches = record { small = s .small; switches = s .switches; rows = omega (arith, na .count, nb .count); room = omega (arith, s .room, na .long, nb .long) }
+
+      pub stands-all : (table₃ : List ℕ) (r : ℕ) → Names (files ++ area) (addAll (tableNames (files ++ area) table₂ b) (switchesNets (files ++ area) switches)) (b + 64) table₂ table₃ r → Names (files ++ area) (netsOf (files ++ area) (rowsIn nums rows) nets ports switches) 128 table table₃ r
+      stands-all table₃ r nc =
+          record {
+            are = nc .are ∙ rw (nb .are, na .are) (sym (addAll-append (map (belowOf (files ++ area)) (take (nets .n) (nets .all))) (portsNets (files ++ area) (rowsIn nums rows) ports) (switchesNets (files ++ area) switches)));
+            count = omega (arith, na .count, nb .count, nc .count);
+            long = nc .long ∙ nb .long ∙ na .long;
+          }
+
+pub ruleset stands = (needs, stands-nets, stands-ports, stands-switches, stands-all)

@@ -5,6 +5,8 @@ use mathlib.Core.Path.{_≡_, refl, sym, ap, _∙_}
 use mathlib.Core.List.{List, [], _∷_, _++_, map, flatMap}
 use lib.ListN.{take}
 use Rattle.text.specs.Ascii.{Bytes}
+use Rattle.out.specs.Bytewise.{dotted}
+use Rattle.out.specs.Fill.{fill}
 use Rattle.out.specs.Items.{each}
 use Rattle.tcl.specs.Lists.{list}
 use Rattle.joblines.specs.Lines.{no-module}
@@ -14,7 +16,8 @@ use Rattle.model.specs.Commands.{supplyOf}
 use Rattle.model.specs.Scope.{scoped}
 use Rattle.listnames.specs.Lists.{nthBelow}
 use Rattle.texts.specs.Setting.{Setting}
-use Rattle.texts.specs.Supplies.{netOf, portNets, switchNets, supplyNets, netBlocks, cases}
+use Rattle.texts.specs.Supplies.{netOf, portNets, switchNets, supplyNets, netBlocks, cases, unrooted}
+use Rattle.format.specs.Args.{rooted}
 use Rattle.texts.specs.Texts.{packageOf}
 use Rattle.store.specs.Strings.{string, belowOf}
 use Rattle.store.specs.View.{Store, at-scope, portOf, switchOf, connectionsOf, modelOf}
@@ -55,6 +58,10 @@ nets-model mem nums s log =
 
 abbrev pub netsSetting : Bytes → List Bytes → List Bytes → Setting
 netsSetting top scope nets = record { top = top; scope = scope; base = no-module; design = []; records = with-nets no-records nets }
+
+-- a template for a net: its name, its path, its path with dots, and the top
+abbrev pub caseOf : Bytes → Bytes → List Bytes → Bytes → Bytes
+caseOf t top scope n = fill t n (rooted top scope n) (dotted (unrooted (rooted top scope n))) top []
 
 pub nets-only : (nets : List Bytes) → supplyNets (with-nets no-records nets) ≡ nets
 unfolding supplyNets addAll those flatMap

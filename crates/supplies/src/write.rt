@@ -1,4 +1,17 @@
 // What glue and package have for each supply net.
+ghost use mathlib.Core.Path.{_≡_};
+ghost use mathlib.Core.Bool.{true};
+ghost use mathlib.Core.List.{[], _++_};
+ghost use Prim.Native.Nat.{_≤_};
+ghost use Rattle.out.specs.Emit.{_▸_, emit};
+ghost use Rattle.out.specs.Fill.{isTemplate};
+ghost use Rattle.out.specs.Items.{each};
+ghost use Rattle.names.specs.Name.{nameOf};
+ghost use Rattle.nametable.specs.Table.{tableNames};
+ghost use Rattle.texts.specs.Supplies.{netBlock, netBlocks};
+ghost use Rattle.texts.specs.Texts.{packageOf};
+ghost use Rattle.scope.specs.Parts.{parts};
+ghost use Rattle.supplies.specs.Seen.{caseOf, netsSetting};
 use format::arg::fixed;
 use format::arg::name;
 use format::arg::wrapped;
@@ -20,7 +33,9 @@ fn net_block(
     from: usize,
     top: &[u8],
     n: Name,
-) -> usize {
+) -> usize
+    ensures { λ z. ⌜ now (out .exit) ▸ z ≡ emit (now (out .entry) ▸ at) (netBlock (netsSetting (now (top .entry)) (parts (now (over .entry)) from) []) (nameOf (now (files .entry) ++ now (area .entry)) n)) ⌝ }
+{
     fill2(
         out,
         at,
@@ -48,7 +63,10 @@ pub fn net_blocks(
     top: &[u8],
     table: &[u32],
     n: usize,
-) -> usize {
+) -> usize
+    requires { ⌜ n ≤ 65536 ⌝ }
+    ensures { λ z. ⌜ now (out .exit) ▸ z ≡ emit (now (out .entry) ▸ at) (netBlocks (netsSetting (now (top .entry)) (parts (now (over .entry)) from) (tableNames (now (files .entry) ++ now (area .entry)) (now (table .entry)) n))) ⌝ }
+{
     let mut o = at;
     let mut k = 0;
     while k < n {
@@ -71,7 +89,10 @@ fn cases(
     top: &[u8],
     table: &[u32],
     n: usize,
-) -> usize {
+) -> usize
+    requires { ⌜ (n ≤ 65536) × (isTemplate 4 (now t) ≡ true) ⌝ }
+    ensures { λ z. ⌜ now (out .exit) ▸ z ≡ emit (now (out .entry) ▸ at) (each (caseOf (now (t .entry)) (now (top .entry)) (parts (now (over .entry)) from)) (tableNames (now (files .entry) ++ now (area .entry)) (now (table .entry)) n)) ⌝ }
+{
     let mut o = at;
     let mut k = 0;
     while k < n {
@@ -107,7 +128,10 @@ pub fn package_text(
     top: &[u8],
     table: &[u32],
     n: usize,
-) -> usize {
+) -> usize
+    requires { ⌜ n ≤ 65536 ⌝ }
+    ensures { λ z. ⌜ now (out .exit) ▸ z ≡ emit (now (out .entry) ▸ 0) (packageOf (netsSetting (now (top .entry)) (parts (now (over .entry)) from) (tableNames (now (files .entry) ++ now (area .entry)) (now (table .entry)) n))) ⌝ }
+{
     let a = put(
         out,
         0,
