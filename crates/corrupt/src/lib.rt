@@ -1,14 +1,41 @@
 // The walk over the job and its index (the Rust's `corruptible`, and the part of `generate` that calls it): the paths that a domain loses, each
-// one time, in the order in which they are reached.
+// one time, in the order in which they are reached. Paths are relative to the scope.
+ghost use mathlib.Core.Path.{_≡_};
+ghost use mathlib.Core.Bool.{cond};
+ghost use mathlib.Core.List.{[], _++_, map};
+ghost use mathlib.Core.Option.{none};
+ghost use Prim.Native.Nat.{_+_, _≤_, _<_, _^_};
+ghost use lib.ListN.{length};
+ghost use Rattle.fields.specs.Meant.{dimsIs};
+ghost use Rattle.jobindex.specs.Index.{moduleRow};
+ghost use Rattle.lines.specs.Cursors.{spanned};
+ghost use Rattle.lookup.specs.Rows.{modules, ModuleSeen};
+ghost use Rattle.names.specs.Name.{nameOf};
+ghost use Rattle.nametable.specs.Table.{tableNames};
+ghost use Rattle.design.specs.Lists.{addAll};
+ghost use Rattle.design.specs.Lookup.{moduleNamed};
+ghost use Rattle.design.specs.Ports.{losable};
+ghost use Rattle.design.specs.Paths.{dotted};
+ghost use Rattle.walk.specs.Walk.{domainList, domainEntered};
+ghost use Rattle.paths.specs.Pieces.{entriesBelow};
+ghost use Rattle.listing.specs.Listing.{pathsOf, Ready, Answer};
+ghost use Rattle.corrupt.specs.Corrupt.{OwnGiven, Given, DomainGiven, Stemmed, Walked};
 use fields::Dims;
 use jobindex::Span;
 use lines::InstAt;
+use listing::Walk;
 use names::name::Name;
-use paths::list::Walk;
 use ports::Step;
 
 // The module that the walk enters through an instance: one more than the number of its row, 0 where it enters none.
+<<<<<<< HEAD
 fn entering(job: &[u8], index: &[u32], count: usize, dims: Dims, kind: Span) -> usize {
+=======
+fn entering(job: &[u8], index: &[u32], count: usize, dims: Dims, kind: Span) -> usize
+    requires { ⌜ count ≤ 128 ⌝ }
+    ensures { λ r. ⌜ ModuleSeen (now (job .entry)) (now (index .entry)) count (cond (dimsIs dims) none (moduleNamed (modules (now (job .entry)) (now (index .entry)) count) (spanned (now (job .entry)) kind))) r ⌝ }
+{
+>>>>>>> e3c22fe8fa0e41a746c7056cc2e19d2c4ca62b81
     match dims {
         Dims::One => 0,
         Dims::Zero => lookup::module_named(job, index, count, lines::part_of(job, kind)),
@@ -17,14 +44,22 @@ fn entering(job: &[u8], index: &[u32], count: usize, dims: Dims, kind: Span) -> 
 }
 
 // Puts a dot behind a module's path, where it is not empty: what is below it begins there.
+<<<<<<< HEAD
 fn stem(tail: &mut [u8], elen: usize, t: usize) -> usize {
+=======
+fn stem(tail: &mut [u8], elen: usize, t: usize) -> usize
+    requires { ⌜ (elen < 2 ^ 36) × (t < length (now tail)) ⌝ }
+    ensures { λ r. ⌜ Stemmed elen t (now (tail .entry)) (now (tail .exit)) r ⌝ }
+{
+>>>>>>> e3c22fe8fa0e41a746c7056cc2e19d2c4ca62b81
     if elen + t == 0 {
         return t;
     }
-    out::emit::byte(tail, t, b'.')
+    tail[t] = b'.';
+    t + 1
 }
 
-// The names that module k loses itself, below the path of the element and the tail; the module is counted.
+// The names that module k loses itself, below the element and the tail; the module is counted.
 fn own(
     job: &[u8],
     index: &[u32],
@@ -38,16 +73,24 @@ fn own(
     text: &mut [u8],
     ends: &mut [u32],
     s: Walk,
+<<<<<<< HEAD
 ) -> Walk {
+=======
+) -> Walk
+    requires { ⌜ OwnGiven (now job) k (now files ++ now area) e elen (now tail) × Ready prefix s (now text) (now ends) ⌝ }
+    ensures { λ r. ⌜ Answer prefix (s .entered + 1) (addAll (pathsOf (now (text .entry)) (now (ends .entry)) (s .count)) (map (λ n. dotted (nameOf (now (files .entry) ++ now (area .entry)) e) ++ (now (tail .entry) ++ n)) (losable (moduleRow (now (job .entry)) (now (index .entry)) k)))) r (now (text .exit)) (now (ends .exit)) ⌝ }
+{
+>>>>>>> e3c22fe8fa0e41a746c7056cc2e19d2c4ca62b81
     let entered = s.entered;
     if entered == 4096 {
-        return paths::list::refused();
+        return listing::refused();
     }
     let mut w = Walk {
         over: false,
         entered: entered + 1,
         count: s.count,
         end: s.end,
+        used: s.used,
     };
     let mut c = ports::first(index, k);
     loop {
@@ -56,7 +99,7 @@ fn own(
             return w;
         };
         let n = lines::part_of(job, name);
-        w = paths::list::add(files, area, e, elen, tail, n, prefix, text, ends, w);
+        w = listing::add(files, area, e, elen, tail, n, prefix, text, ends, w);
         let over = w.over;
         if over {
             return w;
@@ -65,7 +108,7 @@ fn own(
     }
 }
 
-// The walk from module k, which stands at the element and the first t bytes of the tail, with `left` instances more to go down.
+// The walk from module k, whose path is the element and the first t bytes of the tail, with `left` instances more to go down.
 fn corruptible(
     job: &[u8],
     index: &[u32],
@@ -85,6 +128,7 @@ fn corruptible(
     text: &mut [u8],
     ends: &mut [u32],
     s: Walk,
+<<<<<<< HEAD
 ) -> Walk {
     if paths::entry::retained(
         files,
@@ -96,6 +140,13 @@ fn corruptible(
         elen,
         text::part::part(tail, 0, t),
     ) {
+=======
+) -> Walk
+    requires { ⌜ Given (now job) (now index) count k left (now files ++ now area) n e elen t × ((2081 ≤ length (now tail)) × Ready prefix s (now text) (now ends)) ⌝ }
+    ensures { λ r. ⌜ Walked (now (job .entry)) (now (index .entry)) count k left (now (files .entry) ++ now (area .entry)) (entriesBelow below (tableNames (now (files .entry) ++ now (area .entry)) (now (retained .entry)) n)) e (now (tail .entry)) (now (tail .exit)) t prefix (s .entered) (pathsOf (now (text .entry)) (now (ends .entry)) (s .count)) r (now (text .exit)) (now (ends .exit)) ⌝ }
+{
+    if paths::entry::retained(files, area, retained, n, below, e, elen, text::part::part(tail, 0, t)) {
+>>>>>>> e3c22fe8fa0e41a746c7056cc2e19d2c4ca62b81
         return s;
     }
     let u = stem(tail, elen, t);
@@ -185,14 +236,22 @@ pub fn domain_paths(
     tail: &mut [u8],
     text: &mut [u8],
     ends: &mut [u32],
+<<<<<<< HEAD
 ) -> Walk {
     let mut w = paths::list::start();
+=======
+) -> Walk
+    requires { ⌜ DomainGiven (now job) (now index) count k (now files) (now area) n m prefix (now tail) (now text) (now ends) ⌝ }
+    ensures { λ r. ⌜ Answer prefix (domainEntered (modules (now (job .entry)) (now (index .entry)) count) (moduleRow (now (job .entry)) (now (index .entry)) k) [] (entriesBelow below (tableNames (now (files .entry) ++ now (area .entry)) (now (retained .entry)) n)) (tableNames (now (files .entry) ++ now (area .entry)) (now (elements .entry)) m)) (domainList (modules (now (job .entry)) (now (index .entry)) count) (moduleRow (now (job .entry)) (now (index .entry)) k) [] (entriesBelow below (tableNames (now (files .entry) ++ now (area .entry)) (now (retained .entry)) n)) (tableNames (now (files .entry) ++ now (area .entry)) (now (elements .entry)) m)) r (now (text .exit)) (now (ends .exit)) ⌝ }
+{
+    let mut w = listing::start();
+>>>>>>> e3c22fe8fa0e41a746c7056cc2e19d2c4ca62b81
     let mut i = 0;
     while i < m {
         let e = nametable::row(elements, i);
-        i += 1;
         let row = elements::element_module(job, index, count, k, files, area, e);
         if row == 0 {
+            i += 1;
             continue;
         }
         let elen = paths::entry::size(files, area, e);
@@ -220,6 +279,7 @@ pub fn domain_paths(
         if over {
             return w;
         }
+        i += 1;
     }
     w
 }

@@ -24,6 +24,7 @@ use Rattle.design.specs.Paths.{dotOf, dotted}
 use Rattle.jobindex.specs.Index.{section}
 use Rattle.paths.specs.Pieces.{Sized}
 use Rattle.listing.specs.declared.Walk.{Walk}
+use Rattle.listing.specs.Written.{front-kept, piece-there}
 use Rattle.listing.specs.Listing.{cut, pathsOf, Ascends, cost, cost-on, past, Within, Ready, Answer, ascends-on, cut-same, cut-on, cut-length}
 
 -- ---- among the rows
@@ -62,30 +63,6 @@ module _ (path text : Bytes) (ends : List ℕ) (count : ℕ) where
 pub ruleset lefts = (needs, left-start, left-none, left-here, left-on)
 
 -- ---- behind the rows
-
-emit-sets : (t buf : Bytes) (at : ℕ) → at + length t ≤ length buf → emit (buf ▸ at) t ≡ sets buf at t ▸ (at + length t)
-unfolding emit emit1
-emit-sets [] buf at h = rw add-zero
-emit-sets (b ∷ t) buf at h =
-    let l : at < length buf = omega arith in
-    let h′ : at + 1 + length t ≤ length (set buf at b) = simp length-set (omega arith) in
-    simp (lt-ltb at (length buf) l) (emit-sets t (set buf at b) (at + 1) h′ ∙ rw (add-one, add-suc, suc-add))
-
-module _ (text text′ p : Bytes) (at r : ℕ) (h : at + length p ≤ length text) (e : text′ ▸ r ≡ emit (text ▸ at) p) where
-  written : text′ ≡ take at text ++ (p ++ drop (at + length p) text)
-  written = ap (λ (o : Out). o .bytes) (e ∙ emit-sets p text at h) ∙ sets-eq p text at h ∙ append-assoc (take at text) p (drop (at + length p) text)
-
-  front-long : length (take at text) ≡ at
-  front-long = length-take-le at text (omega arith)
-
-  pub front-kept : take at text′ ≡ take at text
-  front-kept = ap (take at) written ∙ take-at (take at text) (p ++ drop (at + length p) text) at front-long
-
-  pub piece-there : section text′ at (at + length p) ≡ p
-  piece-there =
-      let z : at + length p - at ≡ length p = omega arith in
-      let d : drop at text′ ≡ p ++ drop (at + length p) text = ap (drop at) written ∙ drop-at (take at text) (p ++ drop (at + length p) text) at front-long in
-      rw (z, d) (take-at p (drop (at + length p) text) (length p) refl)
 
 module _ (mem : Bytes) (e : Name) (elen : ℕ) (tail name : Bytes) (sz : Sized mem e elen tail name) (prefix : ℕ) (s : Walk) (text : Bytes) (ends : List ℕ) (rd : Ready prefix s text ends) where
   abbrev path : Bytes

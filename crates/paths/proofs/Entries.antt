@@ -13,14 +13,8 @@ use Rattle.text.specs.Ascii.{Bytes, byte}
 use Rattle.text.specs.Compare.{same}
 use Rattle.text.specs.Scan.{any}
 use Rattle.text.specs.Sames.{no-true, both, same-eq, same-refl}
-use Rattle.tcl.specs.Rewrite.{rewrite}
-use Rattle.tcl.specs.Join.{joint, joined, join}
-use Rattle.tcl.specs.Substitution.{escape, escaped, unescape}
-use Rattle.spans.specs.Span.{bytes}
 use Rattle.out.specs.Bytewise.{dotted as Bytewise·dotted}
-use Rattle.entries.specs.Entry.{entryBytes}
-use Rattle.entries.specs.Raw.{join-short}
-use Rattle.names.specs.Name.{nameOf, stepOf, entryOf, slash}
+use Rattle.names.specs.Name.{nameOf, stepOf}
 use Rattle.names.specs.Laws.{dotted-map}
 use Rattle.names.specs.declared.name.Name.{Name}
 use Rattle.names.specs.declared.name.Step.{Step}
@@ -30,50 +24,10 @@ use Rattle.design.specs.Lists.{isIn, those}
 use Rattle.design.specs.Paths.{dotOf, dotted}
 use Rattle.walk.specs.Walk.{retainedPaths}
 use Rattle.paths.specs.Pieces.{entriesBelow}
+use Rattle.paths.specs.Sizes.{name-short}
 use Rattle.paths.proofs.Pieces.{length-dotted}
 
 -- ---- how long a name is
-
-escape-short : (k : ℕ) (s : Bytes) → length (rewrite escape escaped k s) ≤ length s
-unfolding rewrite
-escape-short k [] = omega arith
-escape-short zero (x ∷ s) = let h : length (rewrite escape escaped (escape (x ∷ s)) s) ≤ length s = escape-short (escape (x ∷ s)) s in omega arith
-escape-short (suc k) (x ∷ s) = let h : length (rewrite escape escaped k s) ≤ length s = escape-short k s in omega arith
-
-entry-short : (form : ℕ) (w : Bytes) → length (entryOf form w) ≤ length w
-entry-short form w = go (eqb form 0) (eqb form 2)
-  where
-    go : (a b : Bool) → length (cond a w (entryBytes b w)) ≤ length w
-    go true b = omega arith
-    go false true = let h : length (unescape (join w)) ≤ length (join w) = escape-short 0 (join w) in let g : length (join w) ≤ length w = join-short 0 w in omega arith
-    go false false = join-short 0 w
-
-slash-short : (sep : Bool) → length (slash sep) ≤ 1
-slash-short true = omega arith
-slash-short false = omega arith
-
-bytes-short : (mem : Bytes) (n : Name) → (length (bytes mem (n .scope)) ≤ length mem) × (length (bytes mem (n .word)) ≤ length mem)
-unfolding bytes
-bytes-short mem n =
-    (omega (arith, length-take (n .scope .len) (drop (n .scope .at) mem), length-drop-le (n .scope .at) mem), omega (arith, length-take (n .word .len) (drop (n .word .at) mem), length-drop-le (n .word .at) mem))
-  where
-    length-drop-le : (i : ℕ) (l : Bytes) → length (drop i l) ≤ length l
-    length-drop-le zero l = omega arith
-    length-drop-le (suc i) [] = omega arith
-    length-drop-le (suc i) (x ∷ l) = let h : length (drop i l) ≤ length l = length-drop-le i l in omega arith
-
-pub name-short : (mem : Bytes) (n : Name) → length (nameOf mem n) ≤ 2 * length mem + 1
-unfolding nameOf
-name-short mem n =
-    omega (
-      arith,
-      bytes-short mem n .0,
-      bytes-short mem n .1,
-      entry-short (n .form) (bytes mem (n .word)),
-      slash-short (n .sep),
-      length-append (bytes mem (n .scope)) (slash (n .sep) ++ entryOf (n .form) (bytes mem (n .word))),
-      length-append (slash (n .sep)) (entryOf (n .form) (bytes mem (n .word))),
-    )
 
 -- the bytes counted and those left are all
 pub record Counts (files area : Bytes) (total : ℕ) (x : Name) (i : ℕ) : Type 0 where

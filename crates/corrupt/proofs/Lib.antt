@@ -1,0 +1,3 @@
+pub mod OwnNames
+pub mod Rounds
+pub mod Domain
