@@ -28,14 +28,10 @@ use names::name::Name;
 use ports::Step;
 
 // The module that the walk enters through an instance: one more than the number of its row, 0 where it enters none.
-<<<<<<< HEAD
-fn entering(job: &[u8], index: &[u32], count: usize, dims: Dims, kind: Span) -> usize {
-=======
 fn entering(job: &[u8], index: &[u32], count: usize, dims: Dims, kind: Span) -> usize
     requires { ⌜ count ≤ 128 ⌝ }
     ensures { λ r. ⌜ ModuleSeen (now (job .entry)) (now (index .entry)) count (cond (dimsIs dims) none (moduleNamed (modules (now (job .entry)) (now (index .entry)) count) (spanned (now (job .entry)) kind))) r ⌝ }
 {
->>>>>>> e3c22fe8fa0e41a746c7056cc2e19d2c4ca62b81
     match dims {
         Dims::One => 0,
         Dims::Zero => lookup::module_named(job, index, count, lines::part_of(job, kind)),
@@ -44,14 +40,10 @@ fn entering(job: &[u8], index: &[u32], count: usize, dims: Dims, kind: Span) -> 
 }
 
 // Puts a dot behind a module's path, where it is not empty: what is below it begins there.
-<<<<<<< HEAD
-fn stem(tail: &mut [u8], elen: usize, t: usize) -> usize {
-=======
 fn stem(tail: &mut [u8], elen: usize, t: usize) -> usize
     requires { ⌜ (elen < 2 ^ 36) × (t < length (now tail)) ⌝ }
     ensures { λ r. ⌜ Stemmed elen t (now (tail .entry)) (now (tail .exit)) r ⌝ }
 {
->>>>>>> e3c22fe8fa0e41a746c7056cc2e19d2c4ca62b81
     if elen + t == 0 {
         return t;
     }
@@ -73,14 +65,10 @@ fn own(
     text: &mut [u8],
     ends: &mut [u32],
     s: Walk,
-<<<<<<< HEAD
-) -> Walk {
-=======
 ) -> Walk
     requires { ⌜ OwnGiven (now job) k (now files ++ now area) e elen (now tail) × Ready prefix s (now text) (now ends) ⌝ }
     ensures { λ r. ⌜ Answer prefix (s .entered + 1) (addAll (pathsOf (now (text .entry)) (now (ends .entry)) (s .count)) (map (λ n. dotted (nameOf (now (files .entry) ++ now (area .entry)) e) ++ (now (tail .entry) ++ n)) (losable (moduleRow (now (job .entry)) (now (index .entry)) k)))) r (now (text .exit)) (now (ends .exit)) ⌝ }
 {
->>>>>>> e3c22fe8fa0e41a746c7056cc2e19d2c4ca62b81
     let entered = s.entered;
     if entered == 4096 {
         return listing::refused();
@@ -128,8 +116,10 @@ fn corruptible(
     text: &mut [u8],
     ends: &mut [u32],
     s: Walk,
-<<<<<<< HEAD
-) -> Walk {
+) -> Walk
+    requires { ⌜ Given (now job) (now index) count k left (now files ++ now area) n e elen t × ((2081 ≤ length (now tail)) × Ready prefix s (now text) (now ends)) ⌝ }
+    ensures { λ r. ⌜ Walked (now (job .entry)) (now (index .entry)) count k left (now (files .entry) ++ now (area .entry)) (entriesBelow below (tableNames (now (files .entry) ++ now (area .entry)) (now (retained .entry)) n)) e (now (tail .entry)) (now (tail .exit)) t prefix (s .entered) (pathsOf (now (text .entry)) (now (ends .entry)) (s .count)) r (now (text .exit)) (now (ends .exit)) ⌝ }
+{
     if paths::entry::retained(
         files,
         area,
@@ -140,13 +130,6 @@ fn corruptible(
         elen,
         text::part::part(tail, 0, t),
     ) {
-=======
-) -> Walk
-    requires { ⌜ Given (now job) (now index) count k left (now files ++ now area) n e elen t × ((2081 ≤ length (now tail)) × Ready prefix s (now text) (now ends)) ⌝ }
-    ensures { λ r. ⌜ Walked (now (job .entry)) (now (index .entry)) count k left (now (files .entry) ++ now (area .entry)) (entriesBelow below (tableNames (now (files .entry) ++ now (area .entry)) (now (retained .entry)) n)) e (now (tail .entry)) (now (tail .exit)) t prefix (s .entered) (pathsOf (now (text .entry)) (now (ends .entry)) (s .count)) r (now (text .exit)) (now (ends .exit)) ⌝ }
-{
-    if paths::entry::retained(files, area, retained, n, below, e, elen, text::part::part(tail, 0, t)) {
->>>>>>> e3c22fe8fa0e41a746c7056cc2e19d2c4ca62b81
         return s;
     }
     let u = stem(tail, elen, t);
@@ -236,16 +219,11 @@ pub fn domain_paths(
     tail: &mut [u8],
     text: &mut [u8],
     ends: &mut [u32],
-<<<<<<< HEAD
-) -> Walk {
-    let mut w = paths::list::start();
-=======
 ) -> Walk
     requires { ⌜ DomainGiven (now job) (now index) count k (now files) (now area) n m prefix (now tail) (now text) (now ends) ⌝ }
     ensures { λ r. ⌜ Answer prefix (domainEntered (modules (now (job .entry)) (now (index .entry)) count) (moduleRow (now (job .entry)) (now (index .entry)) k) [] (entriesBelow below (tableNames (now (files .entry) ++ now (area .entry)) (now (retained .entry)) n)) (tableNames (now (files .entry) ++ now (area .entry)) (now (elements .entry)) m)) (domainList (modules (now (job .entry)) (now (index .entry)) count) (moduleRow (now (job .entry)) (now (index .entry)) k) [] (entriesBelow below (tableNames (now (files .entry) ++ now (area .entry)) (now (retained .entry)) n)) (tableNames (now (files .entry) ++ now (area .entry)) (now (elements .entry)) m)) r (now (text .exit)) (now (ends .exit)) ⌝ }
 {
     let mut w = listing::start();
->>>>>>> e3c22fe8fa0e41a746c7056cc2e19d2c4ca62b81
     let mut i = 0;
     while i < m {
         let e = nametable::row(elements, i);

@@ -46,5 +46,12 @@ bytes-short mem n =
 pub name-short : (mem : Bytes) (n : Name) → length (nameOf mem n) ≤ 2 * length mem + 1
 unfolding nameOf
 name-short mem n =
-    omega (arith, bytes-short mem n .0, bytes-short mem n .1, entry-short (n .form) (bytes mem (n .word)), slash-short (n .sep),
-    length-append (bytes mem (n .scope)) (slash (n .sep) ++ entryOf (n .form) (bytes mem (n .word))), length-append (slash (n .sep)) (entryOf (n .form) (bytes mem (n .word))))
+    omega (
+      arith,
+      bytes-short mem n .0,
+      bytes-short mem n .1,
+      entry-short (n .form) (bytes mem (n .word)),
+      slash-short (n .sep),
+      length-append (bytes mem (n .scope)) (slash (n .sep) ++ entryOf (n .form) (bytes mem (n .word))),
+      length-append (slash (n .sep)) (entryOf (n .form) (bytes mem (n .word))),
+    )

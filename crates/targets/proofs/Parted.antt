@@ -1,0 +1,81 @@
+-- Whether the first part of a text is a name: laws as the needs ask them. Assumes nothing.
+use Prim.Native.Nat.{ℕ, _+_, _≤_, _<_, _^_}
+use native.Mathlib.Omega.{arith}
+use mathlib.Core.Path.{_≡_, refl, sym, ap, _∙_}
+use mathlib.Core.Bool.{Bool, true, false, cond}
+use mathlib.Core.Option.{Option, none, some}
+use mathlib.Core.List.{List, [], _∷_}
+use lib.Dec.{eqb}
+use lib.ListN.{length, drop, getD, drop-of-length-le}
+use borrow.Author.Needs.{needs}
+use borrow.Author.Tests.{eq-eqb, ne-eqb}
+use Rattle.text.specs.Ascii.{Bytes, byte}
+use Rattle.text.specs.Compare.{same}
+use Rattle.text.specs.Lists.{here}
+use Rattle.text.specs.Scan.{onto, splitAt}
+use Rattle.names.specs.Parts.{parts, firstPart, others, behind}
+use Rattle.refs.specs.Text.{textOf, stepOf}
+use Rattle.refs.specs.declared.Ref.{Ref}
+use Rattle.refs.specs.declared.Step.{Step}
+use Rattle.refs.specs.declared.Step.the-variants.{Byte, End}
+
+onto-first : (x : ℕ) (ps : List Bytes) → firstPart (onto x ps) ≡ x ∷ firstPart ps
+onto-first x [] = refl
+onto-first x (p ∷ ps) = refl
+
+onto-others : (x : ℕ) (ps : List Bytes) → others (onto x ps) ≡ others ps
+onto-others x [] = refl
+onto-others x (p ∷ ps) = refl
+
+parts-at : (x : ℕ) (s : Bytes) → x ≡ byte "/" → parts (x ∷ s) ≡ [] ∷ parts s
+unfolding splitAt
+parts-at x s h = rw (eq-eqb x (byte "/") h)
+
+parts-on : (x : ℕ) (s : Bytes) → (x ≡ byte "/" → ⊥) → parts (x ∷ s) ≡ onto x (parts s)
+unfolding splitAt
+parts-on x s h = rw (ne-eqb x (byte "/") h)
+
+parts-none : parts [] ≡ [] ∷ []
+unfolding splitAt
+parts-none = refl
+
+-- t is the answer: what is left of the first part is what is left of s, or not
+pub record Takes (job mem s : Bytes) (t : Option (List Bytes)) (x : Ref) (i : ℕ) : Type 0 where
+  pub keeps : behind (drop i s) (parts (textOf job mem x)) ≡ t
+  pub short : length s < 2 ^ 64
+
+pub take-fits : (job mem s : Bytes) (t : Option (List Bytes)) (x : Ref) (i : ℕ) → Takes job mem s t x i → i < length s → i + 1 < 2 ^ 64
+take-fits job mem s t x i inv h = omega (arith, inv .short)
+
+module _ (job mem s : Bytes) (t : Option (List Bytes)) (x : Ref) (i : ℕ) (inv : Takes job mem s t x i) (p : Step) (e : textOf job mem x ≡ stepOf job mem p) where
+  pub take-short : p ≡ End → i < length s → none ≡ t
+  unfolding same
+  take-short h l = rw (e, h, parts-none, here s i l) at (inv .keeps)
+
+  pub take-last : p ≡ End → length s ≤ i → some [] ≡ t
+  unfolding same
+  take-last h l = rw (e, h, parts-none, drop-of-length-le s {i = i} l) at (inv .keeps)
+
+  module _ (b : ℕ) (u : Ref) (h : p ≡ Byte b u) where
+    pub take-early : b ≡ byte "/" → i < length s → none ≡ t
+    unfolding same
+    take-early g l = rw (e, h, parts-at b (textOf job mem u) g, here s i l) at (inv .keeps)
+
+    pub take-end : b ≡ byte "/" → length s ≤ i → some (parts (textOf job mem u)) ≡ t
+    unfolding same
+    take-end g l = rw (e, h, parts-at b (textOf job mem u) g, drop-of-length-le s {i = i} l) at (inv .keeps)
+
+    module _ (g : b ≡ byte "/" → ⊥) where
+      pub take-long : length s ≤ i → none ≡ t
+      unfolding same
+      take-long l = rw (e, h, parts-on b (textOf job mem u) g, onto-first, drop-of-length-le s {i = i} l) at (inv .keeps)
+
+      pub take-stop : i < length s → (b ≡ getD s i 0 → ⊥) → none ≡ t
+      unfolding same
+      take-stop l z = rw (e, h, parts-on b (textOf job mem u) g, onto-first, here s i l, ne-eqb b (getD s i 0) z) at (inv .keeps)
+
+      pub take-step : i < length s → b ≡ getD s i 0 → Takes job mem s t u (i + 1)
+      unfolding same
+      take-step l z = record { keeps = rw (e, h, parts-on b (textOf job mem u) g, onto-first, onto-others, here s i l, eq-eqb b (getD s i 0) z) at (inv .keeps); short = inv .short }
+
+pub ruleset takes = (needs, take-fits, take-short, take-last, take-early, take-end, take-long, take-stop, take-step)

@@ -1,0 +1,202 @@
+// Instances below a module, found by the parts of a text: all of them, the empty ones too.
+ghost use Prim.Native.Nat.{_+_, _≤_, _<_, _^_};
+ghost use mathlib.Core.Path.{_≡_};
+ghost use mathlib.Core.List.{_++_};
+ghost use lib.ListN.{length};
+ghost use Rattle.jobindex.specs.Index.{moduleRow};
+ghost use Rattle.names.specs.Name.{nameOf};
+ghost use Rattle.names.specs.Parts.{parts, behind};
+ghost use Rattle.refs.specs.Text.{textOf};
+ghost use Rattle.targets.specs.Seen.{SlashSeen, partIs, DownSeen, nowherePlace, PlaceSeen};
+use jobindex::Span;
+use lines::InstAt;
+use names::name::Name;
+use refs::Ref;
+use refs::Step;
+use refs::next;
+
+// The last slash of a name: whether there is one, how many bytes stand up to it and with it, and what is left behind it.
+pub struct Slash {
+    pub found: bool,
+    pub upto: usize,
+    pub rest: Name,
+}
+
+// Whether the first part of a text is the one looked for: then it is the last, or there is more behind its slash.
+pub enum Part {
+    Other,
+    Last,
+    More(Ref),
+}
+
+// An instance: its module's name, where its connections begin, and whether its name is the last part.
+pub enum Down {
+    None,
+    Last { kind: Span, conns: usize },
+    More { kind: Span, size: usize, rest: Ref },
+}
+
+// An instance: its parent's row, where its connections begin, its module's row, and how many bytes of the text stand before its name.
+pub struct Place {
+    pub found: bool,
+    pub parent: usize,
+    pub conns: usize,
+    pub sub: usize,
+    pub upto: usize,
+}
+
+// The last slash of a name.
+pub fn last_slash(files: &[u8], area: &[u8], e: Name) -> Slash
+    requires { ⌜ length (now files) + length (now area) < 2 ^ 32 ⌝ }
+    ensures { λ r. ⌜ SlashSeen (now (files .entry) ++ now (area .entry)) e r ⌝ }
+{
+    let mut s = Slash {
+        found: false,
+        upto: 0,
+        rest: e,
+    };
+    let mut x = e;
+    let mut n = 0;
+    loop {
+        match names::name::next(files, area, x) {
+            names::name::Step::End => return s,
+            names::name::Step::Byte(b, u) => {
+                n += 1;
+                x = u;
+                if b == b'/' {
+                    s = Slash {
+                        found: true,
+                        upto: n,
+                        rest: u,
+                    };
+                    continue;
+                }
+            }
+        }
+    }
+}
+
+// Whether the first part of a text is w.
+fn first_part(job: &[u8], files: &[u8], area: &[u8], r: Ref, w: &[u8]) -> Part
+    ensures { λ p. ⌜ partIs (now (job .entry)) (now (files .entry) ++ now (area .entry)) p ≡ behind (now (w .entry)) (parts (textOf (now (job .entry)) (now (files .entry) ++ now (area .entry)) r)) ⌝ }
+{
+    let mut x = r;
+    let mut i = 0;
+    while i < w.len() {
+        match next(job, files, area, x) {
+            Step::End => return Part::Other,
+            Step::Byte(b, u) => {
+                if b == b'/' {
+                    return Part::Other;
+                }
+                if b != w[i] {
+                    return Part::Other;
+                }
+                x = u;
+                i += 1;
+            }
+        }
+    }
+    match next(job, files, area, x) {
+        Step::End => Part::Last,
+        Step::Byte(b, u) => {
+            if b == b'/' {
+                return Part::More(u);
+            }
+            Part::Other
+        }
+    }
+}
+
+// The first instance of module k whose name is the first part of a text, dimensions not looked at.
+fn instance_at(job: &[u8], index: &[u32], k: usize, files: &[u8], area: &[u8], r: Ref) -> Down
+    requires { ⌜ k ≤ 128 ⌝ }
+    ensures { λ d. ⌜ DownSeen (now (job .entry)) (now (index .entry)) k (now (files .entry) ++ now (area .entry)) (textOf (now (job .entry)) (now (files .entry) ++ now (area .entry)) r) d ⌝ }
+{
+    let end = lookup::insts_end(index, k);
+    let mut at = lookup::insts_from(index, k);
+    loop {
+        let x = lines::next_inst(job, at, end);
+        let InstAt::Inst {
+            dims: _,
+            name,
+            kind,
+            next,
+        } = x
+        else {
+            return Down::None;
+        };
+        let w = lines::part_of(job, name);
+        match first_part(job, files, area, r, w) {
+            Part::Last => return Down::Last { kind, conns: next },
+            Part::More(rest) => {
+                return Down::More {
+                    kind,
+                    size: w.len(),
+                    rest,
+                };
+            }
+            Part::Other => {
+                at = next;
+            }
+        }
+    }
+}
+
+// Nothing found.
+fn nowhere() -> Place
+    ensures { λ r. ⌜ r ≡ nowherePlace ⌝ }
+{
+    Place {
+        found: false,
+        parent: 0,
+        conns: 0,
+        sub: 0,
+        upto: 0,
+    }
+}
+
+// The instance that the parts of a text lead to from module k.
+pub fn find_instance(
+    job: &[u8],
+    index: &[u32],
+    count: usize,
+    k: usize,
+    files: &[u8],
+    area: &[u8],
+    r: Ref,
+) -> Place
+    requires { ⌜ (count ≤ 128) × ((k < count) × (length (textOf (now job) (now files ++ now area) r) < 2 ^ 63)) ⌝ }
+    ensures { λ p. ⌜ PlaceSeen (now (job .entry)) (now (index .entry)) count k (textOf (now (job .entry)) (now (files .entry) ++ now (area .entry)) r) p ⌝ }
+{
+    let mut m = k;
+    let mut x = r;
+    let mut upto = 0;
+    loop {
+        match instance_at(job, index, m, files, area, x) {
+            Down::None => return nowhere(),
+            Down::Last { kind, conns } => {
+                let row = lookup::module_named(job, index, count, lines::part_of(job, kind));
+                if row == 0 {
+                    return nowhere();
+                }
+                return Place {
+                    found: true,
+                    parent: m,
+                    conns: conns,
+                    sub: row - 1,
+                    upto: upto,
+                };
+            }
+            Down::More { kind, size, rest } => {
+                let row = lookup::module_named(job, index, count, lines::part_of(job, kind));
+                if row == 0 {
+                    return nowhere();
+                }
+                m = row - 1;
+                x = rest;
+                upto = upto + size + 1;
+            }
+        }
+    }
+}
