@@ -1,43 +1,7 @@
 // The walk over the job and its index (the Rust's `corruptible`, and the part of `generate` that calls it): the paths that a domain loses, each
 // one time, in the order in which they are reached. Paths are relative to the scope.
-ghost use mathlib.Core.Path.{_≡_};
-ghost use mathlib.Core.Bool.{cond};
-ghost use mathlib.Core.List.{[], _++_, map};
-ghost use mathlib.Core.Option.{none};
-ghost use Prim.Native.Nat.{_+_, _≤_, _<_, _^_};
-ghost use lib.ListN.{length};
-ghost use Rattle.fields.specs.Meant.{dimsIs};
-ghost use Rattle.jobindex.specs.Index.{moduleRow};
-ghost use Rattle.lines.specs.Cursors.{spanned};
-ghost use Rattle.lookup.specs.Rows.{modules, ModuleSeen};
-ghost use Rattle.names.specs.Name.{nameOf};
-ghost use Rattle.nametable.specs.Table.{tableNames};
-ghost use Rattle.design.specs.Lists.{addAll};
-ghost use Rattle.design.specs.Lookup.{moduleNamed};
-ghost use Rattle.design.specs.Ports.{losable};
-ghost use Rattle.design.specs.Paths.{dotted};
-ghost use Rattle.walk.specs.Walk.{domainList, domainEntered};
-ghost use Rattle.paths.specs.Pieces.{entriesBelow};
-ghost use Rattle.listing.specs.Listing.{pathsOf, Ready, Answer};
-ghost use Rattle.corrupt.specs.Corrupt.{OwnGiven, Given, DomainGiven, Stemmed, Walked};
-use fields::Dims;
-use jobindex::Span;
-use lines::InstAt;
 use listing::Walk;
 use names::name::Name;
-use ports::Step;
-
-// The module that the walk enters through an instance: one more than the number of its row, 0 where it enters none.
-fn entering(job: &[u8], index: &[u32], count: usize, dims: Dims, kind: Span) -> usize
-    requires { ⌜ count ≤ 128 ⌝ }
-    ensures { λ r. ⌜ ModuleSeen (now (job .entry)) (now (index .entry)) count (cond (dimsIs dims) none (moduleNamed (modules (now (job .entry)) (now (index .entry)) count) (spanned (now (job .entry)) kind))) r ⌝ }
-{
-    match dims {
-        Dims::One => 0,
-        Dims::Zero => lookup::module_named(job, index, count, lines::part_of(job, kind)),
-        Dims::Bad => lookup::module_named(job, index, count, lines::part_of(job, kind)),
-    }
-}
 
 // Puts a dot behind a module's path, where it is not empty: what is below it begins there.
 fn stem(tail: &mut [u8], elen: usize, t: usize) -> usize
@@ -54,7 +18,8 @@ fn stem(tail: &mut [u8], elen: usize, t: usize) -> usize
 // The names that module k loses itself, below the element and the tail; the module is counted.
 fn own(
     job: &[u8],
-    index: &[u32],
+    names: &[u32],
+    firsts: &[u32],
     k: usize,
     files: &[u8],
     area: &[u8],
@@ -64,6 +29,8 @@ fn own(
     prefix: usize,
     text: &mut [u8],
     ends: &mut [u32],
+    seen: &mut [u8],
+    h: usize,
     s: Walk,
 ) -> Walk
     requires { ⌜ OwnGiven (now job) k (now files ++ now area) e elen (now tail) × Ready prefix s (now text) (now ends) ⌝ }
@@ -80,27 +47,26 @@ fn own(
         end: s.end,
         used: s.used,
     };
-    let mut c = ports::first(index, k);
-    loop {
-        let r = ports::next_losable(job, index, k, c);
-        let Step::Name { name, next } = r else {
-            return w;
-        };
-        let n = lines::part_of(job, name);
-        w = listing::add(files, area, e, elen, tail, n, prefix, text, ends, w);
+    let mut i = text::part::place(firsts, 2 * k);
+    let z = text::part::place(firsts, 2 * k + 2);
+    while i < z {
+        let n = modtable::part_at(job, text::part::num(names, i));
+        w = listing::add(files, area, e, elen, tail, n, prefix, text, ends, seen, h, w);
         let over = w.over;
         if over {
             return w;
         }
-        c = next;
+        i += 1;
     }
+    w
 }
 
 // The walk from module k, whose path is the element and the first t bytes of the tail, with `left` instances more to go down.
 fn corruptible(
     job: &[u8],
-    index: &[u32],
-    count: usize,
+    names: &[u32],
+    insts: &[u32],
+    firsts: &[u32],
     k: usize,
     left: usize,
     files: &[u8],
@@ -115,6 +81,8 @@ fn corruptible(
     prefix: usize,
     text: &mut [u8],
     ends: &mut [u32],
+    seen: &mut [u8],
+    h: usize,
     s: Walk,
 ) -> Walk
     requires { ⌜ Given (now job) (now index) count k left (now files ++ now area) n e elen t × ((2081 ≤ length (now tail)) × Ready prefix s (now text) (now ends)) ⌝ }
@@ -133,20 +101,8 @@ fn corruptible(
         return s;
     }
     let u = stem(tail, elen, t);
-    let mut w = own(
-        job,
-        index,
-        k,
-        files,
-        area,
-        e,
-        elen,
-        text::part::part(tail, 0, u),
-        prefix,
-        text,
-        ends,
-        s,
-    );
+    let g = listing::hashed(h, text::part::part(tail, t, u - t));
+    let mut w = own(job, names, firsts, k, files, area, e, elen, text::part::part(tail, 0, u), prefix, text, ends, seen, g, s);
     let full = w.over;
     if full {
         return w;
@@ -154,51 +110,21 @@ fn corruptible(
     if left == 0 {
         return w;
     }
-    let end = lookup::insts_end(index, k);
-    let mut at = lookup::insts_from(index, k);
-    loop {
-        let r = lines::next_inst(job, at, end);
-        let InstAt::Inst {
-            dims,
-            name,
-            kind,
-            next,
-        } = r
-        else {
-            return w;
-        };
-        let row = entering(job, index, count, dims, kind);
-        if row == 0 {
-            at = next;
-            continue;
-        }
-        let v = out::emit::put(tail, u, lines::part_of(job, name));
-        w = corruptible(
-            job,
-            index,
-            count,
-            row - 1,
-            left - 1,
-            files,
-            area,
-            retained,
-            n,
-            below,
-            e,
-            elen,
-            tail,
-            v,
-            prefix,
-            text,
-            ends,
-            w,
-        );
+    let z = text::part::place(firsts, 2 * k + 3);
+    let mut i = text::part::place(firsts, 2 * k + 1);
+    while i < z {
+        let name = modtable::part_at(job, text::part::num(insts, 2 * i));
+        let row = text::part::place(insts, 2 * i + 1);
+        let v = out::emit::put(tail, u, name);
+        let x = listing::hashed(g, name);
+        w = corruptible(job, names, insts, firsts, row, left - 1, files, area, retained, n, below, e, elen, tail, v, prefix, text, ends, seen, x, w);
         let over = w.over;
         if over {
             return w;
         }
-        at = next;
+        i += 1;
     }
+    w
 }
 
 // The paths that a domain loses, whose elements are the first m names of a table and are looked up from module k. `retained` has n entries;
@@ -208,6 +134,9 @@ pub fn domain_paths(
     index: &[u32],
     count: usize,
     k: usize,
+    names: &[u32],
+    insts: &[u32],
+    firsts: &[u32],
     files: &[u8],
     area: &[u8],
     retained: &[u32],
@@ -219,6 +148,7 @@ pub fn domain_paths(
     tail: &mut [u8],
     text: &mut [u8],
     ends: &mut [u32],
+    seen: &mut [u8],
 ) -> Walk
     requires { ⌜ DomainGiven (now job) (now index) count k (now files) (now area) n m prefix (now tail) (now text) (now ends) ⌝ }
     ensures { λ r. ⌜ Answer prefix (domainEntered (modules (now (job .entry)) (now (index .entry)) count) (moduleRow (now (job .entry)) (now (index .entry)) k) [] (entriesBelow below (tableNames (now (files .entry) ++ now (area .entry)) (now (retained .entry)) n)) (tableNames (now (files .entry) ++ now (area .entry)) (now (elements .entry)) m)) (domainList (modules (now (job .entry)) (now (index .entry)) count) (moduleRow (now (job .entry)) (now (index .entry)) k) [] (entriesBelow below (tableNames (now (files .entry) ++ now (area .entry)) (now (retained .entry)) n)) (tableNames (now (files .entry) ++ now (area .entry)) (now (elements .entry)) m)) r (now (text .exit)) (now (ends .exit)) ⌝ }
@@ -233,26 +163,7 @@ pub fn domain_paths(
             continue;
         }
         let elen = paths::entry::size(files, area, e);
-        w = corruptible(
-            job,
-            index,
-            count,
-            row - 1,
-            32,
-            files,
-            area,
-            retained,
-            n,
-            below,
-            e,
-            elen,
-            tail,
-            0,
-            prefix,
-            text,
-            ends,
-            w,
-        );
+        w = corruptible(job, names, insts, firsts, row - 1, 32, files, area, retained, n, below, e, elen, tail, 0, prefix, text, ends, seen, element_hash(files, area, e), w);
         let over = w.over;
         if over {
             return w;
@@ -260,4 +171,20 @@ pub fn domain_paths(
         i += 1;
     }
     w
+}
+
+// The number of an element with dots.
+fn element_hash(files: &[u8], area: &[u8], e: Name) -> usize {
+    let mut x = e;
+    let mut h = 0;
+    loop {
+        match names::name::next(files, area, x) {
+            names::name::Step::End => return h,
+            names::name::Step::Byte(b, u) => {
+                let c = if b == b'/' { b'.' } else { b };
+                h = (h * 31 + c as usize) % 4294967296;
+                x = u;
+            }
+        }
+    }
 }

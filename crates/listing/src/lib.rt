@@ -89,14 +89,19 @@ pub fn add(
     prefix: usize,
     text: &mut [u8],
     ends: &mut [u32],
+    seen: &mut [u8],
+    h: usize,
     s: Walk,
 ) -> Walk
     requires { ⌜ Sized (now files ++ now area) e elen (now tail) (now name) × Ready prefix s (now text) (now ends) ⌝ }
     ensures { λ r. ⌜ Answer prefix (s .entered) (addNew (pathsOf (now (text .entry)) (now (ends .entry)) (s .count)) (dotted (nameOf (now (files .entry) ++ now (area .entry)) e) ++ (now (tail .entry) ++ now (name .entry)))) r (now (text .exit)) (now (ends .exit)) ⌝ }
 {
     let count = s.count;
-    if listed(files, area, e, elen, tail, name, text, ends, count) {
-        return s;
+    let slot = hashed(h, name) % 16384;
+    if seen[slot] != 0 {
+        if listed(files, area, e, elen, tail, name, text, ends, count) {
+            return s;
+        }
     }
     if count == 1024 {
         return refused();
@@ -110,6 +115,7 @@ pub fn add(
     let end = from + len;
     paths::path::put_path(text, from, files, area, e, tail, name);
     ends[count] = end as u32;
+    seen[slot] = 1;
     Walk {
         over: false,
         entered: s.entered,
@@ -117,4 +123,15 @@ pub fn add(
         end,
         used,
     }
+}
+
+// The number of a text that begins with one whose number is h.
+pub fn hashed(h: usize, p: &[u8]) -> usize {
+    let mut x = h;
+    let mut i = 0;
+    while i < p.len() {
+        x = (x * 31 + p[i] as usize) % 4294967296;
+        i += 1;
+    }
+    x
 }
