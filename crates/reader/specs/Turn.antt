@@ -110,7 +110,7 @@ pairs-length l k zero = refl
 pairs-length l k (suc n) = ap suc (pairs-length l (k + 1) n)
 
 module _ (job files area₀ nums₀ log₁ : List ℕ) (count k left : ℕ) (s : State) (v : Opening job files area₀ nums₀ count k left s)
-         (base len : ℕ) (eb : base ≡ getD nums₀ (1152 + 2 * k) 0) (el : len ≡ getD nums₀ (1153 + 2 * k) 0) where
+    (base len : ℕ) (eb : base ≡ getD nums₀ (1152 + 2 * k) 0) (el : len ≡ getD nums₀ (1153 + 2 * k) 0) where
   abbrev T : Bytes
   T = take len (drop base files)
 
@@ -207,3 +207,137 @@ module _ (job files area₀ nums₀ log₁ : List ℕ) (count k left : ℕ) (s :
 
       pub turn-none : r ≡ None → Ran files area₀ area′ nums₀ nums log₁ log s (record { tag = 0; state = u }) all-reads
       turn-none e = none-by (rw e at w)
+
+      -- a reading limit is passed
+      past-reads-is : Past vs o limit (commands (drop at T)) → (log₀ text : Bytes) (p : Rest area nums log at u log₀ text) → all-reads text ≡ refused 10 (u .count .commands + 1)
+      past-reads-is y log₀ text p =
+          sym (p .reads)
+          ∙ reads-first load path VS (commands (drop at T)) (y .first) (y .others) (countedOf u) (modelAt files area nums u (p .written)) (y .are)
+          ∙ ap (λ (d : Reading). goOn load path d (readCommands load path VS (y .others)))
+          (past-reads load path VS (y .first) (modelAt files area nums u (p .written)) u (g .held .substituted) (rw vars-same at (y .over)))
+
+      far : drop limit area′ ≡ drop limit area → drop 24576 area′ ≡ drop 24576 area
+      far h =
+          let q : limit + (24576 - limit) ≡ 24576 = omega (arith, limit-in) in
+          rw q at (sym (drop-drop (24576 - limit) limit area′) ∙ ap (drop (24576 - limit)) h ∙ drop-drop (24576 - limit) limit area)
+
+      full-by : NextOf files T at vs area area′ o limit words words′ Full → (b : State) → b ≡ begun-at u o → Ran files area₀ area′ nums₀ nums log₁ log s (record { tag = 10; state = b }) all-reads
+      full-by y b eb′ =
+          record {
+            held = λ z. absurd (omega (arith, z));
+            more = λ z. absurd (omega (arith, z));
+            lent = lent-two (s .fill .end) o area₀ area area′ nums₀ nums nums (g .more) (g .lent) (record { kept = y .lent .kept; back = far (y .lent .back); low = refl; high = refl });
+            reads = λ log₀ text q.
+                comes-refused files area′ nums log₀ log (record { tag = 10; state = b }) (all-reads text) (λ z. absurd (omega (arith, z)))
+                (past-reads-is (past-left vs o limit (commands (drop at T)) (y .is)) log₀ text (g .rest log₀ text q) ∙ rw eb′);
+          }
+
+      pub turn-full : r ≡ Full → (b : State) → b ≡ begun-at u o → Ran files area₀ area′ nums₀ nums log₁ log s (record { tag = 10; state = b }) all-reads
+      turn-full e b eb′ = full-by (rw e at w) b eb′
+
+      -- a command is read
+      module _ (n next e : ℕ) (y : NextOf files T at vs area area′ o limit words words′ (Words n next e)) where
+        found : Found vs o limit (commands (drop at T)) (strings (files ++ take e area′) words′ 0 n) (commands (drop next T)) e
+        found = found-left vs o limit (commands (drop at T)) (strings (files ++ take e area′) words′ 0 n) (commands (drop next T)) e (y .is)
+
+        few : u .count .substituted + (e - o) ≤ 16384
+        few = found-few load path vs (found .first) (modelAt files area nums u []) u (g .held .substituted) (found .under) e (found .end)
+
+        grows : o ≤ e
+        grows = omega (arith, found .end)
+
+        end-in : e ≤ length area
+        end-in = omega (arith, few, limit-in, g .held .substituted, g .held .lends .area-long, grows)
+
+        pub begun-asks : (u .count .commands + 1 < 2 ^ 64) × ((o ≤ e) × (u .count .substituted + (e - o) < 2 ^ 64))
+        begun-asks = (omega (arith, g .held .commands), (grows, omega (arith, few)))
+
+        kept : take o area′ ≡ take o area
+        kept = wrote-kept area area′ o (results vs (firstOf (commands (drop at T)))) e (y .lent .wrote) end-in
+
+        pub turn-less : length (commands (drop next T)) < length (commands (drop at T))
+        turn-less = omega (arith, ap length (found .are))
+
+        word-count : length (found .first) ≡ n
+        word-count = sym (length-map (found .first) _) ∙ sym (ap length (found .words)) ∙ length-map (pairs words′ 0 n) (bytes (files ++ take e area′)) ∙ pairs-length words′ 0 n
+
+        module _ (long : length area′ ≡ length area) (b : State) (eb′ : b ≡ begun-at u e) where
+          lends : Lends files area′ nums
+          lends = record { files-short = g .held .lends .files-short; area-long = omega (arith, g .held .lends .area-long, long); small = omega (arith, g .held .lends .small, long); nums-long = g .held .lends .nums-long }
+
+          pub turn-doing : Doing job files area′ nums words′ count n k left b
+          turn-doing =
+              record {
+                filed = texts-same nums₀ nums (g .lent .low) job files count (v .filed);
+                held = rw eb′ (begun-held files area area′ nums u e (g .held) lends grows kept few);
+                worded = rw eb′ (y .lent .inside);
+                named = omega (arith, some-words (drop at T) (found .first) (commands (drop next T)) (found .are), word-count);
+                file = v .file;
+                depth = v .depth;
+              }
+
+          -- what the command comes to, in the words of the file
+          command-is : (lg : Bytes) → commandReads job files area′ nums count words′ n k left b lg ≡ command load path VS (found .first) (countedOf u) (modelAt files area nums u lg)
+          unfolding commandReads
+          command-is lg =
+              rw (eb′, listed-same nums₀ nums (g .lent .low) job count (v .filed .few), path-same nums₀ nums (g .lent .low) job k (omega (arith, v .file, v .filed .few)), begun-model files area area′ nums u e (g .held) lends grows kept lg, found .words, ← vars-same)
+              (sym (found-reads load path vs (found .first) (modelAt files area nums u lg) u (g .held .substituted) (found .under) e (found .end)))
+
+          module _ (area″ nums″ log″ : List ℕ) (d : Out) (c : Ran files area′ area″ nums nums″ log log″ b d (commandReads job files area′ nums count words′ n k left b)) where
+            at-end : b .fill .end ≡ e
+            at-end = ap (λ (x : State). x .fill .end) eb′
+
+            at-log : b .fill .log ≡ u .fill .log
+            at-log = ap (λ (x : State). x .fill .log) eb′
+
+            lent-on : Lent (s .fill .end) area₀ area″ nums₀ nums″
+            lent-on =
+                lent-two (s .fill .end) o area₀ area area″ nums₀ nums nums″ (g .more) (g .lent)
+                (lent-two o e area area′ area″ nums nums nums″ grows
+                (record { kept = kept; back = far-on; low = refl; high = refl }) (rw at-end at (c .lent)))
+              where
+                far-on : drop 24576 area′ ≡ drop 24576 area
+                far-on =
+                    let q : e + (24576 - e) ≡ 24576 = omega (arith, few, limit-in, g .held .substituted, grows) in
+                    rw q at (sym (drop-drop (24576 - e) e area′) ∙ ap (drop (24576 - e)) (wrote-back area area′ o (results vs (firstOf (commands (drop at T)))) e (y .lent .wrote) end-in) ∙ drop-drop (24576 - e) e area)
+
+            goes : (log₀ text : Bytes) (p : Rest area nums log at u log₀ text) → goOn load path (commandReads job files area′ nums count words′ n k left b (p .written)) (readCommands load path VS (commands (drop next T))) ≡ all-reads text
+            goes log₀ text p =
+                ap (λ (x : Reading). goOn load path x (readCommands load path VS (commands (drop next T)))) (command-is (p .written))
+                ∙ sym (reads-first load path VS (commands (drop at T)) (found .first) (commands (drop next T)) (countedOf u) (modelAt files area nums u (p .written)) (found .are))
+                ∙ p .reads
+
+            comes : (log₀ text : Bytes) (p : Rest area nums log at u log₀ text) → Comes files area″ nums″ log₀ log″ d (commandReads job files area′ nums count words′ n k left b (p .written))
+            comes log₀ text p = c .reads log₀ (p .written) (rw at-log (p .logged))
+
+            pub turn-failed : (d .tag ≡ 0 → ⊥) → Ran files area₀ area″ nums₀ nums″ log₁ log″ s d all-reads
+            turn-failed z =
+                record {
+                  held = λ q. absurd (z q);
+                  more = λ q. absurd (z q);
+                  lent = lent-on;
+                  reads = λ log₀ text q.
+                      let p = g .rest log₀ text q in
+                      comes-refused files area″ nums″ log₀ log″ d (all-reads text) z
+                      (sym (goes log₀ text p) ∙ ap (λ (x : Reading). goOn load path x (readCommands load path VS (commands (drop next T)))) (refused-is files area″ nums″ log₀ log″ d (commandReads job files area′ nums count words′ n k left b (p .written)) z (comes log₀ text p)));
+                }
+
+            pub turn-again : d .tag ≡ 0 → length words′ ≡ length words → length area″ ≡ length area′ → length nums″ ≡ length nums → length log″ ≡ length log → Going area″ nums″ log″ words′ next (d .state)
+            turn-again z lw la ln ll =
+                record {
+                  held = c .held z;
+                  more = omega (arith, g .more, grows, at-end, c .more z);
+                  lent = lent-on;
+                  spans = lw ∙ g .spans;
+                  area-long = la ∙ long ∙ g .area-long;
+                  nums-long = ln ∙ g .nums-long;
+                  log-long = ll ∙ g .log-long;
+                  rest = λ log₀ text q.
+                      let p = g .rest log₀ text q in
+                      let x = comes log₀ text p in
+                      record {
+                        written = logOf (commandReads job files area′ nums count words′ n k left b (p .written));
+                        logged = x .logged z;
+                        reads = sym (ap (λ (y : Reading). goOn load path y (readCommands load path VS (commands (drop next T)))) (done-is files area″ nums″ log₀ log″ d (commandReads job files area′ nums count words′ n k left b (p .written)) z x)) ∙ goes log₀ text p;
+                      };
+                }
