@@ -109,8 +109,7 @@ unfolding pairs
 pairs-length l k zero = refl
 pairs-length l k (suc n) = ap suc (pairs-length l (k + 1) n)
 
-module _ (job files area₀ nums₀ log₁ : List ℕ) (count k left : ℕ) (s : State) (v : Opening job files area₀ nums₀ count k left s)
-    (base len : ℕ) (eb : base ≡ getD nums₀ (1152 + 2 * k) 0) (el : len ≡ getD nums₀ (1153 + 2 * k) 0) where
+module _ (job files area₀ nums₀ log₁ : List ℕ) (count k left : ℕ) (s : State) (base len : ℕ) where
   abbrev T : Bytes
   T = take len (drop base files)
 
@@ -125,14 +124,6 @@ module _ (job files area₀ nums₀ log₁ : List ℕ) (count k left : ℕ) (s :
 
   abbrev all-reads : Bytes → Reading
   all-reads text = fileReads job files area₀ nums₀ count k left s text
-
-  text-is : T ≡ joinedAt files nums₀ k
-  unfolding joinedAt
-  text-is = rw (eb, el)
-
-  file-is : (text : Bytes) → readCommands load path VS (commands T) (countedOf s) (modelAt files area₀ nums₀ s text) ≡ all-reads text
-  unfolding fileReads modelOf
-  file-is text = rw text-is
 
   -- what is left, by what has been written to the log
   pub record Rest (area nums log : List ℕ) (at : ℕ) (u : State) (log₀ text : Bytes) : Type 0 where
@@ -151,193 +142,205 @@ module _ (job files area₀ nums₀ log₁ : List ℕ) (count k left : ℕ) (s :
     pub log-long : length log ≡ length log₁
     pub rest : (log₀ text : Bytes) → Logged log₀ log₁ (s .fill .log) text → Rest area nums log at u log₀ text
 
-  pub going-start : (words : List ℕ) → length words ≡ 256 → Going area₀ nums₀ log₁ words 0 s
-  going-start words h =
-      record {
-        held = v .held;
-        more = omega arith;
-        lent = record { kept = refl; back = refl; low = refl; high = refl };
-        spans = h;
-        area-long = refl;
-        nums-long = refl;
-        log-long = refl;
-        rest = λ log₀ text g. record { written = text; logged = g; reads = file-is text };
-      }
+  module _ (v : Opening job files area₀ nums₀ count k left s) (eb : base ≡ getD nums₀ (1152 + 2 * k) 0) (el : len ≡ getD nums₀ (1153 + 2 * k) 0) where
+    text-is : T ≡ joinedAt files nums₀ k
+    unfolding joinedAt
+    text-is = rw (eb, el)
 
-  module _ (area nums log words : List ℕ) (at : ℕ) (u : State) (g : Going area nums log words at u) where
-    abbrev o : ℕ
-    o = u .fill .end
+    file-is : (text : Bytes) → readCommands load path VS (commands T) (countedOf s) (modelAt files area₀ nums₀ s text) ≡ all-reads text
+    unfolding fileReads modelOf
+    file-is text = rw text-is
 
-    abbrev limit : ℕ
-    limit = u .fill .end + (16384 - u .count .substituted)
+    pub going-start : (words : List ℕ) → length words ≡ 256 → Going area₀ nums₀ log₁ words 0 s
+    going-start words h =
+        record {
+          held = v .held;
+          more = omega arith;
+          lent = record { kept = refl; back = refl; low = refl; high = refl };
+          spans = h;
+          area-long = refl;
+          nums-long = refl;
+          log-long = refl;
+          rest = λ log₀ text g. record { written = text; logged = g; reads = file-is text };
+        }
 
-    limit-in : limit ≤ 24576
-    limit-in = omega (arith, g .held .end, g .held .substituted, g .held .scopes)
+    module _ (area nums log words : List ℕ) (at : ℕ) (u : State) (g : Going area nums log words at u) where
+      abbrev o : ℕ
+      o = u .fill .end
 
-    pub next-asks : (length files + length area < 2 ^ 32) × ((256 ≤ length words) × ((o ≤ limit) × (limit ≤ length area)))
-    next-asks = (g .held .lends .small, (omega (arith, g .spans), (omega arith, omega (arith, limit-in, g .held .lends .area-long))))
+      abbrev limit : ℕ
+      limit = u .fill .end + (16384 - u .count .substituted)
 
-    abbrev vs : List Variable
-    vs = variables (files ++ take o area) (s .variables .all) (s .variables .n)
+      limit-in : limit ≤ 24576
+      limit-in = omega (arith, g .held .end, g .held .substituted, g .held .scopes)
 
-    vars-same : vs ≡ VS
-    vars-same =
-        variables-same (length files + s .fill .end) (memOf files area₀ s) (files ++ take o area) (known-grows files area₀ area (s .fill .end) o (g .more) (g .lent .kept)) (s .variables .all) (s .variables .n)
-        (bounded-ends (length files) (length files + s .fill .end) (storeOf nums₀ s) s (v .held .bounded) .variables)
+      pub next-asks : (length files + length area < 2 ^ 32) × ((256 ≤ length words) × ((o ≤ limit) × (limit ≤ length area)))
+      next-asks = (g .held .lends .small, (omega (arith, g .spans), (omega arith, omega (arith, limit-in, g .held .lends .area-long))))
 
-    log-is : (lg : Bytes) (ar nu : List ℕ) (st : State) → modelAt files ar nu st lg .log ≡ lg
-    unfolding modelOf
-    log-is lg ar nu st = refl
+      abbrev vs : List Variable
+      vs = variables (files ++ take o area) (s .variables .all) (s .variables .n)
 
-    module _ (area′ words′ : List ℕ) (r : Answer) (w : NextOf files T at vs area area′ o limit words words′ r) where
-      -- there is no command left
-      none-by : NextOf files T at vs area area′ o limit words words′ None → Ran files area₀ area′ nums₀ nums log₁ log s (record { tag = 0; state = u }) all-reads
-      none-by y =
-          let e : commands (drop at T) ≡ [] = none-left vs o limit (commands (drop at T)) (y .is) in
-          let ends : (log₀ text : Bytes) (p : Rest area nums log at u log₀ text) → all-reads text ≡ done (countedOf u) (modelAt files area nums u (p .written)) = λ log₀ text p. sym (p .reads) ∙ reads-none load path VS (commands (drop at T)) (countedOf u) (modelAt files area nums u (p .written)) e in
-          record {
-            held = λ z. rw (y .lent .area) (g .held);
-            more = λ z. g .more;
-            lent = rw (y .lent .area) (g .lent);
-            reads = λ log₀ text q.
-                let p = g .rest log₀ text q in
-                let l : logOf (all-reads text) ≡ p .written = ap logOf (ends log₀ text p) ∙ log-is (p .written) area nums u in
-                record { result = rw (l, y .lent .area) (sym (ends log₀ text p)); logged = λ z. rw l (p .logged) };
-          }
+      vars-same : vs ≡ VS
+      vars-same =
+          variables-same (length files + s .fill .end) (memOf files area₀ s) (files ++ take o area) (known-grows files area₀ area (s .fill .end) o (g .more) (g .lent .kept)) (s .variables .all) (s .variables .n)
+          (bounded-ends (length files) (length files + s .fill .end) (storeOf nums₀ s) s (v .held .bounded) .variables)
 
-      pub turn-none : r ≡ None → Ran files area₀ area′ nums₀ nums log₁ log s (record { tag = 0; state = u }) all-reads
-      turn-none e = none-by (rw e at w)
+      log-is : (lg : Bytes) (ar nu : List ℕ) (st : State) → modelAt files ar nu st lg .log ≡ lg
+      unfolding modelOf
+      log-is lg ar nu st = refl
 
-      -- a reading limit is passed
-      past-reads-is : Past vs o limit (commands (drop at T)) → (log₀ text : Bytes) (p : Rest area nums log at u log₀ text) → all-reads text ≡ refused 10 (u .count .commands + 1)
-      past-reads-is y log₀ text p =
-          sym (p .reads)
-          ∙ reads-first load path VS (commands (drop at T)) (y .first) (y .others) (countedOf u) (modelAt files area nums u (p .written)) (y .are)
-          ∙ ap (λ (d : Reading). goOn load path d (readCommands load path VS (y .others)))
-          (past-reads load path VS (y .first) (modelAt files area nums u (p .written)) u (g .held .substituted) (rw vars-same at (y .over)))
+      module _ (area′ words′ : List ℕ) (r : Answer) (w : NextOf files T at vs area area′ o limit words words′ r) where
+        -- there is no command left
+        none-by : NextOf files T at vs area area′ o limit words words′ None → Ran files area₀ area′ nums₀ nums log₁ log s (record { tag = 0; state = u }) all-reads
+        none-by y =
+            let e : commands (drop at T) ≡ [] = none-left vs o limit (commands (drop at T)) (y .is) in
+            let ends : (log₀ text : Bytes) (p : Rest area nums log at u log₀ text) → all-reads text ≡ done (countedOf u) (modelAt files area nums u (p .written)) = λ log₀ text p. sym (p .reads) ∙ reads-none load path VS (commands (drop at T)) (countedOf u) (modelAt files area nums u (p .written)) e in
+            record {
+              held = λ z. rw (y .lent .area) (g .held);
+              more = λ z. g .more;
+              lent = rw (y .lent .area) (g .lent);
+              reads = λ log₀ text q.
+                  let p = g .rest log₀ text q in
+                  let l : logOf (all-reads text) ≡ p .written = ap logOf (ends log₀ text p) ∙ log-is (p .written) area nums u in
+                  record { result = rw (l, y .lent .area) (sym (ends log₀ text p)); logged = λ z. rw l (p .logged) };
+            }
 
-      far : drop limit area′ ≡ drop limit area → drop 24576 area′ ≡ drop 24576 area
-      far h =
-          let q : limit + (24576 - limit) ≡ 24576 = omega (arith, limit-in) in
-          rw q at (sym (drop-drop (24576 - limit) limit area′) ∙ ap (drop (24576 - limit)) h ∙ drop-drop (24576 - limit) limit area)
+        pub turn-none : r ≡ None → Ran files area₀ area′ nums₀ nums log₁ log s (record { tag = 0; state = u }) all-reads
+        turn-none e = none-by (rw e at w)
 
-      full-by : NextOf files T at vs area area′ o limit words words′ Full → (b : State) → b ≡ begun-at u o → Ran files area₀ area′ nums₀ nums log₁ log s (record { tag = 10; state = b }) all-reads
-      full-by y b eb′ =
-          record {
-            held = λ z. absurd (omega (arith, z));
-            more = λ z. absurd (omega (arith, z));
-            lent = lent-two (s .fill .end) o area₀ area area′ nums₀ nums nums (g .more) (g .lent) (record { kept = y .lent .kept; back = far (y .lent .back); low = refl; high = refl });
-            reads = λ log₀ text q.
-                comes-refused files area′ nums log₀ log (record { tag = 10; state = b }) (all-reads text) (λ z. absurd (omega (arith, z)))
-                (past-reads-is (past-left vs o limit (commands (drop at T)) (y .is)) log₀ text (g .rest log₀ text q) ∙ rw eb′);
-          }
+        -- a reading limit is passed
+        past-reads-is : Past vs o limit (commands (drop at T)) → (log₀ text : Bytes) (p : Rest area nums log at u log₀ text) → all-reads text ≡ refused 10 (u .count .commands + 1)
+        past-reads-is y log₀ text p =
+            sym (p .reads)
+            ∙ reads-first load path VS (commands (drop at T)) (y .first) (y .others) (countedOf u) (modelAt files area nums u (p .written)) (y .are)
+            ∙ ap (λ (d : Reading). goOn load path d (readCommands load path VS (y .others)))
+            (past-reads load path VS (y .first) (modelAt files area nums u (p .written)) u (g .held .substituted) (rw vars-same at (y .over)))
 
-      pub turn-full : r ≡ Full → (b : State) → b ≡ begun-at u o → Ran files area₀ area′ nums₀ nums log₁ log s (record { tag = 10; state = b }) all-reads
-      turn-full e b eb′ = full-by (rw e at w) b eb′
+        far : drop limit area′ ≡ drop limit area → drop 24576 area′ ≡ drop 24576 area
+        far h =
+            let q : limit + (24576 - limit) ≡ 24576 = omega (arith, limit-in) in
+            rw q at (sym (drop-drop (24576 - limit) limit area′) ∙ ap (drop (24576 - limit)) h ∙ drop-drop (24576 - limit) limit area)
 
-      -- a command is read
-      module _ (n next e : ℕ) (y : NextOf files T at vs area area′ o limit words words′ (Words n next e)) where
-        found : Found vs o limit (commands (drop at T)) (strings (files ++ take e area′) words′ 0 n) (commands (drop next T)) e
-        found = found-left vs o limit (commands (drop at T)) (strings (files ++ take e area′) words′ 0 n) (commands (drop next T)) e (y .is)
+        full-by : NextOf files T at vs area area′ o limit words words′ Full → (b : State) → b ≡ begun-at u o → Ran files area₀ area′ nums₀ nums log₁ log s (record { tag = 10; state = b }) all-reads
+        full-by y b eb′ =
+            record {
+              held = λ z. absurd (omega (arith, z));
+              more = λ z. absurd (omega (arith, z));
+              lent = lent-two (s .fill .end) o area₀ area area′ nums₀ nums nums (g .more) (g .lent) (record { kept = y .lent .kept; back = far (y .lent .back); low = refl; high = refl });
+              reads = λ log₀ text q.
+                  comes-refused files area′ nums log₀ log (record { tag = 10; state = b }) (all-reads text) (λ z. absurd (omega (arith, z)))
+                  (past-reads-is (past-left vs o limit (commands (drop at T)) (y .is)) log₀ text (g .rest log₀ text q) ∙ rw eb′);
+            }
 
-        few : u .count .substituted + (e - o) ≤ 16384
-        few = found-few load path vs (found .first) (modelAt files area nums u []) u (g .held .substituted) (found .under) e (found .end)
+        pub turn-full : r ≡ Full → (b : State) → b ≡ begun-at u o → Ran files area₀ area′ nums₀ nums log₁ log s (record { tag = 10; state = b }) all-reads
+        turn-full e b eb′ = full-by (rw e at w) b eb′
 
-        grows : o ≤ e
-        grows = omega (arith, found .end)
+        -- a command is read
+        module _ (n next e : ℕ) (er : r ≡ Words n next e) where
+          y : NextOf files T at vs area area′ o limit words words′ (Words n next e)
+          y = rw er at w
 
-        end-in : e ≤ length area
-        end-in = omega (arith, few, limit-in, g .held .substituted, g .held .lends .area-long, grows)
+          found : Found vs o limit (commands (drop at T)) (strings (files ++ take e area′) words′ 0 n) (commands (drop next T)) e
+          found = found-left vs o limit (commands (drop at T)) (strings (files ++ take e area′) words′ 0 n) (commands (drop next T)) e (y .is)
 
-        pub begun-asks : (u .count .commands + 1 < 2 ^ 64) × ((o ≤ e) × (u .count .substituted + (e - o) < 2 ^ 64))
-        begun-asks = (omega (arith, g .held .commands), (grows, omega (arith, few)))
+          few : u .count .substituted + (e - o) ≤ 16384
+          few = found-few load path vs (found .first) (modelAt files area nums u []) u (g .held .substituted) (found .under) e (found .end)
 
-        kept : take o area′ ≡ take o area
-        kept = wrote-kept area area′ o (results vs (firstOf (commands (drop at T)))) e (y .lent .wrote) end-in
+          grows : o ≤ e
+          grows = omega (arith, found .end)
 
-        pub turn-less : length (commands (drop next T)) < length (commands (drop at T))
-        turn-less = omega (arith, ap length (found .are))
+          end-in : e ≤ length area
+          end-in = omega (arith, few, limit-in, g .held .substituted, g .held .lends .area-long, grows)
 
-        word-count : length (found .first) ≡ n
-        word-count = sym (length-map (found .first) _) ∙ sym (ap length (found .words)) ∙ length-map (pairs words′ 0 n) (bytes (files ++ take e area′)) ∙ pairs-length words′ 0 n
+          pub begun-asks : (u .count .commands + 1 < 2 ^ 64) × ((o ≤ e) × (u .count .substituted + (e - o) < 2 ^ 64))
+          begun-asks = (omega (arith, g .held .commands), (grows, omega (arith, few)))
 
-        module _ (long : length area′ ≡ length area) (b : State) (eb′ : b ≡ begun-at u e) where
-          lends : Lends files area′ nums
-          lends = record { files-short = g .held .lends .files-short; area-long = omega (arith, g .held .lends .area-long, long); small = omega (arith, g .held .lends .small, long); nums-long = g .held .lends .nums-long }
+          kept : take o area′ ≡ take o area
+          kept = wrote-kept area area′ o (results vs (firstOf (commands (drop at T)))) e (y .lent .wrote) end-in
 
-          pub turn-doing : Doing job files area′ nums words′ count n k left b
-          turn-doing =
-              record {
-                filed = texts-same nums₀ nums (g .lent .low) job files count (v .filed);
-                held = rw eb′ (begun-held files area area′ nums u e (g .held) lends grows kept few);
-                worded = rw eb′ (y .lent .inside);
-                named = omega (arith, some-words (drop at T) (found .first) (commands (drop next T)) (found .are), word-count);
-                file = v .file;
-                depth = v .depth;
-              }
+          pub turn-less : length (commands (drop next T)) < length (commands (drop at T))
+          turn-less = omega (arith, ap length (found .are))
 
-          -- what the command comes to, in the words of the file
-          command-is : (lg : Bytes) → commandReads job files area′ nums count words′ n k left b lg ≡ command load path VS (found .first) (countedOf u) (modelAt files area nums u lg)
-          unfolding commandReads
-          command-is lg =
-              rw (eb′, listed-same nums₀ nums (g .lent .low) job count (v .filed .few), path-same nums₀ nums (g .lent .low) job k (omega (arith, v .file, v .filed .few)), begun-model files area area′ nums u e (g .held) lends grows kept lg, found .words, ← vars-same)
-              (sym (found-reads load path vs (found .first) (modelAt files area nums u lg) u (g .held .substituted) (found .under) e (found .end)))
+          word-count : length (found .first) ≡ n
+          word-count = sym (length-map (found .first) _) ∙ sym (ap length (found .words)) ∙ length-map (pairs words′ 0 n) (bytes (files ++ take e area′)) ∙ pairs-length words′ 0 n
 
-          module _ (area″ nums″ log″ : List ℕ) (d : Out) (c : Ran files area′ area″ nums nums″ log log″ b d (commandReads job files area′ nums count words′ n k left b)) where
-            at-end : b .fill .end ≡ e
-            at-end = ap (λ (x : State). x .fill .end) eb′
+          module _ (long : length area′ ≡ length area) (b : State) (eb′ : b ≡ begun-at u e) where
+            lends : Lends files area′ nums
+            lends = record { files-short = g .held .lends .files-short; area-long = omega (arith, g .held .lends .area-long, long); small = omega (arith, g .held .lends .small, long); nums-long = g .held .lends .nums-long }
 
-            at-log : b .fill .log ≡ u .fill .log
-            at-log = ap (λ (x : State). x .fill .log) eb′
-
-            lent-on : Lent (s .fill .end) area₀ area″ nums₀ nums″
-            lent-on =
-                lent-two (s .fill .end) o area₀ area area″ nums₀ nums nums″ (g .more) (g .lent)
-                (lent-two o e area area′ area″ nums nums nums″ grows
-                (record { kept = kept; back = far-on; low = refl; high = refl }) (rw at-end at (c .lent)))
-              where
-                far-on : drop 24576 area′ ≡ drop 24576 area
-                far-on =
-                    let q : e + (24576 - e) ≡ 24576 = omega (arith, few, limit-in, g .held .substituted, grows) in
-                    rw q at (sym (drop-drop (24576 - e) e area′) ∙ ap (drop (24576 - e)) (wrote-back area area′ o (results vs (firstOf (commands (drop at T)))) e (y .lent .wrote) end-in) ∙ drop-drop (24576 - e) e area)
-
-            goes : (log₀ text : Bytes) (p : Rest area nums log at u log₀ text) → goOn load path (commandReads job files area′ nums count words′ n k left b (p .written)) (readCommands load path VS (commands (drop next T))) ≡ all-reads text
-            goes log₀ text p =
-                ap (λ (x : Reading). goOn load path x (readCommands load path VS (commands (drop next T)))) (command-is (p .written))
-                ∙ sym (reads-first load path VS (commands (drop at T)) (found .first) (commands (drop next T)) (countedOf u) (modelAt files area nums u (p .written)) (found .are))
-                ∙ p .reads
-
-            comes : (log₀ text : Bytes) (p : Rest area nums log at u log₀ text) → Comes files area″ nums″ log₀ log″ d (commandReads job files area′ nums count words′ n k left b (p .written))
-            comes log₀ text p = c .reads log₀ (p .written) (rw at-log (p .logged))
-
-            pub turn-failed : (d .tag ≡ 0 → ⊥) → Ran files area₀ area″ nums₀ nums″ log₁ log″ s d all-reads
-            turn-failed z =
+            pub turn-doing : Doing job files area′ nums words′ count n k left b
+            turn-doing =
                 record {
-                  held = λ q. absurd (z q);
-                  more = λ q. absurd (z q);
-                  lent = lent-on;
-                  reads = λ log₀ text q.
-                      let p = g .rest log₀ text q in
-                      comes-refused files area″ nums″ log₀ log″ d (all-reads text) z
-                      (sym (goes log₀ text p) ∙ ap (λ (x : Reading). goOn load path x (readCommands load path VS (commands (drop next T)))) (refused-is files area″ nums″ log₀ log″ d (commandReads job files area′ nums count words′ n k left b (p .written)) z (comes log₀ text p)));
+                  filed = texts-same nums₀ nums (g .lent .low) job files count (v .filed);
+                  held = rw eb′ (begun-held files area area′ nums u e (g .held) lends grows kept few);
+                  worded = rw eb′ (y .lent .inside);
+                  named = omega (arith, some-words (drop at T) (found .first) (commands (drop next T)) (found .are), word-count);
+                  file = v .file;
+                  depth = v .depth;
                 }
 
-            pub turn-again : d .tag ≡ 0 → length words′ ≡ length words → length area″ ≡ length area′ → length nums″ ≡ length nums → length log″ ≡ length log → Going area″ nums″ log″ words′ next (d .state)
-            turn-again z lw la ln ll =
-                record {
-                  held = c .held z;
-                  more = omega (arith, g .more, grows, at-end, c .more z);
-                  lent = lent-on;
-                  spans = lw ∙ g .spans;
-                  area-long = la ∙ long ∙ g .area-long;
-                  nums-long = ln ∙ g .nums-long;
-                  log-long = ll ∙ g .log-long;
-                  rest = λ log₀ text q.
-                      let p = g .rest log₀ text q in
-                      let x = comes log₀ text p in
-                      record {
-                        written = logOf (commandReads job files area′ nums count words′ n k left b (p .written));
-                        logged = x .logged z;
-                        reads = sym (ap (λ (y : Reading). goOn load path y (readCommands load path VS (commands (drop next T)))) (done-is files area″ nums″ log₀ log″ d (commandReads job files area′ nums count words′ n k left b (p .written)) z x)) ∙ goes log₀ text p;
-                      };
-                }
+            -- what the command comes to, in the words of the file
+            command-is : (lg : Bytes) → commandReads job files area′ nums count words′ n k left b lg ≡ command load path VS (found .first) (countedOf u) (modelAt files area nums u lg)
+            unfolding commandReads
+            command-is lg =
+                rw (eb′, listed-same nums₀ nums (g .lent .low) job count (v .filed .few), path-same nums₀ nums (g .lent .low) job k (omega (arith, v .file, v .filed .few)), begun-model files area area′ nums u e (g .held) lends grows kept lg, found .words, ← vars-same)
+                (sym (found-reads load path vs (found .first) (modelAt files area nums u lg) u (g .held .substituted) (found .under) e (found .end)))
+
+            module _ (area″ nums″ log″ : List ℕ) (d : Out) (c : Ran files area′ area″ nums nums″ log log″ b d (commandReads job files area′ nums count words′ n k left b)) where
+              at-end : b .fill .end ≡ e
+              at-end = ap (λ (x : State). x .fill .end) eb′
+
+              at-log : b .fill .log ≡ u .fill .log
+              at-log = ap (λ (x : State). x .fill .log) eb′
+
+              lent-on : Lent (s .fill .end) area₀ area″ nums₀ nums″
+              lent-on =
+                  lent-two (s .fill .end) o area₀ area area″ nums₀ nums nums″ (g .more) (g .lent)
+                  (lent-two o e area area′ area″ nums nums nums″ grows
+                  (record { kept = kept; back = far-on; low = refl; high = refl }) (rw at-end at (c .lent)))
+                where
+                  far-on : drop 24576 area′ ≡ drop 24576 area
+                  far-on =
+                      let q : e + (24576 - e) ≡ 24576 = omega (arith, few, limit-in, g .held .substituted, grows) in
+                      rw q at (sym (drop-drop (24576 - e) e area′) ∙ ap (drop (24576 - e)) (wrote-back area area′ o (results vs (firstOf (commands (drop at T)))) e (y .lent .wrote) end-in) ∙ drop-drop (24576 - e) e area)
+
+              goes : (log₀ text : Bytes) (p : Rest area nums log at u log₀ text) → goOn load path (commandReads job files area′ nums count words′ n k left b (p .written)) (readCommands load path VS (commands (drop next T))) ≡ all-reads text
+              goes log₀ text p =
+                  ap (λ (x : Reading). goOn load path x (readCommands load path VS (commands (drop next T)))) (command-is (p .written))
+                  ∙ sym (reads-first load path VS (commands (drop at T)) (found .first) (commands (drop next T)) (countedOf u) (modelAt files area nums u (p .written)) (found .are))
+                  ∙ p .reads
+
+              comes : (log₀ text : Bytes) (p : Rest area nums log at u log₀ text) → Comes files area″ nums″ log₀ log″ d (commandReads job files area′ nums count words′ n k left b (p .written))
+              comes log₀ text p = c .reads log₀ (p .written) (rw at-log (p .logged))
+
+              pub turn-failed : (d .tag ≡ 0 → ⊥) → Ran files area₀ area″ nums₀ nums″ log₁ log″ s d all-reads
+              turn-failed z =
+                  record {
+                    held = λ q. absurd (z q);
+                    more = λ q. absurd (z q);
+                    lent = lent-on;
+                    reads = λ log₀ text q.
+                        let p = g .rest log₀ text q in
+                        comes-refused files area″ nums″ log₀ log″ d (all-reads text) z
+                        (sym (goes log₀ text p) ∙ ap (λ (x : Reading). goOn load path x (readCommands load path VS (commands (drop next T)))) (refused-is files area″ nums″ log₀ log″ d (commandReads job files area′ nums count words′ n k left b (p .written)) z (comes log₀ text p)));
+                  }
+
+              pub turn-again : d .tag ≡ 0 → length words′ ≡ length words → length area″ ≡ length area′ → length nums″ ≡ length nums → length log″ ≡ length log → Going area″ nums″ log″ words′ next (d .state)
+              turn-again z lw la ln ll =
+                  record {
+                    held = c .held z;
+                    more = omega (arith, g .more, grows, at-end, c .more z);
+                    lent = lent-on;
+                    spans = lw ∙ g .spans;
+                    area-long = la ∙ long ∙ g .area-long;
+                    nums-long = ln ∙ g .nums-long;
+                    log-long = ll ∙ g .log-long;
+                    rest = λ log₀ text q.
+                        let p = g .rest log₀ text q in
+                        let x = comes log₀ text p in
+                        record {
+                          written = logOf (commandReads job files area′ nums count words′ n k left b (p .written));
+                          logged = x .logged z;
+                          reads = sym (ap (λ (y : Reading). goOn load path y (readCommands load path VS (commands (drop next T)))) (done-is files area″ nums″ log₀ log″ d (commandReads job files area′ nums count words′ n k left b (p .written)) z x)) ∙ goes log₀ text p;
+                        };
+                  }
