@@ -167,27 +167,27 @@ read-file-returns-2 t c =
 read-file-begun-requires-2 : (t : ℕ) → read-file-lts.Need-begun-requires-2 (read-file-cs t) (read-file-at t) read-file.Post read-file-Inv-loop read-file-μ-loop
 read-file-begun-requires-2 t c κs =
     let e = c .before .before .before .before .before .before .before .before .before .before .before .before .before .before .before .before .before .before .before .before .before .before .before in let a = e .args in let l = c .before .before .before .before .before .before .before .before .before .before .before .loop in
-    begun-asks (a .job .now) (a .files .now) (a .area .now) (a .nums .now) (a .log .now) (a .count) (a .k) (a .left) (a .s) (c .before .before .before .before .before .before .before .before .before .before .before .before .before .before .before .before .place .result) (c .before .before .before .before .before .before .before .before .before .before .before .before .before .before .place2 .result) (e .pre .1) (c .before .before .before .before .before .before .before .before .before .before .before .before .before .before .before .before .place .ensures) (c .before .before .before .before .before .before .before .before .before .before .before .before .before .before .place2 .ensures) (l .area) (l .nums) (l .log) (l .words) (l .at) (l .u) (l .inv) _ _ (c .before .before .before .before .before .before .next-command .result) (c .before .before .before .before .before .before .next-command .ensures) _ _ _ (search (c .known-told .given))
+    begun-asks (a .job .now) (a .files .now) (a .area .now) (a .nums .now) (a .log .now) (a .count) (a .k) (a .left) (a .s) (c .before .before .before .before .before .before .before .before .before .before .before .before .before .before .before .before .place .result) (c .before .before .before .before .before .before .before .before .before .before .before .before .before .before .place2 .result) (e .pre .1) (c .before .before .before .before .before .before .before .before .before .before .before .before .before .before .before .before .place .ensures) (c .before .before .before .before .before .before .before .before .before .before .before .before .before .before .place2 .ensures) (l .area) (l .nums) (l .log) (l .words) (l .at) (l .u) (l .inv) _ _ (c .before .before .before .before .before .before .next-command .result) (c .before .before .before .before .before .before .next-command .ensures) _ _ _ (c .before .n .given .1)
 
 read-file-command-requires : (t : ℕ) → read-file-lts.Need-command-requires (read-file-cs t) (read-file-at t) read-file.Post read-file-Inv-loop read-file-μ-loop
 read-file-command-requires t c κs =
     let e = c .before .before .before .before .before .before .before .before .before .before .before .before .before .before .before .before .before .before .before .before .before .before .before .before .before .before .before .before in let a = e .args in let l = c .before .before .before .before .before .before .before .before .before .before .before .before .before .before .before .before .loop in
-    (omega (arith, e .pre .0), turn-doing (a .job .now) (a .files .now) (a .area .now) (a .nums .now) (a .log .now) (a .count) (a .k) (a .left) (a .s) (c .before .before .before .before .before .before .before .before .before .before .before .before .before .before .before .before .before .before .before .before .before .place .result) (c .before .before .before .before .before .before .before .before .before .before .before .before .before .before .before .before .before .before .before .place2 .result) (e .pre .1) (c .before .before .before .before .before .before .before .before .before .before .before .before .before .before .before .before .before .before .before .before .before .place .ensures) (c .before .before .before .before .before .before .before .before .before .before .before .before .before .before .before .before .before .before .before .place2 .ensures) (l .area) (l .nums) (l .log) (l .words) (l .at) (l .u) (l .inv) _ _ (c .before .before .before .before .before .before .before .before .before .before .before .next-command .result) (c .before .before .before .before .before .before .before .before .before .before .before .next-command .ensures) _ _ _ (search (c .before .before .before .before .before .known-told .given)) (c .before .before .before .before .before .before .before .before .before .before .before .next-command .kept .1 .1 .1 .1 .1 .1 .0) _ (c .before .before .before .before .begun2 .ensures))
+    (omega (arith, e .pre .0), turn-doing (a .job .now) (a .files .now) (a .area .now) (a .nums .now) (a .log .now) (a .count) (a .k) (a .left) (a .s) (c .before .before .before .before .before .before .before .before .before .before .before .before .before .before .before .before .before .before .before .before .before .place .result) (c .before .before .before .before .before .before .before .before .before .before .before .before .before .before .before .before .before .before .before .place2 .result) (e .pre .1) (c .before .before .before .before .before .before .before .before .before .before .before .before .before .before .before .before .before .before .before .before .before .place .ensures) (c .before .before .before .before .before .before .before .before .before .before .before .before .before .before .before .before .before .before .before .place2 .ensures) (l .area) (l .nums) (l .log) (l .words) (l .at) (l .u) (l .inv) _ _ (c .before .before .before .before .before .before .before .before .before .before .before .next-command .result) (c .before .before .before .before .before .before .before .before .before .before .before .next-command .ensures) _ _ _ (c .before .before .before .before .before .before .n .given .1) (c .before .before .before .before .before .before .before .before .before .before .before .next-command .kept .1 .1 .1 .1 .1 .1 .0) _ (c .before .before .before .before .begun2 .ensures))
 
 read-file-returns-3 : (t : ℕ) → read-file-lts.Need-returns-3 (read-file-cs t) (read-file-at t) read-file.Post read-file-Inv-loop read-file-μ-loop
 read-file-returns-3 t c =
     let e = c .before .before .before .before .before .before .before .before .before .before .before .before .before .before .before .before .before .before .before .before .before .before .before .before .before .before .before .before .before .before .before .before .before .before .before .before .before in let a = e .args in let l = c .before .before .before .before .before .before .before .before .before .before .before .before .before .before .before .before .before .before .before .before .before .before .before .before .before .loop in
-    turn-failed (a .job .now) (a .files .now) (a .area .now) (a .nums .now) (a .log .now) (a .count) (a .k) (a .left) (a .s) (c .before .before .before .before .before .before .before .before .before .before .before .before .before .before .before .before .before .before .before .before .before .before .before .before .before .before .before .before .before .before .place .result) (c .before .before .before .before .before .before .before .before .before .before .before .before .before .before .before .before .before .before .before .before .before .before .before .before .before .before .before .before .place2 .result) (e .pre .1) (c .before .before .before .before .before .before .before .before .before .before .before .before .before .before .before .before .before .before .before .before .before .before .before .before .before .before .before .before .before .before .place .ensures) (c .before .before .before .before .before .before .before .before .before .before .before .before .before .before .before .before .before .before .before .before .before .before .before .before .before .before .before .before .place2 .ensures) (l .area) (l .nums) (l .log) (l .words) (l .at) (l .u) (l .inv) _ _ (c .before .before .before .before .before .before .before .before .before .before .before .before .before .before .before .before .before .before .before .before .next-command .result) (c .before .before .before .before .before .before .before .before .before .before .before .before .before .before .before .before .before .before .before .before .next-command .ensures) _ _ _ (search (c .before .before .before .before .before .before .before .before .before .before .before .before .before .before .known-told .given)) (c .before .before .before .before .before .before .before .before .before .before .before .before .before .before .before .before .before .before .before .before .next-command .kept .1 .1 .1 .1 .1 .1 .0) _ (c .before .before .before .before .before .before .before .before .before .before .before .before .before .begun2 .ensures) _ _ _ _ (c .before .before .before .before .before .before .before .before .command .ensures) (c .if1 .taken)
+    turn-failed (a .job .now) (a .files .now) (a .area .now) (a .nums .now) (a .log .now) (a .count) (a .k) (a .left) (a .s) (c .before .before .before .before .before .before .before .before .before .before .before .before .before .before .before .before .before .before .before .before .before .before .before .before .before .before .before .before .before .before .place .result) (c .before .before .before .before .before .before .before .before .before .before .before .before .before .before .before .before .before .before .before .before .before .before .before .before .before .before .before .before .place2 .result) (e .pre .1) (c .before .before .before .before .before .before .before .before .before .before .before .before .before .before .before .before .before .before .before .before .before .before .before .before .before .before .before .before .before .before .place .ensures) (c .before .before .before .before .before .before .before .before .before .before .before .before .before .before .before .before .before .before .before .before .before .before .before .before .before .before .before .before .place2 .ensures) (l .area) (l .nums) (l .log) (l .words) (l .at) (l .u) (l .inv) _ _ (c .before .before .before .before .before .before .before .before .before .before .before .before .before .before .before .before .before .before .before .before .next-command .result) (c .before .before .before .before .before .before .before .before .before .before .before .before .before .before .before .before .before .before .before .before .next-command .ensures) _ _ _ (c .before .before .before .before .before .before .before .before .before .before .before .before .before .before .before .n .given .1) (c .before .before .before .before .before .before .before .before .before .before .before .before .before .before .before .before .before .before .before .before .next-command .kept .1 .1 .1 .1 .1 .1 .0) _ (c .before .before .before .before .before .before .before .before .before .before .before .before .before .begun2 .ensures) _ _ _ _ (c .before .before .before .before .before .before .before .before .command .ensures) (c .if1 .taken)
 
 read-file-loop-less : (t : ℕ) → read-file-lts.Need-loop-less (read-file-cs t) (read-file-at t) read-file.Post read-file-Inv-loop read-file-μ-loop
 read-file-loop-less t c =
     let e = c .before .before .before .before .before .before .before .before .before .before .before .before .before .before .before .before .before .before .before .before .before .before .before .before .before .before .before .before .before .before .before .before .before .before .before .before .before .before in let a = e .args in let l = c .before .before .before .before .before .before .before .before .before .before .before .before .before .before .before .before .before .before .before .before .before .before .before .before .before .before .loop in
-    turn-less (a .job .now) (a .files .now) (a .area .now) (a .nums .now) (a .log .now) (a .count) (a .k) (a .left) (a .s) (c .before .before .before .before .before .before .before .before .before .before .before .before .before .before .before .before .before .before .before .before .before .before .before .before .before .before .before .before .before .before .before .place .result) (c .before .before .before .before .before .before .before .before .before .before .before .before .before .before .before .before .before .before .before .before .before .before .before .before .before .before .before .before .before .place2 .result) (e .pre .1) (c .before .before .before .before .before .before .before .before .before .before .before .before .before .before .before .before .before .before .before .before .before .before .before .before .before .before .before .before .before .before .before .place .ensures) (c .before .before .before .before .before .before .before .before .before .before .before .before .before .before .before .before .before .before .before .before .before .before .before .before .before .before .before .before .before .place2 .ensures) (l .area) (l .nums) (l .log) (l .words) (l .at) (l .u) (l .inv) _ _ (c .before .before .before .before .before .before .before .before .before .before .before .before .before .before .before .before .before .before .before .before .before .next-command .result) (c .before .before .before .before .before .before .before .before .before .before .before .before .before .before .before .before .before .before .before .before .before .next-command .ensures) _ _ _ (search (c .before .before .before .before .before .before .before .before .before .before .before .before .before .before .before .known-told .given))
+    turn-less (a .job .now) (a .files .now) (a .area .now) (a .nums .now) (a .log .now) (a .count) (a .k) (a .left) (a .s) (c .before .before .before .before .before .before .before .before .before .before .before .before .before .before .before .before .before .before .before .before .before .before .before .before .before .before .before .before .before .before .before .place .result) (c .before .before .before .before .before .before .before .before .before .before .before .before .before .before .before .before .before .before .before .before .before .before .before .before .before .before .before .before .before .place2 .result) (e .pre .1) (c .before .before .before .before .before .before .before .before .before .before .before .before .before .before .before .before .before .before .before .before .before .before .before .before .before .before .before .before .before .before .before .place .ensures) (c .before .before .before .before .before .before .before .before .before .before .before .before .before .before .before .before .before .before .before .before .before .before .before .before .before .before .before .before .before .place2 .ensures) (l .area) (l .nums) (l .log) (l .words) (l .at) (l .u) (l .inv) _ _ (c .before .before .before .before .before .before .before .before .before .before .before .before .before .before .before .before .before .before .before .before .before .next-command .result) (c .before .before .before .before .before .before .before .before .before .before .before .before .before .before .before .before .before .before .before .before .before .next-command .ensures) _ _ _ (c .before .before .before .before .before .before .before .before .before .before .before .before .before .before .before .before .n .given .1)
 
 read-file-loop-again : (t : ℕ) → read-file-lts.Need-loop-again (read-file-cs t) (read-file-at t) read-file.Post read-file-Inv-loop read-file-μ-loop
 read-file-loop-again t c =
     let e = c .before .before .before .before .before .before .before .before .before .before .before .before .before .before .before .before .before .before .before .before .before .before .before .before .before .before .before .before .before .before .before .before .before .before .before .before .before .before in let a = e .args in let l = c .before .before .before .before .before .before .before .before .before .before .before .before .before .before .before .before .before .before .before .before .before .before .before .before .before .before .loop in
-    turn-again (a .job .now) (a .files .now) (a .area .now) (a .nums .now) (a .log .now) (a .count) (a .k) (a .left) (a .s) (c .before .before .before .before .before .before .before .before .before .before .before .before .before .before .before .before .before .before .before .before .before .before .before .before .before .before .before .before .before .before .before .place .result) (c .before .before .before .before .before .before .before .before .before .before .before .before .before .before .before .before .before .before .before .before .before .before .before .before .before .before .before .before .before .place2 .result) (e .pre .1) (c .before .before .before .before .before .before .before .before .before .before .before .before .before .before .before .before .before .before .before .before .before .before .before .before .before .before .before .before .before .before .before .place .ensures) (c .before .before .before .before .before .before .before .before .before .before .before .before .before .before .before .before .before .before .before .before .before .before .before .before .before .before .before .before .before .place2 .ensures) (l .area) (l .nums) (l .log) (l .words) (l .at) (l .u) (l .inv) _ _ (c .before .before .before .before .before .before .before .before .before .before .before .before .before .before .before .before .before .before .before .before .before .next-command .result) (c .before .before .before .before .before .before .before .before .before .before .before .before .before .before .before .before .before .before .before .before .before .next-command .ensures) _ _ _ (search (c .before .before .before .before .before .before .before .before .before .before .before .before .before .before .before .known-told .given)) (c .before .before .before .before .before .before .before .before .before .before .before .before .before .before .before .before .before .before .before .before .before .next-command .kept .1 .1 .1 .1 .1 .1 .0) _ (c .before .before .before .before .before .before .before .before .before .before .before .before .before .before .begun2 .ensures) _ _ _ _ (c .before .before .before .before .before .before .before .before .before .command .ensures) (c .before .if1 .left) (c .before .before .before .before .before .before .before .before .before .before .before .before .before .before .before .before .before .before .before .before .before .next-command .kept .1 .1 .1 .1 .1 .1 .1 .1 .1 .0) (c .before .before .before .before .before .before .before .before .before .command .kept .1 .1 .0) (c .before .before .before .before .before .before .before .before .before .command .kept .1 .1 .1 .0) (c .before .before .before .before .before .before .before .before .before .command .kept .1 .1 .1 .1 .0)
+    turn-again (a .job .now) (a .files .now) (a .area .now) (a .nums .now) (a .log .now) (a .count) (a .k) (a .left) (a .s) (c .before .before .before .before .before .before .before .before .before .before .before .before .before .before .before .before .before .before .before .before .before .before .before .before .before .before .before .before .before .before .before .place .result) (c .before .before .before .before .before .before .before .before .before .before .before .before .before .before .before .before .before .before .before .before .before .before .before .before .before .before .before .before .before .place2 .result) (e .pre .1) (c .before .before .before .before .before .before .before .before .before .before .before .before .before .before .before .before .before .before .before .before .before .before .before .before .before .before .before .before .before .before .before .place .ensures) (c .before .before .before .before .before .before .before .before .before .before .before .before .before .before .before .before .before .before .before .before .before .before .before .before .before .before .before .before .before .place2 .ensures) (l .area) (l .nums) (l .log) (l .words) (l .at) (l .u) (l .inv) _ _ (c .before .before .before .before .before .before .before .before .before .before .before .before .before .before .before .before .before .before .before .before .before .next-command .result) (c .before .before .before .before .before .before .before .before .before .before .before .before .before .before .before .before .before .before .before .before .before .next-command .ensures) _ _ _ (c .before .before .before .before .before .before .before .before .before .before .before .before .before .before .before .before .n .given .1) (c .before .before .before .before .before .before .before .before .before .before .before .before .before .before .before .before .before .before .before .before .before .next-command .kept .1 .1 .1 .1 .1 .1 .0) _ (c .before .before .before .before .before .before .before .before .before .before .before .before .before .before .begun2 .ensures) _ _ _ _ (c .before .before .before .before .before .before .before .before .before .command .ensures) (c .before .if1 .left) (c .before .before .before .before .before .before .before .before .before .before .before .before .before .before .before .before .before .before .before .before .before .next-command .kept .1 .1 .1 .1 .1 .1 .1 .1 .1 .0) (c .before .before .before .before .before .before .before .before .before .command .kept .1 .1 .0) (c .before .before .before .before .before .before .before .before .before .command .kept .1 .1 .1 .0) (c .before .before .before .before .before .before .before .before .before .command .kept .1 .1 .1 .1 .0)
 
 command-same-length-7 : (t : ℕ) → command-lts.Need-same-length-7 (command-cs t) (command-at t) command.Post
 command-same-length-7 t c = c .before .before .before .before .before .before .before .before .read-file .kept .1 .1 .0 ∙ c .before .before .before .before .before .before .before .before .before .before .before .before .before .before .before .before .before .before-load .kept .1 .1 .0
@@ -240,6 +240,11 @@ read-file-same-length-9 t c =
     let l = c .before .before .before .before .before .before .before .before .before .before .before .before .before .before .before .before .before .before .before .before .before .before .before .before .before .loop in
     c .before .before .before .before .before .before .before .before .command .kept .1 .1 .1 .1 .0 ∙ l .inv .log-long
 
+read-file-slice-aggregate-next-command : (t : ℕ) → read-file-lts.Need-slice-aggregate-next-command (read-file-cs t) (read-file-at t) read-file.Post read-file-Inv-loop read-file-μ-loop
+read-file-slice-aggregate-next-command t c =
+    let e = c .before .before .before .before .before .before .before .before .before .before .before .before .before .before in let a = e .args in
+    sym (e .pre .1 .held .shaped .long)
+
 pub +command+read-file-spec : {M : Type 1} → statement M
 +command+read-file-spec = close μ-command μ-read-file (λ t. command-lts.spec (command-cs t)
     (command-at t)
@@ -287,7 +292,7 @@ pub +command+read-file-spec : {M : Type 1} → statement M
     (read-file-loop-holds t)
     (λ c. search needs)  -- read-file-sub-limit
     (λ c. search needs)  -- read-file-add-limit
-    (λ c. search needs)  -- read-file-slice-aggregate-next-command
+    (read-file-slice-aggregate-next-command t)
     (read-file-slice-aggregate-next-command-2 t)
     (read-file-next-command-requires t)
     (λ c. search needs)  -- read-file-enum-told
