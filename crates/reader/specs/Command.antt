@@ -8,14 +8,15 @@ use mathlib.Core.Bool.{Bool, true, false, cond, _&&_}
 use mathlib.Core.List.{List, [], _∷_, _++_}
 use mathlib.Core.Option.{Option, none, some}
 use lib.Dec.{eqb, leb}
-use lib.ListN.{length, take, drop}
+use lib.ListN.{length, take, drop, length-append}
+use lib.Seq.{length-take-le}
 use borrow.Author.Tests.{eq-eqb, ne-eqb, leb-true}
 use Rattle.text.specs.Ascii.{Bytes, ascii}
 use Rattle.text.specs.Scan.{all}
 use Rattle.text.specs.Sames.{no-true, both}
-use Rattle.spans.specs.Span.{bytes, pairAt, strings}
+use Rattle.spans.specs.Span.{bytes, pairAt, pairs, strings}
 use Rattle.spans.specs.Frame.{known-grows}
-use Rattle.spans.specs.Reach.{reach, reach-end}
+use Rattle.spans.specs.Reach.{lastOf, reach, reach-end}
 use Rattle.jobindex.specs.Index.{pathAt}
 use Rattle.model.specs.Records.{Model, with-scope, with-design-top}
 use Rattle.model.specs.Commands.{given}
@@ -119,6 +120,18 @@ module _ (job files area nums words : List ℕ) (count n k left : ℕ) (s : Stat
   abbrev reads : Bytes → Reading
   reads text = commandReads job files area nums count words n k left s text
 
+  -- its words are whole in the files or in the area
+  mem-long : length (memOf files area s) ≡ length files + s .fill .end
+  mem-long =
+      length-append files (take (s .fill .end) area)
+      ∙ ap (λ (x : ℕ). length files + x) (length-take-le (s .fill .end) area (omega (arith, v .held .end, v .held .substituted, v .held .scopes, v .held .lends .area-long)))
+
+  pub words-inside : lastOf (reach (length files)) (pairs words 0 n) ≤ length (memOf files area s)
+  words-inside = omega (arith, mem-long, v .worded)
+
+  pub words-small : length (memOf files area s) < 2 ^ 32
+  words-small = omega (arith, mem-long, v .held .end, v .held .substituted, v .held .scopes, v .held .lends .area-long, v .held .lends .small)
+
   module _ (c : ℕ) (ec : commandNamed (bytes (memOf files area s) (pairAt words 0)) ≡ namedBy c) where
     abbrev ls : List ℕ
     ls = entriesOf (listsBy (namedBy c) (l .name) (l .rest))
@@ -179,6 +192,9 @@ module _ (job files area nums words : List ℕ) (count n k left : ℕ) (s : Stat
 
         pub counted-few : x .state .count .commands ≤ 1024
         counted-few = rw state-is commands-fit
+
+        pub counted-named : commandNamed (lineAt files area words n (x .state) .name) ≡ namedBy c
+        counted-named = rw state-is named-is
 
         -- one that loads nothing
         acts : (c ≡ 2 → ⊥) → (text : Bytes)

@@ -264,6 +264,9 @@ module _ (job files area₀ nums₀ log₁ : List ℕ) (count k left : ℕ) (s :
           word-count : length (found .first) ≡ n
           word-count = sym (length-map (found .first) _) ∙ sym (ap length (found .words)) ∙ length-map (pairs words′ 0 n) (bytes (files ++ take e area′)) ∙ pairs-length words′ 0 n
 
+          words-few : length (found .first) ≤ 128
+          words-few = leb-true (length (found .first)) 128 (both (leb (length (found .first)) 128) (leb (o + costs vs (found .first)) limit) (found .under) .0)
+
           module _ (long : length area′ ≡ length area) (b : State) (eb′ : b ≡ begun-at u e) where
             lends : Lends files area′ nums
             lends = record { files-short = g .held .lends .files-short; area-long = omega (arith, g .held .lends .area-long, long); small = omega (arith, g .held .lends .small, long); nums-long = g .held .lends .nums-long }
@@ -275,6 +278,7 @@ module _ (job files area₀ nums₀ log₁ : List ℕ) (count k left : ℕ) (s :
                   held = rw eb′ (begun-held files area area′ nums u e (g .held) lends grows kept few);
                   worded = rw eb′ (y .lent .inside);
                   named = omega (arith, some-words (drop at T) (found .first) (commands (drop next T)) (found .are), word-count);
+                  few = omega (arith, words-few, word-count);
                   file = v .file;
                   depth = v .depth;
                 }

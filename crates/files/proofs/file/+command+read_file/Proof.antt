@@ -6,7 +6,7 @@ use lib.Seq.{length-take-le}
 use lib.ListN.{take}
 use borrow.Author.Needs.{needs}
 use Rattle.tcl.specs.Commands.{commands}
-use Rattle.reader.specs.Command.{command-over, command-plain, counted-held, counted-worded, counted-few}
+use Rattle.reader.specs.Command.{command-over, command-plain, counted-held, counted-worded, counted-few, counted-named, words-inside, words-small}
 use Rattle.reader.specs.Load.{load-before, load-refused, load-deep, load-opening, load-failed, load-done}
 use Rattle.reader.specs.Turn.{Going, going-start, next-asks, turn-none, turn-full, begun-asks, turn-less, turn-doing, turn-failed, turn-again}
 use mathlib.Core.Path.{_≡_}
