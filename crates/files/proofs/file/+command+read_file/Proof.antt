@@ -97,47 +97,47 @@ command-slice-aggregate-counted t c =
 command-returns : (t : ℕ) → command-lts.Need-returns (command-cs t) (command-at t) command.Post
 command-returns t c =
     let e = c .before .before .before .before .before .before .before .before .before .before .before .before .before in let a = e .args in
-    command-over (a .job .now) (a .files .now) (a .area .now) (a .nums .now) (a .words .now) (a .count) (a .n) (a .k) (a .left) (a .s) (e .pre .1) (c .before .before .before .before .number .result) (rw (c .before .before .before .before .before .pair .ensures) at (c .before .before .before .before .number .ensures)) (c .before .before .counted .result) (c .before .before .counted .ensures) (a .log .now) (c .if1 .taken)
+    command-over (a .job .now) (a .files .now) (a .area .now) (a .nums .now) (a .words .now) (a .count) (a .n) (a .k) (a .left) (a .s) (e .pre .1) (c .before .before .before .before .number .result) (rw (c .before .before .before .before .before .pair .ensures) at (c .before .before .before .before .number .ensures .is)) (c .before .before .counted .result) (c .before .before .counted .ensures) (a .log .now) (c .if1 .taken)
 
 command-plain-requires : (t : ℕ) → command-lts.Need-plain-requires (command-cs t) (command-at t) command.Post
 command-plain-requires t c κs =
     let e = c .before .before .before .before .before .before .before .before .before .before .before .before .before .before .before .before .before in let a = e .args in
-    (counted-held (a .job .now) (a .files .now) (a .area .now) (a .nums .now) (a .words .now) (a .count) (a .n) (a .k) (a .left) (a .s) (e .pre .1) (c .before .before .before .before .before .before .before .before .number .result) (rw (c .before .before .before .before .before .before .before .before .before .pair .ensures) at (c .before .before .before .before .before .before .before .before .number .ensures)) (c .before .before .before .before .before .before .counted .result) (c .before .before .before .before .before .before .counted .ensures) (c .before .before .before .before .if1 .left), (counted-worded (a .job .now) (a .files .now) (a .area .now) (a .nums .now) (a .words .now) (a .count) (a .n) (a .k) (a .left) (a .s) (e .pre .1) (c .before .before .before .before .before .before .before .before .number .result) (rw (c .before .before .before .before .before .before .before .before .before .pair .ensures) at (c .before .before .before .before .before .before .before .before .number .ensures)) (c .before .before .before .before .before .before .counted .result) (c .before .before .before .before .before .before .counted .ensures) (c .before .before .before .before .if1 .left), (e .pre .1 .named, (counted-few (a .job .now) (a .files .now) (a .area .now) (a .nums .now) (a .words .now) (a .count) (a .n) (a .k) (a .left) (a .s) (e .pre .1) (c .before .before .before .before .before .before .before .before .number .result) (rw (c .before .before .before .before .before .before .before .before .before .pair .ensures) at (c .before .before .before .before .before .before .before .before .number .ensures)) (c .before .before .before .before .before .before .counted .result) (c .before .before .before .before .before .before .counted .ensures) (c .before .before .before .before .if1 .left), c .before .before .before .if2 .taken))))
+    record { held = counted-held (a .job .now) (a .files .now) (a .area .now) (a .nums .now) (a .words .now) (a .count) (a .n) (a .k) (a .left) (a .s) (e .pre .1) (c .before .before .before .before .before .before .before .before .number .result) (rw (c .before .before .before .before .before .before .before .before .before .pair .ensures) at (c .before .before .before .before .before .before .before .before .number .ensures .is)) (c .before .before .before .before .before .before .counted .result) (c .before .before .before .before .before .before .counted .ensures) (c .before .before .before .before .if1 .left); worded = counted-worded (a .job .now) (a .files .now) (a .area .now) (a .nums .now) (a .words .now) (a .count) (a .n) (a .k) (a .left) (a .s) (e .pre .1) (c .before .before .before .before .before .before .before .before .number .result) (rw (c .before .before .before .before .before .before .before .before .before .pair .ensures) at (c .before .before .before .before .before .before .before .before .number .ensures .is)) (c .before .before .before .before .before .before .counted .result) (c .before .before .before .before .before .before .counted .ensures) (c .before .before .before .before .if1 .left); named = e .pre .1 .named; few = e .pre .1 .few; counted = counted-few (a .job .now) (a .files .now) (a .area .now) (a .nums .now) (a .words .now) (a .count) (a .n) (a .k) (a .left) (a .s) (e .pre .1) (c .before .before .before .before .before .before .before .before .number .result) (rw (c .before .before .before .before .before .before .before .before .before .pair .ensures) at (c .before .before .before .before .before .before .before .before .number .ensures .is)) (c .before .before .before .before .before .before .counted .result) (c .before .before .before .before .before .before .counted .ensures) (c .before .before .before .before .if1 .left); known = c .before .before .before .before .before .before .before .before .number .ensures .known; no-load = c .before .before .before .if2 .taken; is = counted-named (a .job .now) (a .files .now) (a .area .now) (a .nums .now) (a .words .now) (a .count) (a .n) (a .k) (a .left) (a .s) (e .pre .1) (c .before .before .before .before .before .before .before .before .number .result) (rw (c .before .before .before .before .before .before .before .before .before .pair .ensures) at (c .before .before .before .before .before .before .before .before .number .ensures .is)) (c .before .before .before .before .before .before .counted .result) (c .before .before .before .before .before .before .counted .ensures) (c .before .before .before .before .if1 .left) }
 
 command-returns-2 : (t : ℕ) → command-lts.Need-returns-2 (command-cs t) (command-at t) command.Post
 command-returns-2 t c =
     let e = c .before .before .before .before .before .before .before .before .before .before .before .before .before .before .before .before .before .before .before .before .before .before .before .before in let a = e .args in
-    command-plain (a .job .now) (a .files .now) (a .area .now) (a .nums .now) (a .words .now) (a .count) (a .n) (a .k) (a .left) (a .s) (e .pre .1) (c .before .before .before .before .before .before .before .before .before .before .before .before .before .before .before .number .result) (rw (c .before .before .before .before .before .before .before .before .before .before .before .before .before .before .before .before .pair .ensures) at (c .before .before .before .before .before .before .before .before .before .before .before .before .before .before .before .number .ensures)) (c .before .before .before .before .before .before .before .before .before .before .before .before .before .counted .result) (c .before .before .before .before .before .before .before .before .before .before .before .before .before .counted .ensures) (c .before .before .before .before .before .before .before .before .before .before .before .if1 .left) (c .before .before .before .before .before .before .before .before .before .before .if2 .taken) _ _ _ _ _ (c .before .before .before .before .before .before .plain .ensures)
+    command-plain (a .job .now) (a .files .now) (a .area .now) (a .nums .now) (a .words .now) (a .count) (a .n) (a .k) (a .left) (a .s) (e .pre .1) (c .before .before .before .before .before .before .before .before .before .before .before .before .before .before .before .number .result) (rw (c .before .before .before .before .before .before .before .before .before .before .before .before .before .before .before .before .pair .ensures) at (c .before .before .before .before .before .before .before .before .before .before .before .before .before .before .before .number .ensures .is)) (c .before .before .before .before .before .before .before .before .before .before .before .before .before .counted .result) (c .before .before .before .before .before .before .before .before .before .before .before .before .before .counted .ensures) (c .before .before .before .before .before .before .before .before .before .before .before .if1 .left) (c .before .before .before .before .before .before .before .before .before .before .if2 .taken) _ _ _ _ _ (c .before .before .before .before .before .before .plain .ensures)
 
 command-before-load-requires : (t : ℕ) → command-lts.Need-before-load-requires (command-cs t) (command-at t) command.Post
 command-before-load-requires t c κs =
     let e = c .before .before .before .before .before .before .before .before .before .before .before .before .before .before .before .before in let a = e .args in
-    load-before (a .job .now) (a .files .now) (a .area .now) (a .nums .now) (a .words .now) (a .count) (a .n) (a .k) (a .left) (a .s) (e .pre .1) (c .before .before .before .before .before .before .before .number .result) (rw (c .before .before .before .before .before .before .before .before .pair .ensures) at (c .before .before .before .before .before .before .before .number .ensures)) (c .before .before .before .before .before .counted .result) (c .before .before .before .before .before .counted .ensures) (c .before .before .before .if1 .left) (c .before .before .if2 .left)
+    load-before (a .job .now) (a .files .now) (a .area .now) (a .nums .now) (a .words .now) (a .count) (a .n) (a .k) (a .left) (a .s) (e .pre .1) (c .before .before .before .before .before .before .before .number .result) (rw (c .before .before .before .before .before .before .before .before .pair .ensures) at (c .before .before .before .before .before .before .before .number .ensures .is)) (c .before .before .before .before .before .counted .result) (c .before .before .before .before .before .counted .ensures) (c .before .before .before .if1 .left) (c .before .before .if2 .left)
 
 command-returns-3 : (t : ℕ) → command-lts.Need-returns-3 (command-cs t) (command-at t) command.Post
 command-returns-3 t c =
     let e = c .before .before .before .before .before .before .before .before .before .before .before .before .before .before .before .before .before .before .before .before .before .before in let a = e .args in
-    load-refused (a .job .now) (a .files .now) (a .area .now) (a .nums .now) (a .words .now) (a .count) (a .n) (a .k) (a .left) (a .s) (e .pre .1) (c .before .before .before .before .before .before .before .before .before .before .before .before .before .number .result) (rw (c .before .before .before .before .before .before .before .before .before .before .before .before .before .before .pair .ensures) at (c .before .before .before .before .before .before .before .before .before .before .before .before .before .number .ensures)) (c .before .before .before .before .before .before .before .before .before .before .before .counted .result) (c .before .before .before .before .before .before .before .before .before .before .before .counted .ensures) (c .before .before .before .before .before .before .before .before .before .if1 .left) (c .before .before .before .before .before .before .before .before .if2 .left) _ _ (c .before .before .before .before .before .before-load .ensures) (a .log .now) (c .if3 .taken)
+    load-refused (a .job .now) (a .files .now) (a .area .now) (a .nums .now) (a .words .now) (a .count) (a .n) (a .k) (a .left) (a .s) (e .pre .1) (c .before .before .before .before .before .before .before .before .before .before .before .before .before .number .result) (rw (c .before .before .before .before .before .before .before .before .before .before .before .before .before .before .pair .ensures) at (c .before .before .before .before .before .before .before .before .before .before .before .before .before .number .ensures .is)) (c .before .before .before .before .before .before .before .before .before .before .before .counted .result) (c .before .before .before .before .before .before .before .before .before .before .before .counted .ensures) (c .before .before .before .before .before .before .before .before .before .if1 .left) (c .before .before .before .before .before .before .before .before .if2 .left) _ _ (c .before .before .before .before .before .before-load .ensures) (a .log .now) (c .if3 .taken)
 
 command-sub-read-file : (t : ℕ) → command-lts.Need-sub-read-file (command-cs t) (command-at t) command.Post
 command-sub-read-file t c =
     let e = c .before .before .before .before .before .before .before .before .before .before .before .before .before .before .before .before .before .before .before .before .before .before .before .before .before in let a = e .args in
-    load-deep (a .job .now) (a .files .now) (a .area .now) (a .nums .now) (a .words .now) (a .count) (a .n) (a .k) (a .left) (a .s) (e .pre .1) (c .before .before .before .before .before .before .before .before .before .before .before .before .before .before .before .before .number .result) (rw (c .before .before .before .before .before .before .before .before .before .before .before .before .before .before .before .before .before .pair .ensures) at (c .before .before .before .before .before .before .before .before .before .before .before .before .before .before .before .before .number .ensures)) (c .before .before .before .before .before .before .before .before .before .before .before .before .before .before .counted .result) (c .before .before .before .before .before .before .before .before .before .before .before .before .before .before .counted .ensures) (c .before .before .before .before .before .before .before .before .before .before .before .before .if1 .left) (c .before .before .before .before .before .before .before .before .before .before .before .if2 .left) _ _ (c .before .before .before .before .before .before .before .before .before-load .ensures) (c .before .before .before .if3 .left)
+    load-deep (a .job .now) (a .files .now) (a .area .now) (a .nums .now) (a .words .now) (a .count) (a .n) (a .k) (a .left) (a .s) (e .pre .1) (c .before .before .before .before .before .before .before .before .before .before .before .before .before .before .before .before .number .result) (rw (c .before .before .before .before .before .before .before .before .before .before .before .before .before .before .before .before .before .pair .ensures) at (c .before .before .before .before .before .before .before .before .before .before .before .before .before .before .before .before .number .ensures .is)) (c .before .before .before .before .before .before .before .before .before .before .before .before .before .before .counted .result) (c .before .before .before .before .before .before .before .before .before .before .before .before .before .before .counted .ensures) (c .before .before .before .before .before .before .before .before .before .before .before .before .if1 .left) (c .before .before .before .before .before .before .before .before .before .before .before .if2 .left) _ _ (c .before .before .before .before .before .before .before .before .before-load .ensures) (c .before .before .before .if3 .left)
 
 command-read-file-requires : (t : ℕ) → command-lts.Need-read-file-requires (command-cs t) (command-at t) command.Post
 command-read-file-requires t c κs =
     let e = c .before .before .before .before .before .before .before .before .before .before .before .before .before .before .before .before .before .before .before .before .before .before .before .before .before in let a = e .args in
-    (omega (arith, e .pre .0, load-deep (a .job .now) (a .files .now) (a .area .now) (a .nums .now) (a .words .now) (a .count) (a .n) (a .k) (a .left) (a .s) (e .pre .1) (c .before .before .before .before .before .before .before .before .before .before .before .before .before .before .before .before .number .result) (rw (c .before .before .before .before .before .before .before .before .before .before .before .before .before .before .before .before .before .pair .ensures) at (c .before .before .before .before .before .before .before .before .before .before .before .before .before .before .before .before .number .ensures)) (c .before .before .before .before .before .before .before .before .before .before .before .before .before .before .counted .result) (c .before .before .before .before .before .before .before .before .before .before .before .before .before .before .counted .ensures) (c .before .before .before .before .before .before .before .before .before .before .before .before .if1 .left) (c .before .before .before .before .before .before .before .before .before .before .before .if2 .left) _ _ (c .before .before .before .before .before .before .before .before .before-load .ensures) (c .before .before .before .if3 .left)), load-opening (a .job .now) (a .files .now) (a .area .now) (a .nums .now) (a .words .now) (a .count) (a .n) (a .k) (a .left) (a .s) (e .pre .1) (c .before .before .before .before .before .before .before .before .before .before .before .before .before .before .before .before .number .result) (rw (c .before .before .before .before .before .before .before .before .before .before .before .before .before .before .before .before .before .pair .ensures) at (c .before .before .before .before .before .before .before .before .before .before .before .before .before .before .before .before .number .ensures)) (c .before .before .before .before .before .before .before .before .before .before .before .before .before .before .counted .result) (c .before .before .before .before .before .before .before .before .before .before .before .before .before .before .counted .ensures) (c .before .before .before .before .before .before .before .before .before .before .before .before .if1 .left) (c .before .before .before .before .before .before .before .before .before .before .before .if2 .left) _ _ (c .before .before .before .before .before .before .before .before .before-load .ensures) (c .before .before .before .if3 .left))
+    (omega (arith, e .pre .0, load-deep (a .job .now) (a .files .now) (a .area .now) (a .nums .now) (a .words .now) (a .count) (a .n) (a .k) (a .left) (a .s) (e .pre .1) (c .before .before .before .before .before .before .before .before .before .before .before .before .before .before .before .before .number .result) (rw (c .before .before .before .before .before .before .before .before .before .before .before .before .before .before .before .before .before .pair .ensures) at (c .before .before .before .before .before .before .before .before .before .before .before .before .before .before .before .before .number .ensures .is)) (c .before .before .before .before .before .before .before .before .before .before .before .before .before .before .counted .result) (c .before .before .before .before .before .before .before .before .before .before .before .before .before .before .counted .ensures) (c .before .before .before .before .before .before .before .before .before .before .before .before .if1 .left) (c .before .before .before .before .before .before .before .before .before .before .before .if2 .left) _ _ (c .before .before .before .before .before .before .before .before .before-load .ensures) (c .before .before .before .if3 .left)), load-opening (a .job .now) (a .files .now) (a .area .now) (a .nums .now) (a .words .now) (a .count) (a .n) (a .k) (a .left) (a .s) (e .pre .1) (c .before .before .before .before .before .before .before .before .before .before .before .before .before .before .before .before .number .result) (rw (c .before .before .before .before .before .before .before .before .before .before .before .before .before .before .before .before .before .pair .ensures) at (c .before .before .before .before .before .before .before .before .before .before .before .before .before .before .before .before .number .ensures .is)) (c .before .before .before .before .before .before .before .before .before .before .before .before .before .before .counted .result) (c .before .before .before .before .before .before .before .before .before .before .before .before .before .before .counted .ensures) (c .before .before .before .before .before .before .before .before .before .before .before .before .if1 .left) (c .before .before .before .before .before .before .before .before .before .before .before .if2 .left) _ _ (c .before .before .before .before .before .before .before .before .before-load .ensures) (c .before .before .before .if3 .left))
 
 command-returns-4 : (t : ℕ) → command-lts.Need-returns-4 (command-cs t) (command-at t) command.Post
 command-returns-4 t c =
     let e = c .before .before .before .before .before .before .before .before .before .before .before .before .before .before .before .before .before .before .before .before .before .before .before .before .before .before .before .before .before .before .before .before .before .before in let a = e .args in
-    load-failed (a .job .now) (a .files .now) (a .area .now) (a .nums .now) (a .words .now) (a .count) (a .n) (a .k) (a .left) (a .s) (e .pre .1) (c .before .before .before .before .before .before .before .before .before .before .before .before .before .before .before .before .before .before .before .before .before .before .before .before .before .number .result) (rw (c .before .before .before .before .before .before .before .before .before .before .before .before .before .before .before .before .before .before .before .before .before .before .before .before .before .before .pair .ensures) at (c .before .before .before .before .before .before .before .before .before .before .before .before .before .before .before .before .before .before .before .before .before .before .before .before .before .number .ensures)) (c .before .before .before .before .before .before .before .before .before .before .before .before .before .before .before .before .before .before .before .before .before .before .before .counted .result) (c .before .before .before .before .before .before .before .before .before .before .before .before .before .before .before .before .before .before .before .before .before .before .before .counted .ensures) (c .before .before .before .before .before .before .before .before .before .before .before .before .before .before .before .before .before .before .before .before .before .if1 .left) (c .before .before .before .before .before .before .before .before .before .before .before .before .before .before .before .before .before .before .before .before .if2 .left) _ _ (c .before .before .before .before .before .before .before .before .before .before .before .before .before .before .before .before .before .before-load .ensures) (c .before .before .before .before .before .before .before .before .before .before .before .before .if3 .left) _ _ _ _ _ (c .before .before .before .before .before .before .before .before .read-file .ensures) (c .if4 .taken)
+    load-failed (a .job .now) (a .files .now) (a .area .now) (a .nums .now) (a .words .now) (a .count) (a .n) (a .k) (a .left) (a .s) (e .pre .1) (c .before .before .before .before .before .before .before .before .before .before .before .before .before .before .before .before .before .before .before .before .before .before .before .before .before .number .result) (rw (c .before .before .before .before .before .before .before .before .before .before .before .before .before .before .before .before .before .before .before .before .before .before .before .before .before .before .pair .ensures) at (c .before .before .before .before .before .before .before .before .before .before .before .before .before .before .before .before .before .before .before .before .before .before .before .before .before .number .ensures .is)) (c .before .before .before .before .before .before .before .before .before .before .before .before .before .before .before .before .before .before .before .before .before .before .before .counted .result) (c .before .before .before .before .before .before .before .before .before .before .before .before .before .before .before .before .before .before .before .before .before .before .before .counted .ensures) (c .before .before .before .before .before .before .before .before .before .before .before .before .before .before .before .before .before .before .before .before .before .if1 .left) (c .before .before .before .before .before .before .before .before .before .before .before .before .before .before .before .before .before .before .before .before .if2 .left) _ _ (c .before .before .before .before .before .before .before .before .before .before .before .before .before .before .before .before .before .before-load .ensures) (c .before .before .before .before .before .before .before .before .before .before .before .before .if3 .left) _ _ _ _ _ (c .before .before .before .before .before .before .before .before .read-file .ensures) (c .if4 .taken)
 
 command-returns-5 : (t : ℕ) → command-lts.Need-returns-5 (command-cs t) (command-at t) command.Post
 command-returns-5 t c =
     let e = c .before .before .before .before .before .before .before .before .before .before .before .before .before .before .before .before .before .before .before .before .before .before .before .before .before .before .before .before .before .before .before .before .before .before .before in let a = e .args in
-    load-done (a .job .now) (a .files .now) (a .area .now) (a .nums .now) (a .words .now) (a .count) (a .n) (a .k) (a .left) (a .s) (e .pre .1) (c .before .before .before .before .before .before .before .before .before .before .before .before .before .before .before .before .before .before .before .before .before .before .before .before .before .before .number .result) (rw (c .before .before .before .before .before .before .before .before .before .before .before .before .before .before .before .before .before .before .before .before .before .before .before .before .before .before .before .pair .ensures) at (c .before .before .before .before .before .before .before .before .before .before .before .before .before .before .before .before .before .before .before .before .before .before .before .before .before .before .number .ensures)) (c .before .before .before .before .before .before .before .before .before .before .before .before .before .before .before .before .before .before .before .before .before .before .before .before .counted .result) (c .before .before .before .before .before .before .before .before .before .before .before .before .before .before .before .before .before .before .before .before .before .before .before .before .counted .ensures) (c .before .before .before .before .before .before .before .before .before .before .before .before .before .before .before .before .before .before .before .before .before .before .if1 .left) (c .before .before .before .before .before .before .before .before .before .before .before .before .before .before .before .before .before .before .before .before .before .if2 .left) _ _ (c .before .before .before .before .before .before .before .before .before .before .before .before .before .before .before .before .before .before .before-load .ensures) (c .before .before .before .before .before .before .before .before .before .before .before .before .before .if3 .left) _ _ _ _ _ (c .before .before .before .before .before .before .before .before .before .read-file .ensures) (c .before .if4 .left) _ (c .restored .ensures)
+    load-done (a .job .now) (a .files .now) (a .area .now) (a .nums .now) (a .words .now) (a .count) (a .n) (a .k) (a .left) (a .s) (e .pre .1) (c .before .before .before .before .before .before .before .before .before .before .before .before .before .before .before .before .before .before .before .before .before .before .before .before .before .before .number .result) (rw (c .before .before .before .before .before .before .before .before .before .before .before .before .before .before .before .before .before .before .before .before .before .before .before .before .before .before .before .pair .ensures) at (c .before .before .before .before .before .before .before .before .before .before .before .before .before .before .before .before .before .before .before .before .before .before .before .before .before .before .number .ensures .is)) (c .before .before .before .before .before .before .before .before .before .before .before .before .before .before .before .before .before .before .before .before .before .before .before .before .counted .result) (c .before .before .before .before .before .before .before .before .before .before .before .before .before .before .before .before .before .before .before .before .before .before .before .before .counted .ensures) (c .before .before .before .before .before .before .before .before .before .before .before .before .before .before .before .before .before .before .before .before .before .before .if1 .left) (c .before .before .before .before .before .before .before .before .before .before .before .before .before .before .before .before .before .before .before .before .before .if2 .left) _ _ (c .before .before .before .before .before .before .before .before .before .before .before .before .before .before .before .before .before .before .before-load .ensures) (c .before .before .before .before .before .before .before .before .before .before .before .before .before .if3 .left) _ _ _ _ _ (c .before .before .before .before .before .before .before .before .before .read-file .ensures) (c .before .if4 .left) _ (c .restored .ensures)
 
 read-file-loop-holds : (t : ℕ) → read-file-lts.Need-loop-holds (read-file-cs t) (read-file-at t) read-file.Post read-file-Inv-loop read-file-μ-loop
 read-file-loop-holds t c =
@@ -245,6 +245,11 @@ read-file-slice-aggregate-next-command t c =
     let e = c .before .before .before .before .before .before .before .before .before .before .before .before .before .before in let a = e .args in
     sym (e .pre .1 .held .shaped .long)
 
+command-counted-requires : (t : ℕ) → command-lts.Need-counted-requires (command-cs t) (command-at t) command.Post
+command-counted-requires t c κs =
+    let e = c .before .before .before .before .before .before .before .before .before .before in let a = e .args in
+    record { whole = record { line = words-inside (a .job .now) (a .files .now) (a .area .now) (a .nums .now) (a .words .now) (a .count) (a .n) (a .k) (a .left) (a .s) (e .pre .1); small = words-small (a .job .now) (a .files .now) (a .area .now) (a .nums .now) (a .words .now) (a .count) (a .n) (a .k) (a .left) (a .s) (e .pre .1) }; named = e .pre .1 .named; before = e .pre .1 .held .entries }
+
 pub +command+read-file-spec : {M : Type 1} → statement M
 +command+read-file-spec = close μ-command μ-read-file (λ t. command-lts.spec (command-cs t)
     (command-at t)
@@ -255,7 +260,7 @@ pub +command+read-file-spec : {M : Type 1} → statement M
     (λ c κs. search needs)  -- command-number-requires
     (command-slice-reshare-prefix-counted t)
     (command-slice-aggregate-counted t)
-    (λ c κs. search needs)  -- command-counted-requires
+    (command-counted-requires t)
     (λ c. search needs)  -- command-same-length
     (command-returns t)
     (command-plain-requires t)
