@@ -65,7 +65,7 @@ fn command(
 }
 
 // File k, command by command, its words substituted with the variables known when it is opened.
-fn read_file(
+pub fn read_file(
     job: &[u8],
     files: &[u8],
     area: &mut [u8],
