@@ -4,3 +4,4 @@ pub mod File
 pub mod Turn
 pub mod Whole
 pub mod Opens
+pub mod Accepted
