@@ -96,48 +96,48 @@ command-slice-aggregate-counted t c =
 
 command-returns : (t : ℕ) → command-lts.Need-returns (command-cs t) (command-at t) command.Post
 command-returns t c =
-    let e = c .before .before .before .before .before .before .before .before .before .before .before .before .before in let a = e .args in
-    command-over (a .job .now) (a .files .now) (a .area .now) (a .nums .now) (a .words .now) (a .count) (a .n) (a .k) (a .left) (a .s) (e .pre .1) (c .before .before .before .before .number .result) (rw (c .before .before .before .before .before .pair .ensures) at (c .before .before .before .before .number .ensures .is)) (c .before .before .counted .result) (c .before .before .counted .ensures) (a .log .now) (c .if1 .taken)
+    let e = c .before .before .before .before .before .before .before .before .before .before .before .before .before in let a = e .args in let p = c .before .before .before .before .before .pair in let m = c .before .before .before .before .number in let x = c .before .before .counted in
+    command-over (a .job .now) (a .files .now) (a .area .now) (a .nums .now) (a .words .now) (a .count) (a .n) (a .k) (a .left) (a .s) (e .pre .1) (m .result) (rw (p .ensures) at (m .ensures .is)) (x .result) (x .ensures) (a .log .now) (c .if1 .taken)
 
 command-plain-requires : (t : ℕ) → command-lts.Need-plain-requires (command-cs t) (command-at t) command.Post
 command-plain-requires t c κs =
-    let e = c .before .before .before .before .before .before .before .before .before .before .before .before .before .before .before .before .before in let a = e .args in
-    record { held = counted-held (a .job .now) (a .files .now) (a .area .now) (a .nums .now) (a .words .now) (a .count) (a .n) (a .k) (a .left) (a .s) (e .pre .1) (c .before .before .before .before .before .before .before .before .number .result) (rw (c .before .before .before .before .before .before .before .before .before .pair .ensures) at (c .before .before .before .before .before .before .before .before .number .ensures .is)) (c .before .before .before .before .before .before .counted .result) (c .before .before .before .before .before .before .counted .ensures) (c .before .before .before .before .if1 .left); worded = counted-worded (a .job .now) (a .files .now) (a .area .now) (a .nums .now) (a .words .now) (a .count) (a .n) (a .k) (a .left) (a .s) (e .pre .1) (c .before .before .before .before .before .before .before .before .number .result) (rw (c .before .before .before .before .before .before .before .before .before .pair .ensures) at (c .before .before .before .before .before .before .before .before .number .ensures .is)) (c .before .before .before .before .before .before .counted .result) (c .before .before .before .before .before .before .counted .ensures) (c .before .before .before .before .if1 .left); named = e .pre .1 .named; few = e .pre .1 .few; counted = counted-few (a .job .now) (a .files .now) (a .area .now) (a .nums .now) (a .words .now) (a .count) (a .n) (a .k) (a .left) (a .s) (e .pre .1) (c .before .before .before .before .before .before .before .before .number .result) (rw (c .before .before .before .before .before .before .before .before .before .pair .ensures) at (c .before .before .before .before .before .before .before .before .number .ensures .is)) (c .before .before .before .before .before .before .counted .result) (c .before .before .before .before .before .before .counted .ensures) (c .before .before .before .before .if1 .left); known = c .before .before .before .before .before .before .before .before .number .ensures .known; no-load = c .before .before .before .if2 .taken; is = counted-named (a .job .now) (a .files .now) (a .area .now) (a .nums .now) (a .words .now) (a .count) (a .n) (a .k) (a .left) (a .s) (e .pre .1) (c .before .before .before .before .before .before .before .before .number .result) (rw (c .before .before .before .before .before .before .before .before .before .pair .ensures) at (c .before .before .before .before .before .before .before .before .number .ensures .is)) (c .before .before .before .before .before .before .counted .result) (c .before .before .before .before .before .before .counted .ensures) (c .before .before .before .before .if1 .left) }
+    let e = c .before .before .before .before .before .before .before .before .before .before .before .before .before .before .before .before .before in let a = e .args in let p = c .before .before .before .before .before .before .before .before .before .pair in let m = c .before .before .before .before .before .before .before .before .number in let x = c .before .before .before .before .before .before .counted in
+    record { held = counted-held (a .job .now) (a .files .now) (a .area .now) (a .nums .now) (a .words .now) (a .count) (a .n) (a .k) (a .left) (a .s) (e .pre .1) (m .result) (rw (p .ensures) at (m .ensures .is)) (x .result) (x .ensures) (c .before .before .before .before .if1 .left); worded = counted-worded (a .job .now) (a .files .now) (a .area .now) (a .nums .now) (a .words .now) (a .count) (a .n) (a .k) (a .left) (a .s) (e .pre .1) (m .result) (rw (p .ensures) at (m .ensures .is)) (x .result) (x .ensures) (c .before .before .before .before .if1 .left); named = e .pre .1 .named; few = e .pre .1 .few; counted = counted-few (a .job .now) (a .files .now) (a .area .now) (a .nums .now) (a .words .now) (a .count) (a .n) (a .k) (a .left) (a .s) (e .pre .1) (m .result) (rw (p .ensures) at (m .ensures .is)) (x .result) (x .ensures) (c .before .before .before .before .if1 .left); known = m .ensures .known; no-load = c .before .before .before .if2 .taken; is = counted-named (a .job .now) (a .files .now) (a .area .now) (a .nums .now) (a .words .now) (a .count) (a .n) (a .k) (a .left) (a .s) (e .pre .1) (m .result) (rw (p .ensures) at (m .ensures .is)) (x .result) (x .ensures) (c .before .before .before .before .if1 .left) }
 
 command-returns-2 : (t : ℕ) → command-lts.Need-returns-2 (command-cs t) (command-at t) command.Post
 command-returns-2 t c =
-    let e = c .before .before .before .before .before .before .before .before .before .before .before .before .before .before .before .before .before .before .before .before .before .before .before .before in let a = e .args in
-    command-plain (a .job .now) (a .files .now) (a .area .now) (a .nums .now) (a .words .now) (a .count) (a .n) (a .k) (a .left) (a .s) (e .pre .1) (c .before .before .before .before .before .before .before .before .before .before .before .before .before .before .before .number .result) (rw (c .before .before .before .before .before .before .before .before .before .before .before .before .before .before .before .before .pair .ensures) at (c .before .before .before .before .before .before .before .before .before .before .before .before .before .before .before .number .ensures .is)) (c .before .before .before .before .before .before .before .before .before .before .before .before .before .counted .result) (c .before .before .before .before .before .before .before .before .before .before .before .before .before .counted .ensures) (c .before .before .before .before .before .before .before .before .before .before .before .if1 .left) (c .before .before .before .before .before .before .before .before .before .before .if2 .taken) _ _ _ _ _ (c .before .before .before .before .before .before .plain .ensures)
+    let e = c .before .before .before .before .before .before .before .before .before .before .before .before .before .before .before .before .before .before .before .before .before .before .before .before in let a = e .args in let p = c .before .before .before .before .before .before .before .before .before .before .before .before .before .before .before .before .pair in let m = c .before .before .before .before .before .before .before .before .before .before .before .before .before .before .before .number in let x = c .before .before .before .before .before .before .before .before .before .before .before .before .before .counted in
+    command-plain (a .job .now) (a .files .now) (a .area .now) (a .nums .now) (a .words .now) (a .count) (a .n) (a .k) (a .left) (a .s) (e .pre .1) (m .result) (rw (p .ensures) at (m .ensures .is)) (x .result) (x .ensures) (c .before .before .before .before .before .before .before .before .before .before .before .if1 .left) (c .before .before .before .before .before .before .before .before .before .before .if2 .taken) _ _ _ _ _ (c .before .before .before .before .before .before .plain .ensures)
 
 command-before-load-requires : (t : ℕ) → command-lts.Need-before-load-requires (command-cs t) (command-at t) command.Post
 command-before-load-requires t c κs =
-    let e = c .before .before .before .before .before .before .before .before .before .before .before .before .before .before .before .before in let a = e .args in
-    load-before (a .job .now) (a .files .now) (a .area .now) (a .nums .now) (a .words .now) (a .count) (a .n) (a .k) (a .left) (a .s) (e .pre .1) (c .before .before .before .before .before .before .before .number .result) (rw (c .before .before .before .before .before .before .before .before .pair .ensures) at (c .before .before .before .before .before .before .before .number .ensures .is)) (c .before .before .before .before .before .counted .result) (c .before .before .before .before .before .counted .ensures) (c .before .before .before .if1 .left) (c .before .before .if2 .left)
+    let e = c .before .before .before .before .before .before .before .before .before .before .before .before .before .before .before .before in let a = e .args in let p = c .before .before .before .before .before .before .before .before .pair in let m = c .before .before .before .before .before .before .before .number in let x = c .before .before .before .before .before .counted in
+    load-before (a .job .now) (a .files .now) (a .area .now) (a .nums .now) (a .words .now) (a .count) (a .n) (a .k) (a .left) (a .s) (e .pre .1) (m .result) (rw (p .ensures) at (m .ensures .is)) (x .result) (x .ensures) (c .before .before .before .if1 .left) (c .before .before .if2 .left)
 
 command-returns-3 : (t : ℕ) → command-lts.Need-returns-3 (command-cs t) (command-at t) command.Post
 command-returns-3 t c =
-    let e = c .before .before .before .before .before .before .before .before .before .before .before .before .before .before .before .before .before .before .before .before .before .before in let a = e .args in
-    load-refused (a .job .now) (a .files .now) (a .area .now) (a .nums .now) (a .words .now) (a .count) (a .n) (a .k) (a .left) (a .s) (e .pre .1) (c .before .before .before .before .before .before .before .before .before .before .before .before .before .number .result) (rw (c .before .before .before .before .before .before .before .before .before .before .before .before .before .before .pair .ensures) at (c .before .before .before .before .before .before .before .before .before .before .before .before .before .number .ensures .is)) (c .before .before .before .before .before .before .before .before .before .before .before .counted .result) (c .before .before .before .before .before .before .before .before .before .before .before .counted .ensures) (c .before .before .before .before .before .before .before .before .before .if1 .left) (c .before .before .before .before .before .before .before .before .if2 .left) _ _ (c .before .before .before .before .before .before-load .ensures) (a .log .now) (c .if3 .taken)
+    let e = c .before .before .before .before .before .before .before .before .before .before .before .before .before .before .before .before .before .before .before .before .before .before in let a = e .args in let p = c .before .before .before .before .before .before .before .before .before .before .before .before .before .before .pair in let m = c .before .before .before .before .before .before .before .before .before .before .before .before .before .number in let x = c .before .before .before .before .before .before .before .before .before .before .before .counted in
+    load-refused (a .job .now) (a .files .now) (a .area .now) (a .nums .now) (a .words .now) (a .count) (a .n) (a .k) (a .left) (a .s) (e .pre .1) (m .result) (rw (p .ensures) at (m .ensures .is)) (x .result) (x .ensures) (c .before .before .before .before .before .before .before .before .before .if1 .left) (c .before .before .before .before .before .before .before .before .if2 .left) _ _ (c .before .before .before .before .before .before-load .ensures) (a .log .now) (c .if3 .taken)
 
 command-sub-read-file : (t : ℕ) → command-lts.Need-sub-read-file (command-cs t) (command-at t) command.Post
 command-sub-read-file t c =
-    let e = c .before .before .before .before .before .before .before .before .before .before .before .before .before .before .before .before .before .before .before .before .before .before .before .before .before in let a = e .args in
-    load-deep (a .job .now) (a .files .now) (a .area .now) (a .nums .now) (a .words .now) (a .count) (a .n) (a .k) (a .left) (a .s) (e .pre .1) (c .before .before .before .before .before .before .before .before .before .before .before .before .before .before .before .before .number .result) (rw (c .before .before .before .before .before .before .before .before .before .before .before .before .before .before .before .before .before .pair .ensures) at (c .before .before .before .before .before .before .before .before .before .before .before .before .before .before .before .before .number .ensures .is)) (c .before .before .before .before .before .before .before .before .before .before .before .before .before .before .counted .result) (c .before .before .before .before .before .before .before .before .before .before .before .before .before .before .counted .ensures) (c .before .before .before .before .before .before .before .before .before .before .before .before .if1 .left) (c .before .before .before .before .before .before .before .before .before .before .before .if2 .left) _ _ (c .before .before .before .before .before .before .before .before .before-load .ensures) (c .before .before .before .if3 .left)
+    let e = c .before .before .before .before .before .before .before .before .before .before .before .before .before .before .before .before .before .before .before .before .before .before .before .before .before in let a = e .args in let p = c .before .before .before .before .before .before .before .before .before .before .before .before .before .before .before .before .before .pair in let m = c .before .before .before .before .before .before .before .before .before .before .before .before .before .before .before .before .number in let x = c .before .before .before .before .before .before .before .before .before .before .before .before .before .before .counted in
+    load-deep (a .job .now) (a .files .now) (a .area .now) (a .nums .now) (a .words .now) (a .count) (a .n) (a .k) (a .left) (a .s) (e .pre .1) (m .result) (rw (p .ensures) at (m .ensures .is)) (x .result) (x .ensures) (c .before .before .before .before .before .before .before .before .before .before .before .before .if1 .left) (c .before .before .before .before .before .before .before .before .before .before .before .if2 .left) _ _ (c .before .before .before .before .before .before .before .before .before-load .ensures) (c .before .before .before .if3 .left)
 
 command-read-file-requires : (t : ℕ) → command-lts.Need-read-file-requires (command-cs t) (command-at t) command.Post
 command-read-file-requires t c κs =
-    let e = c .before .before .before .before .before .before .before .before .before .before .before .before .before .before .before .before .before .before .before .before .before .before .before .before .before in let a = e .args in
-    (omega (arith, e .pre .0, load-deep (a .job .now) (a .files .now) (a .area .now) (a .nums .now) (a .words .now) (a .count) (a .n) (a .k) (a .left) (a .s) (e .pre .1) (c .before .before .before .before .before .before .before .before .before .before .before .before .before .before .before .before .number .result) (rw (c .before .before .before .before .before .before .before .before .before .before .before .before .before .before .before .before .before .pair .ensures) at (c .before .before .before .before .before .before .before .before .before .before .before .before .before .before .before .before .number .ensures .is)) (c .before .before .before .before .before .before .before .before .before .before .before .before .before .before .counted .result) (c .before .before .before .before .before .before .before .before .before .before .before .before .before .before .counted .ensures) (c .before .before .before .before .before .before .before .before .before .before .before .before .if1 .left) (c .before .before .before .before .before .before .before .before .before .before .before .if2 .left) _ _ (c .before .before .before .before .before .before .before .before .before-load .ensures) (c .before .before .before .if3 .left)), load-opening (a .job .now) (a .files .now) (a .area .now) (a .nums .now) (a .words .now) (a .count) (a .n) (a .k) (a .left) (a .s) (e .pre .1) (c .before .before .before .before .before .before .before .before .before .before .before .before .before .before .before .before .number .result) (rw (c .before .before .before .before .before .before .before .before .before .before .before .before .before .before .before .before .before .pair .ensures) at (c .before .before .before .before .before .before .before .before .before .before .before .before .before .before .before .before .number .ensures .is)) (c .before .before .before .before .before .before .before .before .before .before .before .before .before .before .counted .result) (c .before .before .before .before .before .before .before .before .before .before .before .before .before .before .counted .ensures) (c .before .before .before .before .before .before .before .before .before .before .before .before .if1 .left) (c .before .before .before .before .before .before .before .before .before .before .before .if2 .left) _ _ (c .before .before .before .before .before .before .before .before .before-load .ensures) (c .before .before .before .if3 .left))
+    let e = c .before .before .before .before .before .before .before .before .before .before .before .before .before .before .before .before .before .before .before .before .before .before .before .before .before in let a = e .args in let p = c .before .before .before .before .before .before .before .before .before .before .before .before .before .before .before .before .before .pair in let m = c .before .before .before .before .before .before .before .before .before .before .before .before .before .before .before .before .number in let x = c .before .before .before .before .before .before .before .before .before .before .before .before .before .before .counted in
+    (omega (arith, e .pre .0, load-deep (a .job .now) (a .files .now) (a .area .now) (a .nums .now) (a .words .now) (a .count) (a .n) (a .k) (a .left) (a .s) (e .pre .1) (m .result) (rw (p .ensures) at (m .ensures .is)) (x .result) (x .ensures) (c .before .before .before .before .before .before .before .before .before .before .before .before .if1 .left) (c .before .before .before .before .before .before .before .before .before .before .before .if2 .left) _ _ (c .before .before .before .before .before .before .before .before .before-load .ensures) (c .before .before .before .if3 .left)), load-opening (a .job .now) (a .files .now) (a .area .now) (a .nums .now) (a .words .now) (a .count) (a .n) (a .k) (a .left) (a .s) (e .pre .1) (m .result) (rw (p .ensures) at (m .ensures .is)) (x .result) (x .ensures) (c .before .before .before .before .before .before .before .before .before .before .before .before .if1 .left) (c .before .before .before .before .before .before .before .before .before .before .before .if2 .left) _ _ (c .before .before .before .before .before .before .before .before .before-load .ensures) (c .before .before .before .if3 .left))
 
 command-returns-4 : (t : ℕ) → command-lts.Need-returns-4 (command-cs t) (command-at t) command.Post
 command-returns-4 t c =
-    let e = c .before .before .before .before .before .before .before .before .before .before .before .before .before .before .before .before .before .before .before .before .before .before .before .before .before .before .before .before .before .before .before .before .before .before in let a = e .args in
-    load-failed (a .job .now) (a .files .now) (a .area .now) (a .nums .now) (a .words .now) (a .count) (a .n) (a .k) (a .left) (a .s) (e .pre .1) (c .before .before .before .before .before .before .before .before .before .before .before .before .before .before .before .before .before .before .before .before .before .before .before .before .before .number .result) (rw (c .before .before .before .before .before .before .before .before .before .before .before .before .before .before .before .before .before .before .before .before .before .before .before .before .before .before .pair .ensures) at (c .before .before .before .before .before .before .before .before .before .before .before .before .before .before .before .before .before .before .before .before .before .before .before .before .before .number .ensures .is)) (c .before .before .before .before .before .before .before .before .before .before .before .before .before .before .before .before .before .before .before .before .before .before .before .counted .result) (c .before .before .before .before .before .before .before .before .before .before .before .before .before .before .before .before .before .before .before .before .before .before .before .counted .ensures) (c .before .before .before .before .before .before .before .before .before .before .before .before .before .before .before .before .before .before .before .before .before .if1 .left) (c .before .before .before .before .before .before .before .before .before .before .before .before .before .before .before .before .before .before .before .before .if2 .left) _ _ (c .before .before .before .before .before .before .before .before .before .before .before .before .before .before .before .before .before .before-load .ensures) (c .before .before .before .before .before .before .before .before .before .before .before .before .if3 .left) _ _ _ _ _ (c .before .before .before .before .before .before .before .before .read-file .ensures) (c .if4 .taken)
+    let e = c .before .before .before .before .before .before .before .before .before .before .before .before .before .before .before .before .before .before .before .before .before .before .before .before .before .before .before .before .before .before .before .before .before .before in let a = e .args in let p = c .before .before .before .before .before .before .before .before .before .before .before .before .before .before .before .before .before .before .before .before .before .before .before .before .before .before .pair in let m = c .before .before .before .before .before .before .before .before .before .before .before .before .before .before .before .before .before .before .before .before .before .before .before .before .before .number in let x = c .before .before .before .before .before .before .before .before .before .before .before .before .before .before .before .before .before .before .before .before .before .before .before .counted in
+    load-failed (a .job .now) (a .files .now) (a .area .now) (a .nums .now) (a .words .now) (a .count) (a .n) (a .k) (a .left) (a .s) (e .pre .1) (m .result) (rw (p .ensures) at (m .ensures .is)) (x .result) (x .ensures) (c .before .before .before .before .before .before .before .before .before .before .before .before .before .before .before .before .before .before .before .before .before .if1 .left) (c .before .before .before .before .before .before .before .before .before .before .before .before .before .before .before .before .before .before .before .before .if2 .left) _ _ (c .before .before .before .before .before .before .before .before .before .before .before .before .before .before .before .before .before .before-load .ensures) (c .before .before .before .before .before .before .before .before .before .before .before .before .if3 .left) _ _ _ _ _ (c .before .before .before .before .before .before .before .before .read-file .ensures) (c .if4 .taken)
 
 command-returns-5 : (t : ℕ) → command-lts.Need-returns-5 (command-cs t) (command-at t) command.Post
 command-returns-5 t c =
-    let e = c .before .before .before .before .before .before .before .before .before .before .before .before .before .before .before .before .before .before .before .before .before .before .before .before .before .before .before .before .before .before .before .before .before .before .before in let a = e .args in
-    load-done (a .job .now) (a .files .now) (a .area .now) (a .nums .now) (a .words .now) (a .count) (a .n) (a .k) (a .left) (a .s) (e .pre .1) (c .before .before .before .before .before .before .before .before .before .before .before .before .before .before .before .before .before .before .before .before .before .before .before .before .before .before .number .result) (rw (c .before .before .before .before .before .before .before .before .before .before .before .before .before .before .before .before .before .before .before .before .before .before .before .before .before .before .before .pair .ensures) at (c .before .before .before .before .before .before .before .before .before .before .before .before .before .before .before .before .before .before .before .before .before .before .before .before .before .before .number .ensures .is)) (c .before .before .before .before .before .before .before .before .before .before .before .before .before .before .before .before .before .before .before .before .before .before .before .before .counted .result) (c .before .before .before .before .before .before .before .before .before .before .before .before .before .before .before .before .before .before .before .before .before .before .before .before .counted .ensures) (c .before .before .before .before .before .before .before .before .before .before .before .before .before .before .before .before .before .before .before .before .before .before .if1 .left) (c .before .before .before .before .before .before .before .before .before .before .before .before .before .before .before .before .before .before .before .before .before .if2 .left) _ _ (c .before .before .before .before .before .before .before .before .before .before .before .before .before .before .before .before .before .before .before-load .ensures) (c .before .before .before .before .before .before .before .before .before .before .before .before .before .if3 .left) _ _ _ _ _ (c .before .before .before .before .before .before .before .before .before .read-file .ensures) (c .before .if4 .left) _ (c .restored .ensures)
+    let e = c .before .before .before .before .before .before .before .before .before .before .before .before .before .before .before .before .before .before .before .before .before .before .before .before .before .before .before .before .before .before .before .before .before .before .before in let a = e .args in let p = c .before .before .before .before .before .before .before .before .before .before .before .before .before .before .before .before .before .before .before .before .before .before .before .before .before .before .before .pair in let m = c .before .before .before .before .before .before .before .before .before .before .before .before .before .before .before .before .before .before .before .before .before .before .before .before .before .before .number in let x = c .before .before .before .before .before .before .before .before .before .before .before .before .before .before .before .before .before .before .before .before .before .before .before .before .counted in
+    load-done (a .job .now) (a .files .now) (a .area .now) (a .nums .now) (a .words .now) (a .count) (a .n) (a .k) (a .left) (a .s) (e .pre .1) (m .result) (rw (p .ensures) at (m .ensures .is)) (x .result) (x .ensures) (c .before .before .before .before .before .before .before .before .before .before .before .before .before .before .before .before .before .before .before .before .before .before .if1 .left) (c .before .before .before .before .before .before .before .before .before .before .before .before .before .before .before .before .before .before .before .before .before .if2 .left) _ _ (c .before .before .before .before .before .before .before .before .before .before .before .before .before .before .before .before .before .before .before-load .ensures) (c .before .before .before .before .before .before .before .before .before .before .before .before .before .if3 .left) _ _ _ _ _ (c .before .before .before .before .before .before .before .before .before .read-file .ensures) (c .before .if4 .left) _ (c .restored .ensures)
 
 read-file-loop-holds : (t : ℕ) → read-file-lts.Need-loop-holds (read-file-cs t) (read-file-at t) read-file.Post read-file-Inv-loop read-file-μ-loop
 read-file-loop-holds t c =
@@ -146,48 +146,48 @@ read-file-loop-holds t c =
 
 read-file-next-command-requires : (t : ℕ) → read-file-lts.Need-next-command-requires (read-file-cs t) (read-file-at t) read-file.Post read-file-Inv-loop read-file-μ-loop
 read-file-next-command-requires t c κs =
-    let e = c .before .before .before .before .before .before .before .before .before .before .before .before .before .before .before .before in let a = e .args in let l = c .before .before .before .before .loop in
-    next-asks (a .job .now) (a .files .now) (a .area .now) (a .nums .now) (a .log .now) (a .count) (a .k) (a .left) (a .s) (c .before .before .before .before .before .before .before .before .before .place .result) (c .before .before .before .before .before .before .before .place2 .result) (e .pre .1) (c .before .before .before .before .before .before .before .before .before .place .ensures) (c .before .before .before .before .before .before .before .place2 .ensures) (l .area) (l .nums) (l .log) (l .words) (l .at) (l .u) (l .inv)
+    let e = c .before .before .before .before .before .before .before .before .before .before .before .before .before .before .before .before in let a = e .args in let l = c .before .before .before .before .loop in let b = c .before .before .before .before .before .before .before .before .before .place in let z = c .before .before .before .before .before .before .before .place2 in
+    next-asks (a .job .now) (a .files .now) (a .area .now) (a .nums .now) (a .log .now) (a .count) (a .k) (a .left) (a .s) (b .result) (z .result) (e .pre .1) (b .ensures) (z .ensures) (l .area) (l .nums) (l .log) (l .words) (l .at) (l .u) (l .inv)
 
 read-file-returns : (t : ℕ) → read-file-lts.Need-returns (read-file-cs t) (read-file-at t) read-file.Post read-file-Inv-loop read-file-μ-loop
 read-file-returns t c =
-    let e = c .before .before .before .before .before .before .before .before .before .before .before .before .before .before .before .before .before .before .before .before .before .before in let a = e .args in let l = c .before .before .before .before .before .before .before .before .before .before .loop in
-    turn-none (a .job .now) (a .files .now) (a .area .now) (a .nums .now) (a .log .now) (a .count) (a .k) (a .left) (a .s) (c .before .before .before .before .before .before .before .before .before .before .before .before .before .before .before .place .result) (c .before .before .before .before .before .before .before .before .before .before .before .before .before .place2 .result) (e .pre .1) (c .before .before .before .before .before .before .before .before .before .before .before .before .before .before .before .place .ensures) (c .before .before .before .before .before .before .before .before .before .before .before .before .before .place2 .ensures) (l .area) (l .nums) (l .log) (l .words) (l .at) (l .u) (l .inv) _ _ (c .before .before .before .before .before .next-command .result) (c .before .before .before .before .before .next-command .ensures) (search (c .enum-told .given))
+    let e = c .before .before .before .before .before .before .before .before .before .before .before .before .before .before .before .before .before .before .before .before .before .before in let a = e .args in let l = c .before .before .before .before .before .before .before .before .before .before .loop in let b = c .before .before .before .before .before .before .before .before .before .before .before .before .before .before .before .place in let z = c .before .before .before .before .before .before .before .before .before .before .before .before .before .place2 in let d = c .before .before .before .before .before .next-command in
+    turn-none (a .job .now) (a .files .now) (a .area .now) (a .nums .now) (a .log .now) (a .count) (a .k) (a .left) (a .s) (b .result) (z .result) (e .pre .1) (b .ensures) (z .ensures) (l .area) (l .nums) (l .log) (l .words) (l .at) (l .u) (l .inv) _ _ (d .result) (d .ensures) (search (c .enum-told .given))
 
 read-file-begun-requires : (t : ℕ) → read-file-lts.Need-begun-requires (read-file-cs t) (read-file-at t) read-file.Post read-file-Inv-loop read-file-μ-loop
 read-file-begun-requires t c κs =
-    let e = c .before .before .before .before .before .before .before .before .before .before .before .before .before .before .before .before .before .before .before .before .before .before in let a = e .args in let l = c .before .before .before .before .before .before .before .before .before .before .loop in
+    let l = c .before .before .before .before .before .before .before .before .before .before .loop in
     (omega (arith, l .inv .held .commands), (omega arith, omega (arith, l .inv .held .substituted)))
 
 read-file-returns-2 : (t : ℕ) → read-file-lts.Need-returns-2 (read-file-cs t) (read-file-at t) read-file.Post read-file-Inv-loop read-file-μ-loop
 read-file-returns-2 t c =
-    let e = c .before .before .before .before .before .before .before .before .before .before .before .before .before .before .before .before .before .before .before .before .before .before .before in let a = e .args in let l = c .before .before .before .before .before .before .before .before .before .before .before .loop in
-    turn-full (a .job .now) (a .files .now) (a .area .now) (a .nums .now) (a .log .now) (a .count) (a .k) (a .left) (a .s) (c .before .before .before .before .before .before .before .before .before .before .before .before .before .before .before .before .place .result) (c .before .before .before .before .before .before .before .before .before .before .before .before .before .before .place2 .result) (e .pre .1) (c .before .before .before .before .before .before .before .before .before .before .before .before .before .before .before .before .place .ensures) (c .before .before .before .before .before .before .before .before .before .before .before .before .before .before .place2 .ensures) (l .area) (l .nums) (l .log) (l .words) (l .at) (l .u) (l .inv) _ _ (c .before .before .before .before .before .before .next-command .result) (c .before .before .before .before .before .before .next-command .ensures) (search (c .before .enum-told2 .given)) _ (c .begun .ensures)
+    let e = c .before .before .before .before .before .before .before .before .before .before .before .before .before .before .before .before .before .before .before .before .before .before .before in let a = e .args in let l = c .before .before .before .before .before .before .before .before .before .before .before .loop in let b = c .before .before .before .before .before .before .before .before .before .before .before .before .before .before .before .before .place in let z = c .before .before .before .before .before .before .before .before .before .before .before .before .before .before .place2 in let d = c .before .before .before .before .before .before .next-command in
+    turn-full (a .job .now) (a .files .now) (a .area .now) (a .nums .now) (a .log .now) (a .count) (a .k) (a .left) (a .s) (b .result) (z .result) (e .pre .1) (b .ensures) (z .ensures) (l .area) (l .nums) (l .log) (l .words) (l .at) (l .u) (l .inv) _ _ (d .result) (d .ensures) (search (c .before .enum-told2 .given)) _ (c .begun .ensures)
 
 read-file-begun-requires-2 : (t : ℕ) → read-file-lts.Need-begun-requires-2 (read-file-cs t) (read-file-at t) read-file.Post read-file-Inv-loop read-file-μ-loop
 read-file-begun-requires-2 t c κs =
-    let e = c .before .before .before .before .before .before .before .before .before .before .before .before .before .before .before .before .before .before .before .before .before .before .before in let a = e .args in let l = c .before .before .before .before .before .before .before .before .before .before .before .loop in
-    begun-asks (a .job .now) (a .files .now) (a .area .now) (a .nums .now) (a .log .now) (a .count) (a .k) (a .left) (a .s) (c .before .before .before .before .before .before .before .before .before .before .before .before .before .before .before .before .place .result) (c .before .before .before .before .before .before .before .before .before .before .before .before .before .before .place2 .result) (e .pre .1) (c .before .before .before .before .before .before .before .before .before .before .before .before .before .before .before .before .place .ensures) (c .before .before .before .before .before .before .before .before .before .before .before .before .before .before .place2 .ensures) (l .area) (l .nums) (l .log) (l .words) (l .at) (l .u) (l .inv) _ _ (c .before .before .before .before .before .before .next-command .result) (c .before .before .before .before .before .before .next-command .ensures) _ _ _ (c .before .n .given .1)
+    let e = c .before .before .before .before .before .before .before .before .before .before .before .before .before .before .before .before .before .before .before .before .before .before .before in let a = e .args in let l = c .before .before .before .before .before .before .before .before .before .before .before .loop in let b = c .before .before .before .before .before .before .before .before .before .before .before .before .before .before .before .before .place in let z = c .before .before .before .before .before .before .before .before .before .before .before .before .before .before .place2 in let d = c .before .before .before .before .before .before .next-command in
+    begun-asks (a .job .now) (a .files .now) (a .area .now) (a .nums .now) (a .log .now) (a .count) (a .k) (a .left) (a .s) (b .result) (z .result) (e .pre .1) (b .ensures) (z .ensures) (l .area) (l .nums) (l .log) (l .words) (l .at) (l .u) (l .inv) _ _ (d .result) (d .ensures) _ _ _ (c .before .n .given .1)
 
 read-file-command-requires : (t : ℕ) → read-file-lts.Need-command-requires (read-file-cs t) (read-file-at t) read-file.Post read-file-Inv-loop read-file-μ-loop
 read-file-command-requires t c κs =
-    let e = c .before .before .before .before .before .before .before .before .before .before .before .before .before .before .before .before .before .before .before .before .before .before .before .before .before .before .before .before in let a = e .args in let l = c .before .before .before .before .before .before .before .before .before .before .before .before .before .before .before .before .loop in
-    (omega (arith, e .pre .0), turn-doing (a .job .now) (a .files .now) (a .area .now) (a .nums .now) (a .log .now) (a .count) (a .k) (a .left) (a .s) (c .before .before .before .before .before .before .before .before .before .before .before .before .before .before .before .before .before .before .before .before .before .place .result) (c .before .before .before .before .before .before .before .before .before .before .before .before .before .before .before .before .before .before .before .place2 .result) (e .pre .1) (c .before .before .before .before .before .before .before .before .before .before .before .before .before .before .before .before .before .before .before .before .before .place .ensures) (c .before .before .before .before .before .before .before .before .before .before .before .before .before .before .before .before .before .before .before .place2 .ensures) (l .area) (l .nums) (l .log) (l .words) (l .at) (l .u) (l .inv) _ _ (c .before .before .before .before .before .before .before .before .before .before .before .next-command .result) (c .before .before .before .before .before .before .before .before .before .before .before .next-command .ensures) _ _ _ (c .before .before .before .before .before .before .n .given .1) (c .before .before .before .before .before .before .before .before .before .before .before .next-command .kept .1 .1 .1 .1 .1 .1 .0) _ (c .before .before .before .before .begun2 .ensures))
+    let e = c .before .before .before .before .before .before .before .before .before .before .before .before .before .before .before .before .before .before .before .before .before .before .before .before .before .before .before .before in let a = e .args in let l = c .before .before .before .before .before .before .before .before .before .before .before .before .before .before .before .before .loop in let b = c .before .before .before .before .before .before .before .before .before .before .before .before .before .before .before .before .before .before .before .before .before .place in let z = c .before .before .before .before .before .before .before .before .before .before .before .before .before .before .before .before .before .before .before .place2 in let d = c .before .before .before .before .before .before .before .before .before .before .before .next-command in
+    (omega (arith, e .pre .0), turn-doing (a .job .now) (a .files .now) (a .area .now) (a .nums .now) (a .log .now) (a .count) (a .k) (a .left) (a .s) (b .result) (z .result) (e .pre .1) (b .ensures) (z .ensures) (l .area) (l .nums) (l .log) (l .words) (l .at) (l .u) (l .inv) _ _ (d .result) (d .ensures) _ _ _ (c .before .before .before .before .before .before .n .given .1) (d .kept .1 .1 .1 .1 .1 .1 .0) _ (c .before .before .before .before .begun2 .ensures))
 
 read-file-returns-3 : (t : ℕ) → read-file-lts.Need-returns-3 (read-file-cs t) (read-file-at t) read-file.Post read-file-Inv-loop read-file-μ-loop
 read-file-returns-3 t c =
-    let e = c .before .before .before .before .before .before .before .before .before .before .before .before .before .before .before .before .before .before .before .before .before .before .before .before .before .before .before .before .before .before .before .before .before .before .before .before .before in let a = e .args in let l = c .before .before .before .before .before .before .before .before .before .before .before .before .before .before .before .before .before .before .before .before .before .before .before .before .before .loop in
-    turn-failed (a .job .now) (a .files .now) (a .area .now) (a .nums .now) (a .log .now) (a .count) (a .k) (a .left) (a .s) (c .before .before .before .before .before .before .before .before .before .before .before .before .before .before .before .before .before .before .before .before .before .before .before .before .before .before .before .before .before .before .place .result) (c .before .before .before .before .before .before .before .before .before .before .before .before .before .before .before .before .before .before .before .before .before .before .before .before .before .before .before .before .place2 .result) (e .pre .1) (c .before .before .before .before .before .before .before .before .before .before .before .before .before .before .before .before .before .before .before .before .before .before .before .before .before .before .before .before .before .before .place .ensures) (c .before .before .before .before .before .before .before .before .before .before .before .before .before .before .before .before .before .before .before .before .before .before .before .before .before .before .before .before .place2 .ensures) (l .area) (l .nums) (l .log) (l .words) (l .at) (l .u) (l .inv) _ _ (c .before .before .before .before .before .before .before .before .before .before .before .before .before .before .before .before .before .before .before .before .next-command .result) (c .before .before .before .before .before .before .before .before .before .before .before .before .before .before .before .before .before .before .before .before .next-command .ensures) _ _ _ (c .before .before .before .before .before .before .before .before .before .before .before .before .before .before .before .n .given .1) (c .before .before .before .before .before .before .before .before .before .before .before .before .before .before .before .before .before .before .before .before .next-command .kept .1 .1 .1 .1 .1 .1 .0) _ (c .before .before .before .before .before .before .before .before .before .before .before .before .before .begun2 .ensures) _ _ _ _ (c .before .before .before .before .before .before .before .before .command .ensures) (c .if1 .taken)
+    let e = c .before .before .before .before .before .before .before .before .before .before .before .before .before .before .before .before .before .before .before .before .before .before .before .before .before .before .before .before .before .before .before .before .before .before .before .before .before in let a = e .args in let l = c .before .before .before .before .before .before .before .before .before .before .before .before .before .before .before .before .before .before .before .before .before .before .before .before .before .loop in let b = c .before .before .before .before .before .before .before .before .before .before .before .before .before .before .before .before .before .before .before .before .before .before .before .before .before .before .before .before .before .before .place in let z = c .before .before .before .before .before .before .before .before .before .before .before .before .before .before .before .before .before .before .before .before .before .before .before .before .before .before .before .before .place2 in let d = c .before .before .before .before .before .before .before .before .before .before .before .before .before .before .before .before .before .before .before .before .next-command in
+    turn-failed (a .job .now) (a .files .now) (a .area .now) (a .nums .now) (a .log .now) (a .count) (a .k) (a .left) (a .s) (b .result) (z .result) (e .pre .1) (b .ensures) (z .ensures) (l .area) (l .nums) (l .log) (l .words) (l .at) (l .u) (l .inv) _ _ (d .result) (d .ensures) _ _ _ (c .before .before .before .before .before .before .before .before .before .before .before .before .before .before .before .n .given .1) (d .kept .1 .1 .1 .1 .1 .1 .0) _ (c .before .before .before .before .before .before .before .before .before .before .before .before .before .begun2 .ensures) _ _ _ _ (c .before .before .before .before .before .before .before .before .command .ensures) (c .if1 .taken)
 
 read-file-loop-less : (t : ℕ) → read-file-lts.Need-loop-less (read-file-cs t) (read-file-at t) read-file.Post read-file-Inv-loop read-file-μ-loop
 read-file-loop-less t c =
-    let e = c .before .before .before .before .before .before .before .before .before .before .before .before .before .before .before .before .before .before .before .before .before .before .before .before .before .before .before .before .before .before .before .before .before .before .before .before .before .before in let a = e .args in let l = c .before .before .before .before .before .before .before .before .before .before .before .before .before .before .before .before .before .before .before .before .before .before .before .before .before .before .loop in
-    turn-less (a .job .now) (a .files .now) (a .area .now) (a .nums .now) (a .log .now) (a .count) (a .k) (a .left) (a .s) (c .before .before .before .before .before .before .before .before .before .before .before .before .before .before .before .before .before .before .before .before .before .before .before .before .before .before .before .before .before .before .before .place .result) (c .before .before .before .before .before .before .before .before .before .before .before .before .before .before .before .before .before .before .before .before .before .before .before .before .before .before .before .before .before .place2 .result) (e .pre .1) (c .before .before .before .before .before .before .before .before .before .before .before .before .before .before .before .before .before .before .before .before .before .before .before .before .before .before .before .before .before .before .before .place .ensures) (c .before .before .before .before .before .before .before .before .before .before .before .before .before .before .before .before .before .before .before .before .before .before .before .before .before .before .before .before .before .place2 .ensures) (l .area) (l .nums) (l .log) (l .words) (l .at) (l .u) (l .inv) _ _ (c .before .before .before .before .before .before .before .before .before .before .before .before .before .before .before .before .before .before .before .before .before .next-command .result) (c .before .before .before .before .before .before .before .before .before .before .before .before .before .before .before .before .before .before .before .before .before .next-command .ensures) _ _ _ (c .before .before .before .before .before .before .before .before .before .before .before .before .before .before .before .before .n .given .1)
+    let e = c .before .before .before .before .before .before .before .before .before .before .before .before .before .before .before .before .before .before .before .before .before .before .before .before .before .before .before .before .before .before .before .before .before .before .before .before .before .before in let a = e .args in let l = c .before .before .before .before .before .before .before .before .before .before .before .before .before .before .before .before .before .before .before .before .before .before .before .before .before .before .loop in let b = c .before .before .before .before .before .before .before .before .before .before .before .before .before .before .before .before .before .before .before .before .before .before .before .before .before .before .before .before .before .before .before .place in let z = c .before .before .before .before .before .before .before .before .before .before .before .before .before .before .before .before .before .before .before .before .before .before .before .before .before .before .before .before .before .place2 in let d = c .before .before .before .before .before .before .before .before .before .before .before .before .before .before .before .before .before .before .before .before .before .next-command in
+    turn-less (a .job .now) (a .files .now) (a .area .now) (a .nums .now) (a .log .now) (a .count) (a .k) (a .left) (a .s) (b .result) (z .result) (e .pre .1) (b .ensures) (z .ensures) (l .area) (l .nums) (l .log) (l .words) (l .at) (l .u) (l .inv) _ _ (d .result) (d .ensures) _ _ _ (c .before .before .before .before .before .before .before .before .before .before .before .before .before .before .before .before .n .given .1)
 
 read-file-loop-again : (t : ℕ) → read-file-lts.Need-loop-again (read-file-cs t) (read-file-at t) read-file.Post read-file-Inv-loop read-file-μ-loop
 read-file-loop-again t c =
-    let e = c .before .before .before .before .before .before .before .before .before .before .before .before .before .before .before .before .before .before .before .before .before .before .before .before .before .before .before .before .before .before .before .before .before .before .before .before .before .before in let a = e .args in let l = c .before .before .before .before .before .before .before .before .before .before .before .before .before .before .before .before .before .before .before .before .before .before .before .before .before .before .loop in
-    turn-again (a .job .now) (a .files .now) (a .area .now) (a .nums .now) (a .log .now) (a .count) (a .k) (a .left) (a .s) (c .before .before .before .before .before .before .before .before .before .before .before .before .before .before .before .before .before .before .before .before .before .before .before .before .before .before .before .before .before .before .before .place .result) (c .before .before .before .before .before .before .before .before .before .before .before .before .before .before .before .before .before .before .before .before .before .before .before .before .before .before .before .before .before .place2 .result) (e .pre .1) (c .before .before .before .before .before .before .before .before .before .before .before .before .before .before .before .before .before .before .before .before .before .before .before .before .before .before .before .before .before .before .before .place .ensures) (c .before .before .before .before .before .before .before .before .before .before .before .before .before .before .before .before .before .before .before .before .before .before .before .before .before .before .before .before .before .place2 .ensures) (l .area) (l .nums) (l .log) (l .words) (l .at) (l .u) (l .inv) _ _ (c .before .before .before .before .before .before .before .before .before .before .before .before .before .before .before .before .before .before .before .before .before .next-command .result) (c .before .before .before .before .before .before .before .before .before .before .before .before .before .before .before .before .before .before .before .before .before .next-command .ensures) _ _ _ (c .before .before .before .before .before .before .before .before .before .before .before .before .before .before .before .before .n .given .1) (c .before .before .before .before .before .before .before .before .before .before .before .before .before .before .before .before .before .before .before .before .before .next-command .kept .1 .1 .1 .1 .1 .1 .0) _ (c .before .before .before .before .before .before .before .before .before .before .before .before .before .before .begun2 .ensures) _ _ _ _ (c .before .before .before .before .before .before .before .before .before .command .ensures) (c .before .if1 .left) (c .before .before .before .before .before .before .before .before .before .before .before .before .before .before .before .before .before .before .before .before .before .next-command .kept .1 .1 .1 .1 .1 .1 .1 .1 .1 .0) (c .before .before .before .before .before .before .before .before .before .command .kept .1 .1 .0) (c .before .before .before .before .before .before .before .before .before .command .kept .1 .1 .1 .0) (c .before .before .before .before .before .before .before .before .before .command .kept .1 .1 .1 .1 .0)
+    let e = c .before .before .before .before .before .before .before .before .before .before .before .before .before .before .before .before .before .before .before .before .before .before .before .before .before .before .before .before .before .before .before .before .before .before .before .before .before .before in let a = e .args in let l = c .before .before .before .before .before .before .before .before .before .before .before .before .before .before .before .before .before .before .before .before .before .before .before .before .before .before .loop in let b = c .before .before .before .before .before .before .before .before .before .before .before .before .before .before .before .before .before .before .before .before .before .before .before .before .before .before .before .before .before .before .before .place in let z = c .before .before .before .before .before .before .before .before .before .before .before .before .before .before .before .before .before .before .before .before .before .before .before .before .before .before .before .before .before .place2 in let d = c .before .before .before .before .before .before .before .before .before .before .before .before .before .before .before .before .before .before .before .before .before .next-command in
+    turn-again (a .job .now) (a .files .now) (a .area .now) (a .nums .now) (a .log .now) (a .count) (a .k) (a .left) (a .s) (b .result) (z .result) (e .pre .1) (b .ensures) (z .ensures) (l .area) (l .nums) (l .log) (l .words) (l .at) (l .u) (l .inv) _ _ (d .result) (d .ensures) _ _ _ (c .before .before .before .before .before .before .before .before .before .before .before .before .before .before .before .before .n .given .1) (d .kept .1 .1 .1 .1 .1 .1 .0) _ (c .before .before .before .before .before .before .before .before .before .before .before .before .before .before .begun2 .ensures) _ _ _ _ (c .before .before .before .before .before .before .before .before .before .command .ensures) (c .before .if1 .left) (d .kept .1 .1 .1 .1 .1 .1 .1 .1 .1 .0) (c .before .before .before .before .before .before .before .before .before .command .kept .1 .1 .0) (c .before .before .before .before .before .before .before .before .before .command .kept .1 .1 .1 .0) (c .before .before .before .before .before .before .before .before .before .command .kept .1 .1 .1 .1 .0)
 
 command-same-length-7 : (t : ℕ) → command-lts.Need-same-length-7 (command-cs t) (command-at t) command.Post
 command-same-length-7 t c = c .before .before .before .before .before .before .before .before .read-file .kept .1 .1 .0 ∙ c .before .before .before .before .before .before .before .before .before .before .before .before .before .before .before .before .before .before-load .kept .1 .1 .0
