@@ -1,0 +1,4 @@
+pub mod Command
+pub mod Load
+pub mod File
+pub mod Turn
