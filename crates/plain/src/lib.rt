@@ -5,11 +5,17 @@ ghost use Rattle.spans.specs.Span.{strings};
 ghost use Rattle.model.specs.Numbers.{namedBy};
 ghost use Rattle.model.specs.Within.{entriesOf, listsBy};
 ghost use Rattle.read.specs.Reading.{lineOf};
-ghost use Rattle.loads.specs.Steps.{countedOut};
-ghost use Rattle.plain.specs.Asks.{Lists};
+ghost use Rattle.text.specs.Ascii.{Bytes};
+ghost use Rattle.held.specs.Held.{countedOf, modelAt, Ran};
+ghost use Rattle.loads.specs.Steps.{acted, countedOut, lineAt};
+ghost use Rattle.plain.specs.Asks.{Lists, Asks, Others};
+ghost use Rattle.plain.specs.Stores.{RowRoom, Stores};
+use enter::enter;
 use lists::Count;
 use lists::entries;
+use made::Made;
 use scopes::go::Out;
+use store::row::put_row;
 use store::state::State;
 
 // Whether the command is within the limits of commands and lists: the state with its entries counted.
@@ -35,4 +41,39 @@ pub fn counted<'a>(
             Out { tag: 0, state: u }
         }
     }
+}
+
+// The answer of a command, with its row in the store.
+fn stored(nums: &mut [u32], r: Made) -> Out
+    requires { ⌜ RowRoom (now nums) r ⌝ }
+    ensures { λ o. ⌜ Stores (now (nums .entry)) (now (nums .exit)) r o ⌝ }
+{
+    let s = r.state;
+    let row = r.row;
+    if r.tag != 0 {
+        return Out { tag: 10, state: s };
+    }
+    if row.kind == 0 {
+        return Out { tag: 0, state: s };
+    }
+    put_row(nums, s.fill.rows - 1, row);
+    Out { tag: 0, state: s }
+}
+
+// A command that writes neither the area nor the log nor words of states.
+fn others<'a>(
+    files: &'a [u8],
+    area: &'a [u8],
+    nums: &mut [u32],
+    words: &[u32],
+    n: usize,
+    s: State,
+    c: usize,
+) -> Out
+    requires { ⌜ Others (now files) (now area) (now nums) (now words) n c s ⌝ }
+    ensures { λ r. ⌜ ((log : Bytes) → Ran (now (files .entry)) (now (area .entry)) (now (area .entry)) (now (nums .entry)) (now (nums .exit)) log log s r (λ text. acted (namedBy c) (lineAt (now (files .entry)) (now (area .entry)) (now (words .entry)) n s) (countedOf s) (modelAt (now (files .entry)) (now (area .entry)) (now (nums .entry)) s text))) ⌝ }
+{
+    let o = s.fill.end;
+    let r = enter(files, &area[..o], words, n, s, c);
+    stored(nums, r)
 }
