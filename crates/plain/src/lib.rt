@@ -1,6 +1,8 @@
 // A command that loads nothing.
 ghost use mathlib.Core.Path.{_≡_};
-ghost use mathlib.Core.List.{_++_};
+ghost use mathlib.Core.List.{List, _++_};
+ghost use Prim.Native.Nat.{ℕ, _≤_};
+ghost use lib.ListN.{length};
 ghost use Rattle.spans.specs.Span.{strings};
 ghost use Rattle.model.specs.Numbers.{namedBy};
 ghost use Rattle.model.specs.Within.{entriesOf, listsBy};
@@ -10,10 +12,14 @@ ghost use Rattle.held.specs.Held.{countedOf, modelAt, Ran};
 ghost use Rattle.loads.specs.Steps.{acted, countedOut, lineAt};
 ghost use Rattle.plain.specs.Asks.{Lists, Asks, Others};
 ghost use Rattle.plain.specs.Stores.{RowRoom, Stores};
+use args::argument::last_positional;
 use enter::enter;
 use lists::Count;
 use lists::entries;
 use made::Made;
+use names::name::alone;
+use names::put::put_name;
+use out::emit::put;
 use scopes::go::Out;
 use store::row::put_row;
 use store::state::State;
@@ -76,4 +82,26 @@ fn others<'a>(
     let o = s.fill.end;
     let r = enter(files, &area[..o], words, n, s, c);
     stored(nums, r)
+}
+
+// puts.
+fn puts<'a>(
+    files: &'a [u8],
+    area: &'a [u8],
+    log: &mut [u8],
+    words: &[u32],
+    n: usize,
+    s: State,
+) -> Out
+    requires { ⌜ s .fill .end ≤ length (now area) ⌝ }
+    ensures { λ r. ⌜ ((nums : List ℕ) → Asks (now (files .entry)) (now (area .entry)) nums (now (words .entry)) n 1 s → Ran (now (files .entry)) (now (area .entry)) (now (area .entry)) nums nums (now (log .entry)) (now (log .exit)) s r (λ text. acted (namedBy 1) (lineAt (now (files .entry)) (now (area .entry)) (now (words .entry)) n s) (countedOf s) (modelAt (now (files .entry)) (now (area .entry)) nums s text))) ⌝ }
+{
+    let o = s.fill.end;
+    let w = last_positional(files, &area[..o], words, n);
+    let a = put(log, s.fill.log, b"[UPF] ");
+    let b = put_name(log, a, files, &area[..o], alone(w, 0));
+    let e = put(log, b, b"\n");
+    let mut u = s;
+    u.fill.log = e;
+    Out { tag: 0, state: u }
 }
