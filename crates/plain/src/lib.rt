@@ -21,6 +21,8 @@ use names::name::alone;
 use names::put::put_name;
 use out::emit::put;
 use scopes::go::Out;
+use statecmds::add_port_state;
+use statecmds::create_power_switch;
 use store::row::put_row;
 use store::state::State;
 
@@ -104,4 +106,38 @@ fn puts<'a>(
     let mut u = s;
     u.fill.log = e;
     Out { tag: 0, state: u }
+}
+
+// create_power_switch.
+fn switch<'a>(
+    files: &'a [u8],
+    area: &'a [u8],
+    nums: &mut [u32],
+    words: &[u32],
+    n: usize,
+    s: State,
+) -> Out
+    requires { ⌜ Asks (now files) (now area) (now nums) (now words) n 21 s ⌝ }
+    ensures { λ r. ⌜ ((log : Bytes) → Ran (now (files .entry)) (now (area .entry)) (now (area .entry)) (now (nums .entry)) (now (nums .exit)) log log s r (λ text. acted (namedBy 21) (lineAt (now (files .entry)) (now (area .entry)) (now (words .entry)) n s) (countedOf s) (modelAt (now (files .entry)) (now (area .entry)) (now (nums .entry)) s text))) ⌝ }
+{
+    let o = s.fill.end;
+    let r = create_power_switch(files, &area[..o], words, n, nums, s);
+    stored(nums, r)
+}
+
+// add_port_state.
+fn port_state<'a>(
+    files: &'a [u8],
+    area: &'a [u8],
+    nums: &mut [u32],
+    words: &[u32],
+    n: usize,
+    s: State,
+) -> Out
+    requires { ⌜ Asks (now files) (now area) (now nums) (now words) n 27 s ⌝ }
+    ensures { λ r. ⌜ ((log : Bytes) → Ran (now (files .entry)) (now (area .entry)) (now (area .entry)) (now (nums .entry)) (now (nums .exit)) log log s r (λ text. acted (namedBy 27) (lineAt (now (files .entry)) (now (area .entry)) (now (words .entry)) n s) (countedOf s) (modelAt (now (files .entry)) (now (area .entry)) (now (nums .entry)) s text))) ⌝ }
+{
+    let o = s.fill.end;
+    let r = add_port_state(files, &area[..o], words, n, nums, s);
+    stored(nums, r)
 }
