@@ -21,6 +21,7 @@ use names::name::alone;
 use names::put::put_name;
 use out::emit::put;
 use scopes::go::Out;
+use scopes::go::set_scope;
 use statecmds::add_port_state;
 use statecmds::create_power_switch;
 use store::row::put_row;
@@ -140,4 +141,33 @@ fn port_state<'a>(
     let o = s.fill.end;
     let r = add_port_state(files, &area[..o], words, n, nums, s);
     stored(nums, r)
+}
+
+// Command c of the table of names.
+pub fn plain(
+    files: &[u8],
+    area: &mut [u8],
+    nums: &mut [u32],
+    log: &mut [u8],
+    words: &[u32],
+    n: usize,
+    s: State,
+    c: usize,
+) -> Out
+    requires { ⌜ Asks (now files) (now area) (now nums) (now words) n c s ⌝ }
+    ensures { λ r. ⌜ Ran (now (files .entry)) (now (area .entry)) (now (area .exit)) (now (nums .entry)) (now (nums .exit)) (now (log .entry)) (now (log .exit)) s r (λ text. acted (namedBy c) (lineAt (now (files .entry)) (now (area .entry)) (now (words .entry)) n s) (countedOf s) (modelAt (now (files .entry)) (now (area .entry)) (now (nums .entry)) s text)) ⌝ }
+{
+    if c == 1 {
+        return puts(files, area, log, words, n, s);
+    }
+    if c == 4 {
+        return set_scope(files, area, words, n, s);
+    }
+    if c == 21 {
+        return switch(files, area, nums, words, n, s);
+    }
+    if c == 27 {
+        return port_state(files, area, nums, words, n, s);
+    }
+    others(files, area, nums, words, n, s, c)
 }
