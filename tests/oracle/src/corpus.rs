@@ -8,6 +8,7 @@ use std::io::Write;
 
 use crate::check::{expect, Answer, STANDARD};
 use crate::gen::{self, Rng};
+use crate::selftest;
 
 /// Jobs longer than this are stored only where they reach something new.
 const SMALL: usize = 1000;
@@ -60,5 +61,14 @@ pub fn write(seed: u64, count: u64) -> std::io::Result<()> {
         bounds += 1;
     }
     eprintln!("{kept} generated jobs of {k}, {bounds} boundary and malformed jobs, {} bytes", out.len());
+    std::io::stdout().write_all(&out)
+}
+
+/// Writes the jobs of 'Marked runs' and of the traps to standard output.
+pub fn marked() -> std::io::Result<()> {
+    let mut out = Vec::new();
+    for (job, number, place) in selftest::marked::cases() {
+        put(&mut out, &job, number, place, &expect(&job, &STANDARD));
+    }
     std::io::stdout().write_all(&out)
 }
