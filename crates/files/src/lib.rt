@@ -1,0 +1,4 @@
+// The files, command by command.
+pub mod file;
+pub mod plain;
+pub mod whole;
