@@ -87,7 +87,7 @@ shaped-at st st′ s e v = rw e v
 bounded-at : (long n n′ : ℕ) (st st′ : Store) (s : State) → st ≡ st′ → n ≡ n′ → Bounded (reachOf long) n′ st′ s → Bounded (reachOf long) n st s
 bounded-at long n n′ st st′ s e f v = rw (e, f) v
 
-model-log : (mem : Bytes) (st : Store) (s : State) (log : Bytes) → modelOf mem st s log .log ≡ log
+pub model-log : (mem : Bytes) (st : Store) (s : State) (log : Bytes) → modelOf mem st s log .log ≡ log
 unfolding modelOf
 model-log mem st s log = refl
 
