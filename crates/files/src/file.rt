@@ -2,14 +2,14 @@
 ghost use Prim.Native.Nat.{_≤_, _<_};
 ghost use Rattle.held.specs.Held.{Ran};
 ghost use Rattle.loads.specs.Steps.{commandReads, fileReads, Doing, Opening};
-use super::plain::counted;
-use super::plain::plain;
 use cmdnames::number;
 use commands::next::Next;
 use commands::next::next_command;
 use held::begun;
 use loads::before_load;
 use loads::restored;
+use plain::counted;
+use plain::plain;
 use scopes::go::Out;
 use spans::span::pair;
 use store::state::State;

@@ -1,4 +1,3 @@
 // The files, command by command.
 pub mod file;
-pub mod plain;
 pub mod whole;

@@ -22,8 +22,8 @@ use Rattle.files.proofs.file.read_file.Kinds as read-file-kinds
 use Rattle.files.proofs.file.+command+read_file.Lts-read_file as read-file-lts
 use Rattle.cmdnames.proofs.number.Reads as number-reads
 use Rattle.commands.proofs.next.next_command.Reads as next-command-reads
-use Rattle.files.proofs.plain.counted.Reads as counted-reads
-use Rattle.files.proofs.plain.plain.Reads as plain-reads
+use Rattle.plain.proofs.counted.Reads as counted-reads
+use Rattle.plain.proofs.plain.Reads as plain-reads
 use Rattle.held.proofs.begun.Reads as begun-reads
 use Rattle.loads.proofs.before_load.Reads as before-load-reads
 use Rattle.loads.proofs.restored.Reads as restored-reads
