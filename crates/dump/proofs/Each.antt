@@ -2,12 +2,12 @@
 use Prim.Native.Nat.{ℕ, suc, _+_, _≤_, _<_}
 use native.Mathlib.Omega.{arith}
 use native.Mathlib.Numerals.{add-one}
-use mathlib.Core.Path.{_≡_, refl, sym, ap, _∙_}
-use mathlib.Core.List.{List, [], _∷_, _++_}
+use mathlib.Core.Path.{_≡_, sym, ap, _∙_}
+use mathlib.Core.List.{List, _∷_}
 use lib.ListN.{length, getD, take, drop, drop-of-length-le}
 use lib.Seq.{drop-cons, getD-take, length-take-le}
 use Rattle.text.specs.Ascii.{Bytes}
-use Rattle.out.specs.Emit.{Out, _▸_, emit, emit-append, emit-⊕}
+use Rattle.out.specs.Emit.{Out, emit, emit-append, emit-⊕}
 use Rattle.out.specs.Items.{each}
 use Rattle.dump.specs.Fields.{numberText}
 use Rattle.dump.specs.Tables.{tableText}

@@ -1,13 +1,10 @@
 -- Laws: what is told of an index and of a reading. Assumes nothing.
 use Prim.Native.Nat.{ℕ}
-use mathlib.Core.Path.{_≡_, refl, sym, ap, _∙_}
-use mathlib.Core.Bool.{true, false, cond}
-use mathlib.Core.List.{List, []}
-use lib.Dec.{eqb}
+use mathlib.Core.Path.{_≡_}
+use mathlib.Core.List.{List}
 use borrow.Author.Needs.{needs}
 use borrow.Author.Tests.{eq-eqb, ne-eqb}
-use Rattle.text.specs.Ascii.{Bytes}
-use Rattle.out.specs.Emit.{Out, _▸_, emit}
+use Rattle.out.specs.Emit.{Out, emit}
 use Rattle.jobindex.specs.declared.Header.{Header}
 use Rattle.job.specs.declared.Answer.{Answer}
 use Rattle.job.specs.declared.Answer.the-variants.{Taken, Refused}
@@ -16,7 +13,7 @@ use Rattle.store.specs.declared.state.State.{State}
 use Rattle.scopes.specs.declared.go.Out.{Out as Answered}
 use Rattle.reader.specs.Whole.{WasRead}
 use Rattle.dump.specs.Tables.{stateText, Few}
-use Rattle.readc.specs.Told.{toldText, filesOf, firstOf, Indexes, Told}
+use Rattle.readc.specs.Told.{toldText, Indexes}
 
 module _ (job nums₀ nums : List ℕ) (a : Answer) (s : JobRead job nums₀ nums a) where
   pub index-refused : (x n : ℕ) → a ≡ Refused x n → Indexes job nums₀ nums 0 0

@@ -1,7 +1,7 @@
 -- `dump::field::number` meets its contract. Assumes nothing.
 use Rattle.dump.specs.Fields.{numberText}
 use borrow.Author.Needs.{needs}
-use Rattle.out.specs.Emit.{Wrote, wrote, _then_, kept}
+use Rattle.out.specs.Emit.{wrote, _then_, kept}
 use Rattle.dump.proofs.field.number.Statement.{statement}
 use Rattle.dump.proofs.field.number.Tie as tie
 

@@ -1,7 +1,7 @@
 -- `dump::record::isolation` meets its contract. Assumes nothing.
 use Rattle.dump.specs.Records.{isolationText}
 use borrow.Author.Needs.{needs}
-use Rattle.out.specs.Emit.{Wrote, wrote, _then_, kept}
+use Rattle.out.specs.Emit.{wrote, _then_, kept}
 use Rattle.dump.proofs.record.isolation.Statement.{statement}
 use Rattle.dump.proofs.record.isolation.Tie as tie
 

@@ -1,7 +1,7 @@
 -- `dump::record::shifter` meets its contract. Assumes nothing.
 use Rattle.dump.specs.Records.{shifterText}
 use borrow.Author.Needs.{needs}
-use Rattle.out.specs.Emit.{Wrote, wrote, _then_, kept}
+use Rattle.out.specs.Emit.{wrote, _then_, kept}
 use Rattle.dump.proofs.record.shifter.Statement.{statement}
 use Rattle.dump.proofs.record.shifter.Tie as tie
 

@@ -1,7 +1,7 @@
 -- `dump::record::table` meets its contract. Assumes nothing.
 use Rattle.dump.specs.Records.{tableText}
 use borrow.Author.Needs.{needs}
-use Rattle.out.specs.Emit.{Wrote, wrote, _then_, kept}
+use Rattle.out.specs.Emit.{wrote, _then_, kept}
 use Rattle.dump.proofs.record.table.Statement.{statement}
 use Rattle.dump.proofs.record.table.Tie as tie
 

@@ -1,7 +1,7 @@
 -- `dump::table::head` meets its contract. Assumes nothing.
 use Rattle.dump.specs.Tables.{headText}
 use borrow.Author.Needs.{needs}
-use Rattle.out.specs.Emit.{Wrote, wrote, _then_, kept}
+use Rattle.out.specs.Emit.{wrote, _then_, kept}
 use Rattle.dump.proofs.table.head.Statement.{statement}
 use Rattle.dump.proofs.table.head.Tie as tie
 

@@ -1,7 +1,7 @@
 -- `dump::table::state` meets its contract. Assumes nothing.
 use Rattle.dump.specs.Tables.{stateText}
 use borrow.Author.Needs.{needs}
-use Rattle.out.specs.Emit.{Wrote, wrote, _then_, kept}
+use Rattle.out.specs.Emit.{wrote, _then_, kept}
 use Rattle.dump.proofs.table.state.Statement.{statement}
 use Rattle.dump.proofs.table.state.Tie as tie
 
