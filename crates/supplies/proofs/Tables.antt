@@ -282,12 +282,11 @@ module _ (files area : Bytes) (scope v : Span) (table : List ℕ) (k : ℕ) (c :
   pub supply-whole : Whole (length files) v
   supply-whole = whole-by (length files) (length (files ++ area)) v (c .small) (c .value)
 
-  module _ (x : Name) (kx : Known (files ++ area) (nthBelow (bytes (files ++ area) scope) 1 (list (bytes (files ++ area) v))) (max (scope .at + scope .len) (v .at + v .len)) x) where
-    pub supply-adds : Adds (files ++ area) table k x
-    supply-adds = record { small = c .small; ends = omega (arith, kx .ends, c .scope-ends, c .value, reach-end (length files) v); few = c .count; room = c .room }
+  pub supply-adds : (j : ℕ) (x : Name) → Known (files ++ area) (nthBelow (bytes (files ++ area) scope) j (list (bytes (files ++ area) v))) (max (scope .at + scope .len) (v .at + v .len)) x → Adds (files ++ area) table k x
+  supply-adds j x kx = record { small = c .small; ends = omega (arith, kx .ends, c .scope-ends, c .value, reach-end (length files) v); few = c .count; room = c .room }
 
-    pub supply-added : (table′ : List ℕ) (r : ℕ) → Names (files ++ area) (addAll (tableNames (files ++ area) table k) (those hasName (nameOf (files ++ area) x ∷ []))) (k + 1) table table′ r → Names (files ++ area) (addAll (tableNames (files ++ area) table k) (those hasName (nthBelow (bytes (files ++ area) scope) 1 (list (bytes (files ++ area) v)) ∷ []))) (k + 1) table table′ r
-    supply-added table′ r a = rw (kx .is) at a
+  pub supply-added : (x : Name) → Known (files ++ area) (nthBelow (bytes (files ++ area) scope) 1 (list (bytes (files ++ area) v))) (max (scope .at + scope .len) (v .at + v .len)) x → (table′ : List ℕ) (r : ℕ) → Names (files ++ area) (addAll (tableNames (files ++ area) table k) (those hasName (nameOf (files ++ area) x ∷ []))) (k + 1) table table′ r → Names (files ++ area) (addAll (tableNames (files ++ area) table k) (those hasName (nthBelow (bytes (files ++ area) scope) 1 (list (bytes (files ++ area) v)) ∷ []))) (k + 1) table table′ r
+  supply-added x kx table′ r a = rw (kx .is) at a
 
 module _ (files area : Bytes) (w : Switch) (table : List ℕ) (k : ℕ) (c : OfSwitch files area w table k) (s u : Span) (es : s ≡ spanOf (w .scope)) (eu : u ≡ spanOf (w .input)) where
   scope-in : s .at + s .len ≤ length (files ++ area)

@@ -12,15 +12,13 @@ use Rattle.tcl.specs.Lists.{list}
 use Rattle.joblines.specs.Lines.{no-module}
 use Rattle.design.specs.Lists.{those, addAll}
 use Rattle.model.specs.Records.{Connection, Switch as Switchʳ, SupplyPort, Model, no-records, with-nets}
-use Rattle.model.specs.Commands.{supplyOf}
-use Rattle.model.specs.Scope.{scoped}
-use Rattle.listnames.specs.Lists.{nthBelow}
+use Rattle.listnames.specs.Lists.{supply-net}
 use Rattle.texts.specs.Setting.{Setting}
 use Rattle.texts.specs.Supplies.{netOf, portNets, switchNets, supplyNets, netBlocks, cases, unrooted}
 use Rattle.format.specs.Args.{rooted}
 use Rattle.texts.specs.Texts.{packageOf}
 use Rattle.store.specs.Strings.{string, belowOf}
-use Rattle.store.specs.View.{Store, at-scope, portOf, switchOf, connectionsOf, modelOf}
+use Rattle.store.specs.View.{Store, portOf, switchOf, connectionsOf, modelOf}
 use Rattle.store.specs.Rows.{rowsIn, storeOf}
 use Rattle.store.specs.declared.stored.Stored.{Stored}
 use Rattle.store.specs.declared.state.Port.{Port}
@@ -29,12 +27,6 @@ use Rattle.store.specs.declared.state.State.{State}
 use Rattle.scope.specs.Parts.{parts}
 use Rattle.setting.specs.Stands.{Stands}
 use Rattle.supplies.specs.Nets.{portNet, supplyNet, bothNets, hasName, netsOf}
-
-supply-net : (scope : Bytes) (es : List Bytes) → supplyOf (at-scope scope) es .net ≡ nthBelow scope 1 es
-unfolding nthBelow
-supply-net scope [] = refl
-supply-net scope (p ∷ []) = refl
-supply-net scope (p ∷ n ∷ es) = refl
 
 ports-seen : (mem : Bytes) (cs : List Connection) (ps : List Port) → map (portNet mem cs) ps ≡ map (λ (p : SupplyPort). netOf cs (p .name) (p .name)) (map (portOf mem) ps)
 unfolding portOf
