@@ -27,7 +27,7 @@ use Rattle.model.specs.Records.{Control}
 use Rattle.model.specs.Commands.{controlsOf}
 use Rattle.texts.specs.Setting.{Setting}
 use Rattle.texts.specs.Switches.{signalOf, wordText, condition}
-use Rattle.conditions.specs.Controls.{scopeSetting, lastSignal, signalAt, hierOf, ControlSeen, signal-is}
+use Rattle.conditions.specs.Controls.{scopeSetting, signalAt, hierOf, ControlSeen, seen-signal}
 use Rattle.conditions.specs.Pieces.{condition-none, condition-byte, condition-word, word-shorter}
 
 -- ---- a word
@@ -37,9 +37,7 @@ module _ (job mem : Bytes) (scope : List Bytes) (table : List ℕ) (count n : �
   port-is = rw ew (front-is job mem e n)
 
   signal-seen : signalOf (scopeSetting scope) (controlsOf (tableNames mem table count)) (take n (nameOf mem e)) none ≡ hierOf (scopeSetting scope) (signalAt mem table k)
-  signal-seen =
-      signal-is (scopeSetting scope) (controlsOf (tableNames mem table count)) (take n (nameOf mem e)) none
-      ∙ ap (hierOf (scopeSetting scope)) (ap (λ (p : Bytes). lastSignal (controlsOf (tableNames mem table count)) p none) (sym port-is) ∙ sym (seen .says))
+  signal-seen = ap (λ (p : Bytes). signalOf (scopeSetting scope) (controlsOf (tableNames mem table count)) p none) (sym port-is) ∙ seen-signal scope mem table count (textOf job mem w) k seen
 
   pub word-known : (r : Ref) (x : Name) → o′ ≡ emit o (flat (becomes 0) (elementPath scope (textOf job mem r))) → r ≡ wholeRef x → x ≡ rowName table k → (k ≡ 0 → ⊥) → o′ ≡ emit o (wordText (signalOf (scopeSetting scope) (controlsOf (tableNames mem table count)) (take n (nameOf mem e)) none) (take n (nameOf mem e)))
   word-known r x g er ex h =

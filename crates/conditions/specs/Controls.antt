@@ -47,6 +47,10 @@ signal-is s (c ∷ cs) port found = ap (signalOf s cs port) (step (same (c .port
     step true = refl
     step false = refl
 
+-- what the answer for a port says of its signal
+pub seen-signal : (scope : List Bytes) (mem : Bytes) (table : List ℕ) (n : ℕ) (port : Bytes) (r : ℕ) → ControlSeen mem table n port r → signalOf (scopeSetting scope) (controlsOf (tableNames mem table n)) port none ≡ hierOf (scopeSetting scope) (signalAt mem table r)
+seen-signal scope mem table n port r seen = signal-is (scopeSetting scope) (controlsOf (tableNames mem table n)) port none ∙ ap (hierOf (scopeSetting scope)) (sym (seen .says))
+
 -- ---- of every setting with that scope
 
 signal-same : (s : Setting) (cs : List Control) (port : Bytes) (found : Option Bytes) → signalOf (scopeSetting (s .scope)) cs port found ≡ signalOf s cs port found
