@@ -17,7 +17,7 @@ use Rattle.tcl.specs.Lists.{list}
 use Rattle.names.specs.Name.{named, nameOf}
 use Rattle.names.specs.declared.name.Name.{Name}
 use Rattle.nametable.specs.Table.{rowName, namesFrom, tableNames, names-next, names-none}
-use Rattle.listnames.specs.Lists.{nthBelow, Whole, Known, Rooms, Listed, whole-by, supply-net}
+use Rattle.listnames.specs.Lists.{nthBelow, Whole, Known, whole-by, supply-net}
 use Rattle.listnames.specs.Inside.{named-alone}
 use Rattle.design.specs.Paths.{elementPath}
 use Rattle.format.specs.Args.{argOf, nameArg, hierArg}
@@ -137,23 +137,6 @@ module _ (files area : List ℕ) (w : Switch) (a : OfNames files area w) where
 
   pub output-whole : Whole (length files) (spanOf (w .output))
   output-whole = whole-by (length files) (length (files ++ area)) (spanOf (w .output)) (a .small) (omega (arith, a .strings))
-
-  module _ (u : Span) (eu : u ≡ spanOf (w .controls)) where
-    controls-whole : Whole (length files) u
-    controls-whole = whole-by (length files) (length (files ++ area)) u (a .small) (rw eu (omega (arith, a .strings)))
-
-    pub names-rooms : (table : List ℕ) → length table ≡ 325 → Rooms files area (0 ⋯ 0) u table 0
-    names-rooms table l =
-        let k : length (list (bytes (files ++ area) u)) ≤ 65 = rw eu (a .few) in
-        record { held = controls-whole .held; scope-small = omega arith; small = controls-whole .small; rows = omega (arith, k); room = omega (arith, k, l) }
-
-    pub names-controlled : (table₀ table : List ℕ) (r : ℕ) → Listed (files ++ area) table₀ 0 (list (bytes (files ++ area) u)) table r → Controlled (files ++ area) w table r
-    names-controlled table₀ table r l =
-        let k : length (list (bytes (files ++ area) u)) ≤ 65 = rw eu (a .few) in
-        record { are = l .are ∙ ap (λ (x : List Bytes). x ++ list (bytes (files ++ area) u)) (names-none (files ++ area) table₀ 0) ∙ ap (λ (v : Span). list (bytes (files ++ area) v)) eu; few = omega (arith, k, l .count) }
-
-pub switch-names : (files area nums : List ℕ) (w : Switch) → OfSwitch files area nums w → OfNames files area w
-switch-names files area nums w a = a .names
 
 module _ (files area nums : List ℕ) (w : Switch) (a : OfSwitch files area nums w) (table : List ℕ) (count : ℕ) (t : Controlled (files ++ area) w table count) (f n : ℕ) (ef : f ≡ w .first) (en : n ≡ w .ons) where
   pub glue-ons : Ons files area nums f n count

@@ -9,10 +9,13 @@ use lib.ListN.{length, take, getD, length-append}
 use lib.Seq.{getD-take, length-take-le}
 use Rattle.text.specs.Ascii.{Bytes}
 use Rattle.tcl.specs.Lists.{list}
-use Rattle.nametable.specs.Table.{tableNames}
+use Rattle.spans.specs.Span.{_⋯_, bytes}
+use Rattle.spans.specs.declared.span.Span.{Span}
+use Rattle.nametable.specs.Table.{tableNames, names-none}
+use Rattle.listnames.specs.Lists.{Whole, Rooms, Listed, whole-by}
 use Rattle.model.specs.Records.{Switch as Switchʳ}
 use Rattle.model.specs.Commands.{controlsOf}
-use Rattle.store.specs.Strings.{string}
+use Rattle.store.specs.Strings.{string, spanOf}
 use Rattle.store.specs.View.{Store, switchOf, modelOf}
 use Rattle.store.specs.Order.{Within, none-left, one-more, ofSwitch, switchWords, Sized}
 use Rattle.store.specs.Rows.{wordAt, wordsIn, storeOf}
@@ -56,6 +59,25 @@ pub record OfAll (files area : List ℕ) (t : Switches) : Type 0 where
 pub record Controlled (mem : Bytes) (w : Switch) (table : List ℕ) (count : ℕ) : Type 0 where
   pub are : tableNames mem table count ≡ list (string mem (w .controls))
   pub few : count ≤ 65
+
+-- ---- a table of 65 rows has room for them
+module _ (files area : List ℕ) (w : Switch) (a : OfNames files area w) where
+  module _ (u : Span) (eu : u ≡ spanOf (w .controls)) where
+    controls-whole : Whole (length files) u
+    controls-whole = whole-by (length files) (length (files ++ area)) u (a .small) (rw eu (omega (arith, a .strings)))
+
+    pub names-rooms : (table : List ℕ) → length table ≡ 325 → Rooms files area (0 ⋯ 0) u table 0
+    names-rooms table l =
+        let k : length (list (bytes (files ++ area) u)) ≤ 65 = rw eu (a .few) in
+        record { held = controls-whole .held; scope-small = omega arith; small = controls-whole .small; rows = omega (arith, k); room = omega (arith, k, l) }
+
+    pub names-controlled : (table₀ table : List ℕ) (r : ℕ) → Listed (files ++ area) table₀ 0 (list (bytes (files ++ area) u)) table r → Controlled (files ++ area) w table r
+    names-controlled table₀ table r l =
+        let k : length (list (bytes (files ++ area) u)) ≤ 65 = rw eu (a .few) in
+        record { are = l .are ∙ ap (λ (x : List Bytes). x ++ list (bytes (files ++ area) u)) (names-none (files ++ area) table₀ 0) ∙ ap (λ (v : Span). list (bytes (files ++ area) v)) eu; few = omega (arith, k, l .count) }
+
+pub switch-names : (files area nums : List ℕ) (w : Switch) → OfSwitch files area nums w → OfNames files area w
+switch-names files area nums w a = a .names
 
 -- ---- a state in order has it
 

@@ -1,6 +1,6 @@
 -- `switches::write::glue_text` meets its contract. Assumes nothing.
 use borrow.Author.Needs.{needs}
-use Rattle.switches.proofs.Glue.{input-whole, output-whole, switch-names, glue-ons, glue-all}
+use Rattle.switches.proofs.Glue.{input-whole, output-whole, glue-ons, glue-all}
 use Rattle.switches.proofs.write.glue_text.Statement.{statement}
 use Rattle.switches.proofs.write.glue_text.Tie as tie
 

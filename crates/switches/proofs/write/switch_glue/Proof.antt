@@ -1,6 +1,6 @@
 -- `switches::write::switch_glue` meets its contract. Assumes nothing.
 use borrow.Author.Needs.{needs}
-use Rattle.switches.proofs.Glue.{names-rooms, names-controlled, switch-names}
+use Rattle.switches.specs.Asked.{names-rooms, names-controlled, switch-names}
 use Rattle.switches.proofs.write.switch_glue.Statement.{statement}
 use Rattle.switches.proofs.write.switch_glue.Tie as tie
 

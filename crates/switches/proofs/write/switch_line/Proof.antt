@@ -1,6 +1,6 @@
 -- `switches::write::switch_line` meets its contract. Assumes nothing.
 use borrow.Author.Needs.{needs}
-use Rattle.switches.proofs.Glue.{names-rooms, names-controlled}
+use Rattle.switches.specs.Asked.{names-rooms, names-controlled}
 use Rattle.switches.proofs.write.switch_line.Statement.{statement}
 use Rattle.switches.proofs.write.switch_line.Tie as tie
 
