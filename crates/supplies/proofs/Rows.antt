@@ -9,7 +9,6 @@ use mathlib.Core.Bool.{Bool, true, false, cond, _||_}
 use mathlib.Core.List.{List, [], _∷_, _++_, map, flatMap, append-nil}
 use lib.Dec.{eqb}
 use lib.ListN.{length, drop}
-use borrow.Author.Needs.{needs}
 use borrow.Author.Tests.{eq-eqb, ne-eqb}
 use Rattle.text.specs.Ascii.{Bytes}
 use Rattle.text.specs.Compare.{same}
@@ -45,8 +44,6 @@ use Rattle.supplies.specs.Nets.{isBelow, Reads, Connects, Rowed}
 
 pub name-known : (mem : Bytes) (b : Below) (s w : Span) (r : Name) → Makes mem s w 0 r → s ≡ spanOf (b .scope) → w ≡ spanOf (b .word) → Known mem (belowOf mem b) (ofBelow endOf b) r
 name-known mem b s w r m es ew = record { is = m .is ∙ rw (es, ew); ends = let h : nameEnd r ≤ max (s .at + s .len) (w .at + w .len) = m .ends in rw (es, ew) at h }
-
-pub ruleset knowns = (needs, name-known)
 
 -- ---- whether a name is an entry below a scope
 
@@ -93,8 +90,6 @@ module _ (files area : Bytes) (v : Span) (w : Whole (length files) v) (text : By
 
   pub tests-value : (scope : Span) (p : Name) (t : Bool) → t ≡ any (isBelow (files ++ area) scope p) (list text) → t ≡ any (isBelow (files ++ area) scope p) (list (bytes (files ++ area) v))
   tests-value scope p t h = rw (e (w .held)) at h
-
-pub ruleset tests = (needs, entry-less, tests-none, tests-inside, tests-yes, tests-no)
 
 -- ---- a row
 
@@ -146,8 +141,6 @@ module _ (files area : Bytes) (r : Row) (net : Name) (c : Connects files area r 
       pub row-no : t ≡ false → Known (files ++ area) (netOf (connectionsOf (files ++ area) r) (nameOf (files ++ area) p) (nameOf (files ++ area) net)) (length (files ++ area)) net
       row-no g = record { is = sym (net-is ∙ rw g); ends = c .ends }
 
-pub ruleset rowed = (needs, row-whole, row-other, row-yes, row-no)
-
 -- ---- all rows
 
 net-append : (cs ds : List Connection) (port net : Bytes) → netOf (cs ++ ds) port net ≡ netOf ds port (netOf cs port net)
@@ -197,5 +190,3 @@ module _ (files area : Bytes) (nums : List ℕ) (rows : ℕ) (p : Name) (c : Row
 
   pub nets-done : (net : Name) (k : ℕ) → Nets (files ++ area) nums p net k → k ≤ rows → rows ≤ k → Known (files ++ area) (netOf (flatMap (connectionsOf (files ++ area)) (rowsIn nums rows)) (nameOf (files ++ area) p) (nameOf (files ++ area) p)) (length (files ++ area)) net
   nets-done net k inv l h = let e : k ≡ rows = omega arith in rw e at (inv .known)
-
-pub ruleset nets = (needs, nets-few, nets-connects, nets-step, nets-done)

@@ -5,7 +5,6 @@ use mathlib.Core.Path.{_≡_, refl, sym, ap, _∙_}
 use mathlib.Core.Bool.{Bool, true, false, cond, _||_, not}
 use mathlib.Core.List.{List, [], _∷_, _++_, map, flatMap, append-assoc, append-nil}
 use lib.ListN.{length, take, drop, getD, length-set}
-use borrow.Author.Needs.{needs}
 use Rattle.text.specs.Ascii.{Bytes}
 use Rattle.text.specs.Compare.{same}
 use Rattle.text.specs.Scan.{any}
@@ -65,8 +64,6 @@ module _ (mem : Bytes) (table : List ℕ) (n : ℕ) (x : Bytes) (w : Bool) (k : 
   unfolding any
   look-none h = let z : n - k ≡ 0 = omega arith in rw (z, names-none mem table k) at (inv .keeps)
 
-pub ruleset looks = (needs, look-yes, look-no, look-none)
-
 -- ---- one name more
 
 one-name : (l : List Bytes) (y : Bytes) (b : ℕ) (z : Bytes) → y ≡ b ∷ z → addNew l y ≡ addAll l (those hasName (y ∷ []))
@@ -102,8 +99,6 @@ module _ (mem : Bytes) (table : List ℕ) (n : ℕ) (x : Name) (a : Adds mem tab
 
     pub named-some : (b : ℕ) (u : Name) (table′ : List ℕ) (r : ℕ) → Names mem (addNew (tableNames mem table n) (nameOf mem x)) (n + 1) table table′ r → p ≡ Byte b u → Names mem (addAll (tableNames mem table n) (those hasName (nameOf mem x ∷ []))) (n + 1) table table′ r
     named-some b u table′ r g h = record { are = g .are ∙ one-name (tableNames mem table n) (nameOf mem x) b (nameOf mem u) (e ∙ rw h); count = g .count; long = g .long }
-
-pub ruleset adds = (needs, adds-few, adds-room, adds-more, adds-stores, added-old, added-new, named-none, named-some)
 
 -- ---- a stored name ends where it reaches
 
@@ -158,8 +153,6 @@ module _ (files area : Bytes) (t : Nets) (table₀ : List ℕ) (c : Creates file
           count = created-few;
           long = inv .long;
         }
-
-pub ruleset creates = (needs, created-index, created-row, created-room, created-stores, created-step, created-done)
 
 -- ---- nets that are added one after the other: what is left behind what is there is the answer
 
@@ -370,5 +363,3 @@ module _ (files area : Bytes) (nums : List ℕ) (s : State) (table : List ℕ) (
             count = omega (arith, na .count, nb .count, nc .count);
             long = nc .long ∙ nb .long ∙ na .long;
           }
-
-pub ruleset all = (needs, orders-nets, orders-ports, orders-switches, orders-all)
