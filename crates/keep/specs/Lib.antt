@@ -1,0 +1,4 @@
+pub mod Gains
+pub mod Held
+pub mod Covered
+pub mod Turns
