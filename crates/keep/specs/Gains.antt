@@ -45,7 +45,7 @@ gainOf n name a l = cond (isIn (a .key) (keysOf l)) (stay l) (gainFrom n name (a
 -- one port after the other
 unfoldable pub gains : ℕ → Bytes → List Aim → List Kept → Gain
 gains n name [] l = stay l
-gains n name (a ∷ as) l = behind (gainOf n name a l) (gains n name as (gainOf n name a l .rows))
+gains n name (a ∷ xs) l = behind (gainOf n name a l) (gains n name xs (gainOf n name a l .rows))
 
 -- ---- laws
 
@@ -59,9 +59,9 @@ pub gains-none : (n : ℕ) (name : Bytes) (l : List Kept) → gains n name [] l 
 unfolding gains
 gains-none n name l = refl
 
-pub gains-more : (n : ℕ) (name : Bytes) (a : Aim) (as : List Aim) (l : List Kept) → gains n name (a ∷ as) l ≡ behind (gainOf n name a l) (gains n name as (gainOf n name a l .rows))
+pub gains-more : (n : ℕ) (name : Bytes) (a : Aim) (xs : List Aim) (l : List Kept) → gains n name (a ∷ xs) l ≡ behind (gainOf n name a l) (gains n name xs (gainOf n name a l .rows))
 unfolding gains
-gains-more n name a as l = refl
+gains-more n name a xs l = refl
 
 pub gains-one : (n : ℕ) (name : Bytes) (a : Aim) (l : List Kept) → gains n name (a ∷ []) l ≡ gainOf n name a l
 unfolding gains
@@ -70,12 +70,12 @@ gains-one n name a l = go (gainOf n name a l)
     go : (g : Gain) → behind g (stay (g .rows)) ≡ g
     go g = rw (append-nil (g .report), append-nil (g .remarks))
 
-pub gains-append : (n : ℕ) (name : Bytes) (as bs : List Aim) (l : List Kept) → gains n name (as ++ bs) l ≡ behind (gains n name as l) (gains n name bs (gains n name as l .rows))
+pub gains-append : (n : ℕ) (name : Bytes) (xs bs : List Aim) (l : List Kept) → gains n name (xs ++ bs) l ≡ behind (gains n name xs l) (gains n name bs (gains n name xs l .rows))
 unfolding gains
 gains-append n name [] bs l = refl
-gains-append n name (a ∷ as) bs l =
-    ap (behind (gainOf n name a l)) (gains-append n name as bs (gainOf n name a l .rows))
-    ∙ sym (behind-assoc (gainOf n name a l) (gains n name as (gainOf n name a l .rows)) (gains n name bs (gains n name as (gainOf n name a l .rows) .rows)))
+gains-append n name (a ∷ xs) bs l =
+    ap (behind (gainOf n name a l)) (gains-append n name xs bs (gainOf n name a l .rows))
+    ∙ sym (behind-assoc (gainOf n name a l) (gains n name xs (gainOf n name a l .rows)) (gains n name bs (gains n name xs (gainOf n name a l .rows) .rows)))
 
 -- what is kept stays
 one-grows : (n : ℕ) (name : Bytes) (a : Aim) (l : List Kept) → length l ≤ length (gainOf n name a l .rows)
@@ -87,7 +87,7 @@ one-grows n name a l = go (isIn (a .key) (keysOf l)) (a .net)
     go false none = omega arith
     go false (some w) = omega (arith, length-append l (kept n (a .key) w ∷ []))
 
-pub gains-grow : (n : ℕ) (name : Bytes) (as : List Aim) (l : List Kept) → length l ≤ length (gains n name as l .rows)
+pub gains-grow : (n : ℕ) (name : Bytes) (xs : List Aim) (l : List Kept) → length l ≤ length (gains n name xs l .rows)
 unfolding gains
 gains-grow n name [] l = omega arith
-gains-grow n name (a ∷ as) l = omega (arith, one-grows n name a l, gains-grow n name as (gainOf n name a l .rows))
+gains-grow n name (a ∷ xs) l = omega (arith, one-grows n name a l, gains-grow n name xs (gainOf n name a l .rows))

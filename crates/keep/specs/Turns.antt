@@ -29,11 +29,11 @@ counted-append n (w ∷ a) b = counted-append (more n) a b
 pub counted-is : (n : ℕ) (a : List Bytes) → n ≤ 513 → counted n a ≡ min (n + length a) 513
 unfolding counted more
 counted-is n [] h = omega arith
-counted-is n (w ∷ a) h = go (ltb n 513) refl
+counted-is n (w ∷ a) h = go (ltb n 513) refl (λ k l. counted-is k a l)
   where
-    go : (b : Bool) → ltb n 513 ≡ b → counted (cond b (n + 1) n) a ≡ min (n + suc (length a)) 513
-    go true e = counted-is (n + 1) a (omega (arith, ltb-true n 513 e)) ∙ omega arith
-    go false e = counted-is n a h ∙ omega (arith, ltb-false n 513 e)
+    go : (b : Bool) → ltb n 513 ≡ b → ((k : ℕ) → k ≤ 513 → counted k a ≡ min (k + length a) 513) → counted (cond b (n + 1) n) a ≡ min (n + suc (length a)) 513
+    go true e r = r (n + 1) (omega (arith, ltb-true n 513 e)) ∙ omega arith
+    go false e r = r n h ∙ omega (arith, ltb-false n 513 e)
 
 each-append : (a b : List Bytes) → each warningLine (a ++ b) ≡ each warningLine a ++ each warningLine b
 unfolding each
@@ -131,7 +131,16 @@ module _ (job mem : Bytes) (warn : Bool) where
             ready = a .ready o;
             so-far = behind (t .so-far) f-so-far;
             rows = a .rows o ∙ ap (λ (x : Gain). x .rows) at-rows;
-            warnings = a .warnings o ∙ rw (at-rows, t .warnings) (sym (counted-append (c₀ .warnings) (t .so-far .remarks) (f-so-far .remarks)));
-            text = a .text o ∙ rw (at-rows, t .text) (sym (rw (said-behind warn (t .so-far) f-so-far) (emit-append (out₀ ▸ c₀ .at) (said warn (t .so-far)) (said warn f-so-far))));
+            warnings =
+                a .warnings o
+                ∙ ap (λ (x : Gain). counted (c .warnings) (x .remarks)) at-rows
+                ∙ ap (λ (m : ℕ). counted m (f-so-far .remarks)) (t .warnings)
+                ∙ sym (counted-append (c₀ .warnings) (t .so-far .remarks) (f-so-far .remarks));
+            text =
+                a .text o
+                ∙ ap (λ (x : Gain). emit (out ▸ c .at) (said warn x)) at-rows
+                ∙ ap (λ (w : Out). emit w (said warn f-so-far)) (t .text)
+                ∙ sym (emit-append (out₀ ▸ c₀ .at) (said warn (t .so-far)) (said warn f-so-far))
+                ∙ ap (emit (out₀ ▸ c₀ .at)) (sym (said-behind warn (t .so-far) f-so-far));
             keeps = whole-is;
           }

@@ -190,6 +190,15 @@ fn with_net(job: &[u8], x: Isolated, n: Part) -> Isolated
     }
 }
 
+// A port more, with a net that is named in the job.
+fn keep_net(job: &[u8], ports: &mut [u32], c: Cover, x: Isolated, n: Part) -> Cover
+    requires { ⌜ Ready c (now ports) × (Fits x × (length (now job) < 2 ^ 32)) ⌝ }
+    ensures { λ r. ⌜ KeepSeen c (withNet x (heldPart (now (job .entry)) n)) (now (ports .entry)) r (now (ports .exit)) ⌝ }
+{
+    let y = with_net(job, x, n);
+    keep(ports, c, y)
+}
+
 // A port that a strategy aims at, with the parent's net that it has where that is of the port's own name.
 pub fn aim(
     out: &mut [u8],
@@ -214,6 +223,6 @@ pub fn aim(
     match net {
         Net::None => not_plain(out, warn, job, files, area, c, name, p),
         Net::Own => keep(ports, c, x),
-        Net::Of(s) => keep(ports, c, with_net(job, x, s)),
+        Net::Of(s) => keep_net(job, ports, c, x, s),
     }
 }
