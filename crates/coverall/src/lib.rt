@@ -68,7 +68,19 @@ pub fn cover_all(
     while i < n {
         let e = row(table, i);
         x = cover_one(
-            out, warn, job, index, count, k, files, area, ports, x, s, outputs, e,
+            out,
+            warn,
+            job,
+            index,
+            count,
+            k,
+            files,
+            area,
+            ports,
+            x,
+            s,
+            outputs,
+            e,
         );
         if x.over {
             return x;

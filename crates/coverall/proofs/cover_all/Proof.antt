@@ -14,7 +14,7 @@ use Rattle.coverall.proofs.cover_all.Statement.{statement}
 use Rattle.coverall.proofs.cover_all.Tie as tie
 
 abbrev Inv-loop : tie.InvT-loop
-Inv-loop out₀ warn job index count k files area ports₀ s outputs table n x₀ i₀ out ports x i = 
+Inv-loop out₀ warn job index count k files area ports₀ s outputs table n x₀ i₀ out ports x i =
     (length out ≡ length out₀)
     × ((length ports ≡ length ports₀)
     × Alls job (files ++ area) warn x₀ out₀ ports₀ (s .number) (nameOf (files ++ area) (s .name)) (aimsFor outputs (modules job index count) (moduleRow job index k)) table n x out ports i)
