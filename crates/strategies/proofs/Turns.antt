@@ -25,6 +25,7 @@ use Rattle.keep.specs.Gains.{Aim, Gain, behind, gains}
 use Rattle.keep.specs.Covered.{counted, Ready, saidBy, said, Answer}
 use Rattle.keep.specs.Turns.{said-behind, counted-append}
 use Rattle.keep.specs.declared.Cover.{Cover}
+use Rattle.cover.specs.Found.{Asks}
 use Rattle.cover.specs.declared.Strategy.{Strategy}
 use Rattle.clamps.specs.Values.{storedName}
 use Rattle.clamps.specs.Laws.{stored-is}
@@ -100,4 +101,5 @@ module _ (job mem : Bytes) (warn : Bool) (c : Cover) (out : Bytes) (number : ℕ
       nothing-more : (k : ℕ) (ws : List Bytes) → counted k ws ≡ counted k (ws ++ [])
       nothing-more k ws = rw (append-nil ws)
 
-pub ruleset elements = (needs, elements-over, elements-line)
+pub elements-asked : (job files area : Bytes) (count k number : ℕ) (x : Isolation) (s : Strategy) → s ≡ strategyOf number x → Asks job files area count k number → Asks job files area count k (s .number)
+elements-asked job files area count k number x s e a = rw e a

@@ -1,4 +1,4 @@
-// One strategy after the other: those with elements first, otherwise in order of creation.
+// A strategy with its elements: the ports that it covers, and its line.
 ghost use Prim.Native.Nat.{_≤_};
 ghost use mathlib.Core.Path.{_≡_};
 ghost use mathlib.Core.List.{_++_, flatMap};
@@ -24,7 +24,7 @@ use store::state::Isolation;
 use store::stored::Maybe;
 
 // What is given, as a name.
-fn given(m: Maybe) -> Name
+pub fn given(m: Maybe) -> Name
     ensures { λ r. ⌜ r ≡ givenName m ⌝ }
 {
     match m {
@@ -45,7 +45,7 @@ fn by_number(number: usize, x: Isolation) -> Strategy
 }
 
 // A strategy with these elements, each an instance where `outputs` is set, and its line.
-fn in_elements(
+pub fn in_elements(
     out: &mut [u8],
     warn: bool,
     job: &[u8],
@@ -68,7 +68,20 @@ fn in_elements(
 {
     let s = by_number(number, x);
     let a = cover_all(
-        out, warn, job, index, count, k, files, area, ports, c, s, outputs, table, n,
+        out,
+        warn,
+        job,
+        index,
+        count,
+        k,
+        files,
+        area,
+        ports,
+        c,
+        s,
+        outputs,
+        table,
+        n,
     );
     if a.over {
         return a;
