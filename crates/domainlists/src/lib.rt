@@ -22,7 +22,7 @@ use store::stored::Stored;
 use store::stored::span;
 
 // Puts the entries of a stored value, each below a stored scope, behind the first n names of a table.
-fn put_below<'a>(
+pub fn put_below<'a>(
     files: &'a [u8],
     area: &'a [u8],
     scope: Stored,
