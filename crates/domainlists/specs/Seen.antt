@@ -68,13 +68,13 @@ unfolding total flatMap retentionOf
 total-flat mem [] = refl
 total-flat mem (x ∷ l) = ap (λ (n : ℕ). length (entriesOf mem x) + n) (total-flat mem l) ∙ sym (length-append (entriesOf mem x) (flatMap (entriesOf mem) l))
 
-module _ (files area : Bytes) (nums : List ℕ) (s : State) (o : Orders files area nums s) (table : List ℕ) where
-  elements-few : Within (λ (d : Domain). length (domainOf (files ++ area) d .elements)) 65 (take (s .domains .n) (s .domains .all))
+module _ (files area : Bytes) (nums : List ℕ) (s : State) (o : Orders files area nums s) where
+  pub elements-few : Within (λ (d : Domain). length (domainOf (files ++ area) d .elements)) 65 (take (s .domains .n) (s .domains .all))
   unfolding modelOf
   elements-few = within-map (λ (d : Domainʳ). length (d .elements)) (domainOf (files ++ area)) 65 (take (s .domains .n) (s .domains .all)) (o .few .domains)
 
-  pub orders-domain : (i : ℕ) (d : Domain) → i < s .domains .n → 325 ≤ length table → OfDomain files area (getD (s .domains .all) i d) table
-  orders-domain i d h room =
+  pub orders-domain : (table : List ℕ) (i : ℕ) (d : Domain) → i < s .domains .n → 325 ≤ length table → OfDomain files area (getD (s .domains .all) i d) table
+  orders-domain table i d h room =
       let e : ofDomain (reachOf (length files)) (getD (s .domains .all) i d) ≤ length (files ++ area) = holds-at (ofDomain (reachOf (length files))) (length (files ++ area)) (s .domains .n) (s .domains .all) (domains-hold files area nums s o) i d h in
       let l : s .domains .n ≤ length (s .domains .all) = holds-long (ofDomain (reachOf (length files))) (length (files ++ area)) (s .domains .n) (s .domains .all) (domains-hold files area nums s o) in
       record { small = o .small; strings = e; few = within-get (λ (x : Domain). length (domainOf (files ++ area) x .elements)) (s .domains .all) (s .domains .n) i d elements-few h l; room = room }
@@ -83,5 +83,5 @@ module _ (files area : Bytes) (nums : List ℕ) (s : State) (o : Orders files ar
   unfolding modelOf
   retained-few = rw (total-flat (files ++ area) (take (s .retentions .n) (s .retentions .all))) at (o .few .retained)
 
-  pub orders-retentions : 5120 ≤ length table → OfRetentions files area (s .retentions) table
-  orders-retentions room = record { small = o .small; holds = retentions-hold files area nums s o; few = retained-few; room = room }
+  pub orders-retentions : (table : List ℕ) → 5120 ≤ length table → OfRetentions files area (s .retentions) table
+  orders-retentions table room = record { small = o .small; holds = retentions-hold files area nums s o; few = retained-few; room = room }
