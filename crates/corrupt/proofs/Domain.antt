@@ -21,7 +21,9 @@ use Rattle.design.specs.Lookup.{moduleAt}
 use Rattle.design.specs.Paths.{dotted, elementPath, filledParts}
 use Rattle.walk.specs.Walk.{corruptible, modulesEntered, sumOver, retainedPaths, elementList, domainList, elementEntered, domainEntered}
 use Rattle.paths.specs.Sizes.{name-short}
+use Rattle.pathnumber.specs.Number.{number}
 use Rattle.listing.specs.declared.Walk.{Walk}
+use Rattle.listing.specs.Flags.{flagged-none}
 use Rattle.listing.specs.Listing.{cut, pathsOf, Ascends, cost, nowhere, Ready, Answer}
 use Rattle.listing.specs.Turns.{Turn, turn-end, turn-stop, turn-next}
 use Rattle.corrupt.specs.Corrupt.{Given, DomainGiven, Walked}
@@ -29,6 +31,23 @@ use Rattle.corrupt.specs.Corrupt.{Given, DomainGiven, Walked}
 element-path : (e : Bytes) → elementPath [] e ≡ dotted e
 element-path [] = refl
 element-path (b ∷ e) = refl
+
+-- what is lent, once the flags are cleared
+pub domain-cleared : (job : Bytes) (index : List ℕ) (count k : ℕ) (files area : Bytes) (n m prefix : ℕ) (tail text : Bytes) (ends ends′ : List ℕ) → DomainGiven job index count k files area n m prefix tail text ends → length ends′ ≡ length ends → DomainGiven job index count k files area n m prefix tail text ends′
+domain-cleared job index count k files area n m prefix tail text ends ends′ g e =
+    record {
+      few = g .few;
+      row = g .row;
+      job-small = g .job-small;
+      memory-small = g .memory-small;
+      entries-few = g .entries-few;
+      elements-few = g .elements-few;
+      prefix-small = g .prefix-small;
+      tail-long = g .tail-long;
+      text-long = g .text-long;
+      ends-long = omega (arith, g .ends-long, e);
+      short = g .short;
+    }
 
 -- the elements from row i on are left
 pub record Elements (job : Bytes) (index : List ℕ) (count k : ℕ) (files area : Bytes) (n : ℕ) (entries : List Bytes) (elements : List ℕ) (m prefix : ℕ) (tail₀ text₀ : Bytes) (ends₀ : List ℕ) (total : ℕ) (all : List Bytes) (text : Bytes) (ends : List ℕ) (w : Walk) (i : ℕ) : Type 0 where
@@ -63,6 +82,7 @@ module _ (job : Bytes) (index : List ℕ) (count k : ℕ) (files area : Bytes) (
             entered-few = omega arith;
             text-long = g .text-long;
             ends-long = g .ends-long;
+            flagged = flagged-none ends₀;
             small = g .prefix-small;
           };
           entered-left = rw (sub-zero m) (omega arith);
@@ -88,7 +108,7 @@ module _ (job : Bytes) (index : List ℕ) (count k : ℕ) (files area : Bytes) (
     pub element-fits : i < m → i + 1 < 2 ^ 64
     element-fits h = omega (arith, inv .given .elements-few)
 
-    module _ (h : i < m) (e : Name) (ee : e ≡ rowName elements i) where
+    module _ (l : i < m) (e : Name) (ee : e ≡ rowName elements i) where
       left-is : namesFrom mem elements i (m - i) ≡ nameOf mem e ∷ namesFrom mem elements (i + 1) (m - (i + 1))
       left-is =
           let z : m - i ≡ suc (m - (i + 1)) = omega arith in
@@ -121,8 +141,8 @@ module _ (job : Bytes) (index : List ℕ) (count k : ℕ) (files area : Bytes) (
         pub element-small : length files + length area < 2 ^ 32
         element-small = inv .given .memory-small
 
-        module _ (z : row ≡ 0 → ⊥) (elen : ℕ) (el : elen ≡ length (nameOf mem e)) where
-          pub element-walk : Given job index count (row - 1) 32 mem n e elen 0
+        module _ (z : row ≡ 0 → ⊥) (elen : ℕ) (el : elen ≡ length (nameOf mem e)) (h : ℕ) (eh : h ≡ number 0 (dotted (nameOf mem e))) where
+          pub element-walk : Given job index count (row - 1) 32 mem n e elen h 0
           element-walk =
               let g = inv .given in
               record {
@@ -130,6 +150,7 @@ module _ (job : Bytes) (index : List ℕ) (count k : ℕ) (files area : Bytes) (
                 row = omega (arith, seen .within, z);
                 entries-few = g .entries-few;
                 elen-is = el;
+                number-is = eh;
                 elen-small = omega (arith, el, name-short mem e, length-append files area, g .memory-small);
                 job-small = g .job-small;
                 room = omega arith;

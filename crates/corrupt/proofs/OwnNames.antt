@@ -36,6 +36,7 @@ use Rattle.design.specs.Lookup.{moduleNamed}
 use Rattle.design.specs.Ports.{losable}
 use Rattle.design.specs.Paths.{dotted}
 use Rattle.paths.specs.Pieces.{Sized}
+use Rattle.pathnumber.specs.Number.{number, number-on}
 use Rattle.listing.specs.declared.Walk.{Walk}
 use Rattle.listing.specs.Listing.{pathsOf, past, Within, Ready, Answer}
 use Rattle.listing.specs.Turns.{Turn, turn-end, turn-stop, turn-next, add-one-path}
@@ -92,12 +93,13 @@ own-over prefix s all text ends h r g =
     })
 
 -- the names behind the cursor are left
-pub record Names (job : Bytes) (index : List ℕ) (k : ℕ) (mem : Bytes) (e : Name) (elen : ℕ) (tail : Bytes) (prefix total : ℕ) (all : List Bytes) (w : Walk) (text : Bytes) (ends : List ℕ) (c : Cursor) : Type 0 where
+pub record Names (job : Bytes) (index : List ℕ) (k : ℕ) (mem : Bytes) (e : Name) (elen h : ℕ) (tail : Bytes) (num prefix total : ℕ) (all : List Bytes) (w : Walk) (text : Bytes) (ends : List ℕ) (c : Cursor) : Type 0 where
   pub turn : Turn prefix total all w text ends 0 (map (λ n. dotted (nameOf mem e) ++ (tail ++ n)) (losableFrom job index k c))
   pub cursor : CursorAt job index k c
-  pub given : OwnGiven job k mem e elen tail
+  pub given : OwnGiven job k mem e elen h tail
+  pub numbered : num ≡ number 0 (dotted (nameOf mem e) ++ tail)
 
-module _ (job : Bytes) (index : List ℕ) (k : ℕ) (mem : Bytes) (e : Name) (elen : ℕ) (tail : Bytes) (prefix : ℕ) where
+module _ (job : Bytes) (index : List ℕ) (k : ℕ) (mem : Bytes) (e : Name) (elen h : ℕ) (tail : Bytes) (num prefix : ℕ) where
   abbrev below : Bytes → Bytes
   below n = dotted (nameOf mem e) ++ (tail ++ n)
 
@@ -109,10 +111,10 @@ module _ (job : Bytes) (index : List ℕ) (k : ℕ) (mem : Bytes) (e : Name) (el
     entering = record { over = false; entered = s .entered + 1; count = s .count; end = s .end; used = s .used }
 
     pub enter-fits : (s .entered ≡ 4096 → ⊥) → s .entered + 1 < 2 ^ 64
-    enter-fits h = omega (arith, rd .entered-few)
+    enter-fits m = omega (arith, rd .entered-few)
 
-    pub names-start : OwnGiven job k mem e elen tail → (s .entered ≡ 4096 → ⊥) → (c : Cursor) → c ≡ cursor.Header (ports-from index k) false → Names job index k mem e elen tail prefix (s .entered + 1) all entering text ends c
-    names-start g h c ec =
+    pub names-start : OwnGiven job k mem e elen h tail → (s .entered ≡ 4096 → ⊥) → num ≡ number h tail → (c : Cursor) → c ≡ cursor.Header (ports-from index k) false → Names job index k mem e elen h tail num prefix (s .entered + 1) all entering text ends c
+    names-start g m en c ec =
         rw ec (record {
           turn = record {
             ready = record {
@@ -122,9 +124,10 @@ module _ (job : Bytes) (index : List ℕ) (k : ℕ) (mem : Bytes) (e : Name) (el
               end-low = rd .end-low;
               used-low = rd .used-low;
               few = rd .few;
-              entered-few = omega (arith, rd .entered-few, h);
+              entered-few = omega (arith, rd .entered-few, m);
               text-long = rd .text-long;
               ends-long = rd .ends-long;
+              flagged = rd .flagged;
               small = rd .small;
             };
             entered-left = add-zero (s .entered + 1);
@@ -132,9 +135,10 @@ module _ (job : Bytes) (index : List ℕ) (k : ℕ) (mem : Bytes) (e : Name) (el
           };
           cursor = tt;
           given = g;
+          numbered = en ∙ rw (g .number-is) (sym (number-on 0 (dotted (nameOf mem e)) tail));
         })
 
-  module _ (total : ℕ) (all : List Bytes) (w : Walk) (text : Bytes) (ends : List ℕ) (c : Cursor) (inv : Names job index k mem e elen tail prefix total all w text ends c) where
+  module _ (total : ℕ) (all : List Bytes) (w : Walk) (text : Bytes) (ends : List ℕ) (c : Cursor) (inv : Names job index k mem e elen h tail num prefix total all w text ends c) where
     pub names-row : k ≤ 128
     names-row = inv .given .row
 
@@ -143,13 +147,13 @@ module _ (job : Bytes) (index : List ℕ) (k : ℕ) (mem : Bytes) (e : Name) (el
 
     module _ (r : Step) (seen : LosableSeen job index k c r) where
       pub names-end : r ≡ step.End → Answer prefix total all w text ends
-      names-end h =
-          let z : losableFrom job index k c ≡ [] = sym (seen .says) ∙ rw h in
+      names-end z′ =
+          let z : losableFrom job index k c ≡ [] = sym (seen .says) ∙ rw z′ in
           turn-end prefix total all w text ends 0 (map below (losableFrom job index k c)) (inv .turn) refl (ap (map below) z)
 
-      module _ (n : Span) (next : Cursor) (h : r ≡ step.Name n next) where
+      module _ (n : Span) (next : Cursor) (eq : r ≡ step.Name n next) where
         left-is : losableFrom job index k c ≡ spanned job n ∷ losableFrom job index k next
-        left-is = sym (seen .says) ∙ rw h
+        left-is = sym (seen .says) ∙ rw eq
 
         pub names-less : length (losableFrom job index k next) < length (losableFrom job index k c)
         names-less = omega (arith, ap length left-is)
@@ -157,6 +161,9 @@ module _ (job : Bytes) (index : List ℕ) (k : ℕ) (mem : Bytes) (e : Name) (el
         module _ (p : Bytes) (ep : p ≡ spanned job n) where
           pub names-sized : Sized mem e elen tail p
           names-sized = record { is = inv .given .elen-is; fits = omega (arith, inv .given .fits, ap length ep, spanned-short job n) }
+
+          pub names-number : num ≡ number 0 (dotted (nameOf mem e) ++ tail)
+          names-number = inv .numbered
 
           pub names-ready : Ready prefix w text ends
           names-ready = inv .turn .ready
@@ -171,14 +178,17 @@ module _ (job : Bytes) (index : List ℕ) (k : ℕ) (mem : Bytes) (e : Name) (el
             pub names-stop : w′ .over ≡ true → Answer prefix total all w′ text′ ends′
             names-stop o = turn-stop prefix total all w text ends 0 (map below (losableFrom job index k c)) (inv .turn) 0 0 (below p ∷ []) (map below (losableFrom job index k next)) refl rest-is w′ text′ ends′ one o
 
-            pub names-on : w′ .over ≡ false → Names job index k mem e elen tail prefix total all w′ text′ ends′ next
+            pub names-on : w′ .over ≡ false → Names job index k mem e elen h tail num prefix total all w′ text′ ends′ next
             names-on o =
                 record {
                   turn = turn-next prefix total all w text ends 0 (map below (losableFrom job index k c)) (inv .turn) 0 0 (below p ∷ []) (map below (losableFrom job index k next)) refl rest-is w′ text′ ends′ one o;
-                  cursor = rw h at (seen .goes);
+                  cursor = rw eq at (seen .goes);
                   given = inv .given;
+                  numbered = inv .numbered;
                 }
 
-pub ruleset owns = (needs, own-over, enter-fits, names-start, names-row, names-cursor, names-end, names-less, names-sized, names-ready, names-stop, names-on)
+pub ruleset owns = (needs, own-over, enter-fits, names-start, names-row, names-cursor, names-end, names-less, names-sized, names-number, names-ready, names-stop, names-on)
+
+pub ruleset owns-stop = (needs, names-stop)
 
 pub ruleset owns-on = (needs, names-on)

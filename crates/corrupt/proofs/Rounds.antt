@@ -163,18 +163,18 @@ module _ (d : List Module) (R : List Bytes) (left : ℕ) (f g : Bytes → Bytes)
   lists-same (i ∷ l) = let h : listsBy d R left f i ≡ listsBy d R left g i = rw (same-paths (i .name)) in ap₂ _++_ h (lists-same l)
 
 -- the instances of the lines from `at` up to `end` are left; what is below module k's path begins with the first u bytes of the tail
-pub record Round (job : Bytes) (index : List ℕ) (count k left : ℕ) (mem : Bytes) (n : ℕ) (entries : List Bytes) (e : Name) (elen t u prefix : ℕ) (tail₀ : Bytes) (total : ℕ) (all : List Bytes) (tail text : Bytes) (ends : List ℕ) (w : Walk) (at end : ℕ) : Type 0 where
+pub record Round (job : Bytes) (index : List ℕ) (count k left : ℕ) (mem : Bytes) (n : ℕ) (entries : List Bytes) (e : Name) (elen h t u prefix : ℕ) (tail₀ : Bytes) (total : ℕ) (all : List Bytes) (tail text : Bytes) (ends : List ℕ) (w : Walk) (at end : ℕ) : Type 0 where
   pub turn : Turn prefix total all w text ends
       (sumOver (visitsBy (modules job index count) (retainedPaths [] entries) (left - 1) (λ x. dotted (nameOf mem e) ++ (take u tail₀ ++ x))) (instsIn (section job at end)))
       (flatMap (listsBy (modules job index count) (retainedPaths [] entries) (left - 1) (λ x. dotted (nameOf mem e) ++ (take u tail₀ ++ x))) (instsIn (section job at end)))
   pub front : take u tail ≡ take u tail₀
   pub long : 2081 ≤ length tail
-  pub given : Given job index count k left mem n e elen t
+  pub given : Given job index count k left mem n e elen h t
   pub low : u ≤ t + 1
   pub more : 0 < left
   pub short : (i : Inst) → Mem i (instsIn (section job at end)) → length (i .name) ≤ 64
 
-module _ (job : Bytes) (index : List ℕ) (count k left : ℕ) (mem : Bytes) (n : ℕ) (entries : List Bytes) (e : Name) (elen t u prefix : ℕ) (tail₀ : Bytes) where
+module _ (job : Bytes) (index : List ℕ) (count k left : ℕ) (mem : Bytes) (n : ℕ) (entries : List Bytes) (e : Name) (elen h t u prefix : ℕ) (tail₀ : Bytes) where
   abbrev pub d : List Module
   d = modules job index count
 
@@ -190,8 +190,8 @@ module _ (job : Bytes) (index : List ℕ) (count k left : ℕ) (mem : Bytes) (n 
   abbrev pub row-lists : List Bytes
   row-lists = flatMap (listsBy d R (left - 1) child) (moduleRow job index k .insts)
 
-  pub round-start : (tail : Bytes) → Given job index count k left mem n e elen t → 2081 ≤ length tail → Stemmed elen t tail tail₀ u → (left ≡ 0 → ⊥) → (v : ℕ) (ps : List Bytes) (w : Walk) (text : Bytes) (ends : List ℕ) → Answer prefix v ps w text ends → w .over ≡ false
-      → (at end : ℕ) → at ≡ insts-from index k → end ≡ insts-end index k → Round job index count k left mem n entries e elen t u prefix tail₀ (w .entered + row-visits) (addAll (pathsOf text ends (w .count)) row-lists) tail₀ text ends w at end
+  pub round-start : (tail : Bytes) → Given job index count k left mem n e elen h t → 2081 ≤ length tail → Stemmed elen t tail tail₀ u → (left ≡ 0 → ⊥) → (v : ℕ) (ps : List Bytes) (w : Walk) (text : Bytes) (ends : List ℕ) → Answer prefix v ps w text ends → w .over ≡ false
+      → (at end : ℕ) → at ≡ insts-from index k → end ≡ insts-end index k → Round job index count k left mem n entries e elen h t u prefix tail₀ (w .entered + row-visits) (addAll (pathsOf text ends (w .count)) row-lists) tail₀ text ends w at end
   round-start tail g l st z v ps w text ends a o at end ea ee =
       let is : moduleRow job index k .insts ≡ instsIn (section job at end) = insts-are job index k ∙ rw (ea, ee) in
       let tl : t ≤ length tail = omega (arith, g .room) in
@@ -205,7 +205,7 @@ module _ (job : Bytes) (index : List ℕ) (count k left : ℕ) (mem : Bytes) (n 
         short = λ i at-i. g .short k (g .row) i (rw is at-i);
       }
 
-  module _ (total : ℕ) (all : List Bytes) (tail text : Bytes) (ends : List ℕ) (w : Walk) (at end : ℕ) (inv : Round job index count k left mem n entries e elen t u prefix tail₀ total all tail text ends w at end) where
+  module _ (total : ℕ) (all : List Bytes) (tail text : Bytes) (ends : List ℕ) (w : Walk) (at end : ℕ) (inv : Round job index count k left mem n entries e elen h t u prefix tail₀ total all tail text ends w at end) where
     pub round-few : count ≤ 128
     round-few = inv .given .few
 
@@ -245,7 +245,7 @@ module _ (job : Bytes) (index : List ℕ) (count k left : ℕ) (mem : Bytes) (n 
           unfolding entered
           entered-is = sym (m .says)
 
-          pub round-pass : row ≡ 0 → Round job index count k left mem n entries e elen t u prefix tail₀ total all tail text ends w next end
+          pub round-pass : row ≡ 0 → Round job index count k left mem n entries e elen h t u prefix tail₀ total all tail text ends w next end
           unfolding rowIs
           round-pass z =
               let none-here : entered d this ≡ none = entered-is ∙ rw z in
@@ -277,7 +277,7 @@ module _ (job : Bytes) (index : List ℕ) (count k left : ℕ) (mem : Bytes) (n 
             place : v ≡ u + length p
             place = place-is tail tail₂ p u v fits ev
 
-            pub round-given : Given job index count (row - 1) (left - 1) mem n e elen v
+            pub round-given : Given job index count (row - 1) (left - 1) mem n e elen h v
             round-given =
                 let g = inv .given in
                 record {
@@ -285,6 +285,7 @@ module _ (job : Bytes) (index : List ℕ) (count k left : ℕ) (mem : Bytes) (n 
                   row = omega (arith, m .within, z);
                   entries-few = g .entries-few;
                   elen-is = g .elen-is;
+                  number-is = g .number-is;
                   elen-small = g .elen-small;
                   job-small = g .job-small;
                   room = omega (arith, g .room, place, short, inv .low, inv .more);
@@ -295,7 +296,7 @@ module _ (job : Bytes) (index : List ℕ) (count k left : ℕ) (mem : Bytes) (n 
             round-ready = inv .turn .ready
 
             pub round-long : length tail₂ ≡ length tail → 2081 ≤ length tail₂
-            round-long h = omega (arith, h, inv .long)
+            round-long hl = omega (arith, hl, inv .long)
 
             path-is : dotted (nameOf mem e) ++ take v tail₂ ≡ child (spanned job nm)
             path-is = ap (λ (x : Bytes). dotted (nameOf mem e) ++ x) (ap (λ y. take y tail₂) place ∙ front-on tail tail₂ p u v fits ev ∙ ap₂ _++_ (inv .front) ep)
@@ -315,14 +316,14 @@ module _ (job : Bytes) (index : List ℕ) (count k left : ℕ) (mem : Bytes) (n 
                   let l : u ≤ v = omega (arith, place) in
                   sym (take-take u v tail₃ l) ∙ ap (take u) (a .kept) ∙ take-take u v tail₂ l ∙ front-kept tail tail₂ p u v fits ev ∙ inv .front
 
-              pub round-on : w′ .over ≡ false → length tail₃ ≡ length tail → Round job index count k left mem n entries e elen t u prefix tail₀ total all tail₃ text′ ends′ w′ next end
-              round-on o h =
+              pub round-on : w′ .over ≡ false → length tail₃ ≡ length tail → Round job index count k left mem n entries e elen h t u prefix tail₀ total all tail₃ text′ ends′ w′ next end
+              round-on o hl =
                   record {
                     turn = turn-next prefix total all w text ends (sumOver (visitsBy d R (left - 1) child) (instsIn (section job at end))) (flatMap (listsBy d R (left - 1) child) (instsIn (section job at end))) (inv .turn)
                         (visitsBy d R (left - 1) child this) (sumOver (visitsBy d R (left - 1) child) (instsIn (section job next end))) (listsBy d R (left - 1) child this) (flatMap (listsBy d R (left - 1) child) (instsIn (section job next end)))
                         visits-left lists-left w′ text′ ends′ answer-is o;
                     front = round-front;
-                    long = omega (arith, h, inv .long);
+                    long = omega (arith, hl, inv .long);
                     given = inv .given;
                     low = inv .low;
                     more = inv .more;
@@ -331,11 +332,11 @@ module _ (job : Bytes) (index : List ℕ) (count k left : ℕ) (mem : Bytes) (n 
 
 -- ---- the whole
 
-module _ (job : Bytes) (index : List ℕ) (count k left : ℕ) (mem : Bytes) (n : ℕ) (entries : List Bytes) (e : Name) (elen t : ℕ) (tail : Bytes) (g : Given job index count k left mem n e elen t) (l : 2081 ≤ length tail) where
-  pub own-given : (tail₁ : Bytes) (u : ℕ) → Stemmed elen t tail tail₁ u → (q : Bytes) → q ≡ take u (drop 0 tail₁) → OwnGiven job k mem e elen q
+module _ (job : Bytes) (index : List ℕ) (count k left : ℕ) (mem : Bytes) (n : ℕ) (entries : List Bytes) (e : Name) (elen h t : ℕ) (tail : Bytes) (g : Given job index count k left mem n e elen h t) (l : 2081 ≤ length tail) where
+  pub own-given : (tail₁ : Bytes) (u : ℕ) → Stemmed elen t tail tail₁ u → (q : Bytes) → q ≡ take u (drop 0 tail₁) → OwnGiven job k mem e elen h q
   own-given tail₁ u st q eq =
       let low = stem-low mem e elen t tail tail₁ u st (g .elen-is) (omega (arith, g .room)) in
-      record { row = omega (arith, g .row, g .few); elen-is = g .elen-is; fits = omega (arith, g .elen-small, g .job-small, g .room, low .0, ap length eq, length-take u tail₁) }
+      record { row = omega (arith, g .row, g .few); elen-is = g .elen-is; number-is = g .number-is; fits = omega (arith, g .elen-small, g .job-small, g .room, low .0, ap length eq, length-take u tail₁) }
 
   module _ (p : Bytes) (ep : p ≡ take t (drop 0 tail)) (b : Bool) (eb : b ≡ isIn (dotted (nameOf mem e) ++ p) (retainedPaths [] entries)) (hb : b ≡ false) (tail₁ : Bytes) (u : ℕ) (st : Stemmed elen t tail tail₁ u) (q : Bytes) (eq : q ≡ take u (drop 0 tail₁))
       (prefix v : ℕ) (ps : List Bytes) (w₀ : Walk) (text₁ : Bytes) (ends₁ : List ℕ) (a : Answer prefix (v + 1) (addAll ps (map (λ x. dotted (nameOf mem e) ++ (q ++ x)) (losable (moduleRow job index k)))) w₀ text₁ ends₁) where
@@ -371,7 +372,7 @@ module _ (job : Bytes) (index : List ℕ) (count k left : ℕ) (mem : Bytes) (n 
         record { kept = kept; answer = rw (z, f .0, f .1) owned }
 
     pub walk-done : w₀ .over ≡ false → (left ≡ 0 → ⊥) → (r : Walk) (text : Bytes) (ends : List ℕ) (tail′ : Bytes)
-        → Answer prefix (w₀ .entered + row-visits job index count k left mem n entries e elen t u prefix tail₁) (addAll (pathsOf text₁ ends₁ (w₀ .count)) (row-lists job index count k left mem n entries e elen t u prefix tail₁)) r text ends
+        → Answer prefix (w₀ .entered + row-visits job index count k left mem n entries e elen h t u prefix tail₁) (addAll (pathsOf text₁ ends₁ (w₀ .count)) (row-lists job index count k left mem n entries e elen h t u prefix tail₁)) r text ends
         → take u tail′ ≡ take u tail₁ → Walked job index count k left mem entries e tail tail′ t prefix v ps r text ends
     walk-done o z r text ends tail′ b′ f′ =
         let y : left ≡ suc (left - 1) = omega arith in
@@ -380,20 +381,20 @@ module _ (job : Bytes) (index : List ℕ) (count k left : ℕ) (mem : Bytes) (n 
         let c = child-is mem e elen t tail tail₁ u st (g .elen-is) tail-in in
         let vs = visits-same (modules job index count) (retainedPaths [] entries) (left - 1) (λ x. dotted (nameOf mem e) ++ (take u tail₁ ++ x)) (childPath path) (λ x. sym (c x)) (m .insts) in
         let ls = lists-same (modules job index count) (retainedPaths [] entries) (left - 1) (λ x. dotted (nameOf mem e) ++ (take u tail₁ ++ x)) (childPath path) (λ x. sym (c x)) (m .insts) in
-        let j = answer-on prefix (v + 1) (addAll ps (own m path)) w₀ text₁ ends₁ owned o (row-visits job index count k left mem n entries e elen t u prefix tail₁) (row-lists job index count k left mem n entries e elen t u prefix tail₁) r text ends b′ in
-        let ne : v + 1 + row-visits job index count k left mem n entries e elen t u prefix tail₁ ≡ v + modulesEntered (modules job index count) (retainedPaths [] entries) left m path = sym (ap (λ x. v + modulesEntered (modules job index count) (retainedPaths [] entries) x m path) y ∙ ap (λ x. v + x) (f .0) ∙ omega (arith, vs)) in
-        let le : addAll (addAll ps (own m path)) (row-lists job index count k left mem n entries e elen t u prefix tail₁) ≡ addAll ps (corruptible (modules job index count) (retainedPaths [] entries) left m path) =
-        sym (ap (λ x. addAll ps (corruptible (modules job index count) (retainedPaths [] entries) x m path)) y ∙ ap (addAll ps) (f .1 ∙ ap (λ (x : List Bytes). own m path ++ x) (sym ls)) ∙ addAll-append ps (own m path) (row-lists job index count k left mem n entries e elen t u prefix tail₁)) in
+        let j = answer-on prefix (v + 1) (addAll ps (own m path)) w₀ text₁ ends₁ owned o (row-visits job index count k left mem n entries e elen h t u prefix tail₁) (row-lists job index count k left mem n entries e elen h t u prefix tail₁) r text ends b′ in
+        let ne : v + 1 + row-visits job index count k left mem n entries e elen h t u prefix tail₁ ≡ v + modulesEntered (modules job index count) (retainedPaths [] entries) left m path = sym (ap (λ x. v + modulesEntered (modules job index count) (retainedPaths [] entries) x m path) y ∙ ap (λ x. v + x) (f .0) ∙ omega (arith, vs)) in
+        let le : addAll (addAll ps (own m path)) (row-lists job index count k left mem n entries e elen h t u prefix tail₁) ≡ addAll ps (corruptible (modules job index count) (retainedPaths [] entries) left m path) =
+        sym (ap (λ x. addAll ps (corruptible (modules job index count) (retainedPaths [] entries) x m path)) y ∙ ap (addAll ps) (f .1 ∙ ap (λ (x : List Bytes). own m path ++ x) (sym ls)) ∙ addAll-append ps (own m path) (row-lists job index count k left mem n entries e elen h t u prefix tail₁)) in
         record {
           kept = sym (take-take t u tail′ (low .1)) ∙ ap (take t) f′ ∙ take-take t u tail₁ (low .1) ∙ kept;
           answer = rw (ne, le) at j;
         }
 
-pub stem-room : (job : Bytes) (index : List ℕ) (count k left : ℕ) (mem : Bytes) (n : ℕ) (e : Name) (elen t : ℕ) (tail : Bytes) → Given job index count k left mem n e elen t → 2081 ≤ length tail → (elen < 2 ^ 36) × (t < length tail)
-stem-room job index count k left mem n e elen t tail g l = (g .elen-small, omega (arith, g .room))
+pub stem-room : (job : Bytes) (index : List ℕ) (count k left : ℕ) (mem : Bytes) (n : ℕ) (e : Name) (elen h t : ℕ) (tail : Bytes) → Given job index count k left mem n e elen h t → 2081 ≤ length tail → (elen < 2 ^ 36) × (t < length tail)
+stem-room job index count k left mem n e elen h t tail g l = (g .elen-small, omega (arith, g .room))
 
-pub module-row : (job : Bytes) (index : List ℕ) (count k left : ℕ) (mem : Bytes) (n : ℕ) (e : Name) (elen t : ℕ) → Given job index count k left mem n e elen t → k ≤ 128
-module-row job index count k left mem n e elen t g = omega (arith, g .row, g .few)
+pub module-row : (job : Bytes) (index : List ℕ) (count k left : ℕ) (mem : Bytes) (n : ℕ) (e : Name) (elen h t : ℕ) → Given job index count k left mem n e elen h t → k ≤ 128
+module-row job index count k left mem n e elen h t g = omega (arith, g .row, g .few)
 
 pub ruleset retaineds = (needs, walk-retained)
 

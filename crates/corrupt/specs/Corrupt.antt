@@ -16,7 +16,8 @@ use Rattle.design.specs.Lists.{addAll}
 use Rattle.design.specs.Paths.{dotted}
 use Rattle.walk.specs.Limits.{most-depth, most-paths, most-path-bytes}
 use Rattle.walk.specs.Walk.{corruptible, modulesEntered, retainedPaths}
-use Rattle.listing.specs.Listing.{Answer}
+use Rattle.pathnumber.specs.Number.{number}
+use Rattle.listing.specs.Listing.{flag-count, Answer}
 use Rattle.listing.specs.declared.Walk.{Walk}
 
 -- the names of instances have at most 64 bytes
@@ -24,17 +25,19 @@ abbrev pub Short : Bytes → List ℕ → ℕ → Type 0
 Short job index count = (k : ℕ) → k < count → (i : Inst) → Mem i (moduleRow job index k .insts) → length (i .name) ≤ 64
 
 -- for the names of one module
-pub record OwnGiven (job : Bytes) (k : ℕ) (mem : Bytes) (e : Name) (elen : ℕ) (tail : Bytes) : Type 0 where
+pub record OwnGiven (job : Bytes) (k : ℕ) (mem : Bytes) (e : Name) (elen h : ℕ) (tail : Bytes) : Type 0 where
   pub row : k ≤ 128
   pub elen-is : elen ≡ length (nameOf mem e)
+  pub number-is : h ≡ number 0 (dotted (nameOf mem e))
   pub fits : elen + (length tail + length job) < 2 ^ 40
 
 -- for the walk from one module: a tail of 2,080 bytes has room for the instances left, each with a dot
-pub record Given (job : Bytes) (index : List ℕ) (count k left : ℕ) (mem : Bytes) (n : ℕ) (e : Name) (elen t : ℕ) : Type 0 where
+pub record Given (job : Bytes) (index : List ℕ) (count k left : ℕ) (mem : Bytes) (n : ℕ) (e : Name) (elen h t : ℕ) : Type 0 where
   pub few : count ≤ 128
   pub row : k < count
   pub entries-few : n ≤ 65536
   pub elen-is : elen ≡ length (nameOf mem e)
+  pub number-is : h ≡ number 0 (dotted (nameOf mem e))
   pub elen-small : elen < 2 ^ 36
   pub job-small : length job < 2 ^ 32
   pub room : t + 65 * left ≤ 65 * most-depth
@@ -51,7 +54,7 @@ pub record DomainGiven (job : Bytes) (index : List ℕ) (count k : ℕ) (files a
   pub prefix-small : prefix < 2 ^ 32
   pub tail-long : 2081 ≤ length tail
   pub text-long : most-path-bytes ≤ length text
-  pub ends-long : most-paths ≤ length ends
+  pub ends-long : most-paths + flag-count ≤ length ends
   pub short : Short job index count
 
 -- the dot behind a path of elen and t bytes that is not empty

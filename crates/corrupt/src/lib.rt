@@ -51,7 +51,7 @@ fn stem(tail: &mut [u8], elen: usize, t: usize) -> usize
     t + 1
 }
 
-// The names that module k loses itself, below the element and the tail; the module is counted.
+// The names that module k loses itself, below the element and the tail; the module is counted. `h` is the element's number.
 fn own(
     job: &[u8],
     index: &[u32],
@@ -60,13 +60,14 @@ fn own(
     area: &[u8],
     e: Name,
     elen: usize,
+    h: usize,
     tail: &[u8],
     prefix: usize,
     text: &mut [u8],
     ends: &mut [u32],
     s: Walk,
 ) -> Walk
-    requires { ⌜ OwnGiven (now job) k (now files ++ now area) e elen (now tail) × Ready prefix s (now text) (now ends) ⌝ }
+    requires { ⌜ OwnGiven (now job) k (now files ++ now area) e elen h (now tail) × Ready prefix s (now text) (now ends) ⌝ }
     ensures { λ r. ⌜ Answer prefix (s .entered + 1) (addAll (pathsOf (now (text .entry)) (now (ends .entry)) (s .count)) (map (λ n. dotted (nameOf (now (files .entry) ++ now (area .entry)) e) ++ (now (tail .entry) ++ n)) (losable (moduleRow (now (job .entry)) (now (index .entry)) k)))) r (now (text .exit)) (now (ends .exit)) ⌝ }
 {
     let entered = s.entered;
@@ -80,6 +81,7 @@ fn own(
         end: s.end,
         used: s.used,
     };
+    let number = pathnumber::number_on(h, tail);
     let mut c = ports::first(index, k);
     loop {
         let r = ports::next_losable(job, index, k, c);
@@ -87,7 +89,7 @@ fn own(
             return w;
         };
         let n = lines::part_of(job, name);
-        w = listing::add(files, area, e, elen, tail, n, prefix, text, ends, w);
+        w = listing::add(files, area, e, elen, tail, n, number, prefix, text, ends, w);
         let over = w.over;
         if over {
             return w;
@@ -96,7 +98,7 @@ fn own(
     }
 }
 
-// The walk from module k, whose path is the element and the first t bytes of the tail, with `left` instances more to go down.
+// The walk from module k, whose path is the element and the first t bytes of the tail, with `left` instances more to go down. `h` is the element's number.
 fn corruptible(
     job: &[u8],
     index: &[u32],
@@ -110,6 +112,7 @@ fn corruptible(
     below: bool,
     e: Name,
     elen: usize,
+    h: usize,
     tail: &mut [u8],
     t: usize,
     prefix: usize,
@@ -117,7 +120,7 @@ fn corruptible(
     ends: &mut [u32],
     s: Walk,
 ) -> Walk
-    requires { ⌜ Given (now job) (now index) count k left (now files ++ now area) n e elen t × ((2081 ≤ length (now tail)) × Ready prefix s (now text) (now ends)) ⌝ }
+    requires { ⌜ Given (now job) (now index) count k left (now files ++ now area) n e elen h t × ((2081 ≤ length (now tail)) × Ready prefix s (now text) (now ends)) ⌝ }
     ensures { λ r. ⌜ Walked (now (job .entry)) (now (index .entry)) count k left (now (files .entry) ++ now (area .entry)) (entriesBelow below (tableNames (now (files .entry) ++ now (area .entry)) (now (retained .entry)) n)) e (now (tail .entry)) (now (tail .exit)) t prefix (s .entered) (pathsOf (now (text .entry)) (now (ends .entry)) (s .count)) r (now (text .exit)) (now (ends .exit)) ⌝ }
 {
     if paths::entry::retained(
@@ -141,6 +144,7 @@ fn corruptible(
         area,
         e,
         elen,
+        h,
         text::part::part(tail, 0, u),
         prefix,
         text,
@@ -186,6 +190,7 @@ fn corruptible(
             below,
             e,
             elen,
+            h,
             tail,
             v,
             prefix,
@@ -202,7 +207,7 @@ fn corruptible(
 }
 
 // The paths that a domain loses, whose elements are the first m names of a table and are looked up from module k. `retained` has n entries;
-// `below` says that the scope is not the top, and `prefix` what its path adds to each path.
+// `below` says that the scope is not the top, and `prefix` what its path adds to each path. No flag behind the ends is set at first.
 pub fn domain_paths(
     job: &[u8],
     index: &[u32],
@@ -223,6 +228,7 @@ pub fn domain_paths(
     requires { ⌜ DomainGiven (now job) (now index) count k (now files) (now area) n m prefix (now tail) (now text) (now ends) ⌝ }
     ensures { λ r. ⌜ Answer prefix (domainEntered (modules (now (job .entry)) (now (index .entry)) count) (moduleRow (now (job .entry)) (now (index .entry)) k) [] (entriesBelow below (tableNames (now (files .entry) ++ now (area .entry)) (now (retained .entry)) n)) (tableNames (now (files .entry) ++ now (area .entry)) (now (elements .entry)) m)) (domainList (modules (now (job .entry)) (now (index .entry)) count) (moduleRow (now (job .entry)) (now (index .entry)) k) [] (entriesBelow below (tableNames (now (files .entry) ++ now (area .entry)) (now (retained .entry)) n)) (tableNames (now (files .entry) ++ now (area .entry)) (now (elements .entry)) m)) r (now (text .exit)) (now (ends .exit)) ⌝ }
 {
+    out::clear::clear_nums(ends, 1024);
     let mut w = listing::start();
     let mut i = 0;
     while i < m {
@@ -233,6 +239,7 @@ pub fn domain_paths(
             continue;
         }
         let elen = paths::entry::size(files, area, e);
+        let h = pathnumber::element_number(files, area, e);
         w = corruptible(
             job,
             index,
@@ -246,6 +253,7 @@ pub fn domain_paths(
             below,
             e,
             elen,
+            h,
             tail,
             0,
             prefix,

@@ -165,5 +165,17 @@ pub fn add(
     if flagged(files, area, e, elen, tail, name, flag, text, ends, count) {
         return s;
     }
-    add_new(files, area, e, elen, tail, name, flag, prefix, text, ends, s)
+    add_new(
+        files,
+        area,
+        e,
+        elen,
+        tail,
+        name,
+        flag,
+        prefix,
+        text,
+        ends,
+        s,
+    )
 }

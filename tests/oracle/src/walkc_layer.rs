@@ -141,7 +141,7 @@ impl Question<'_> {
         let prefix = if self.scope.is_empty() { 0 } else { front.len() + 1 };
         let mut tail = vec![0xAAu8; 2081];
         let mut text = vec![0xAAu8; 32768];
-        let mut ends = vec![0xAAAA_AAAAu32; 1024];
+        let mut ends = vec![0xAAAA_AAAAu32; 1024 + 16384];
         let (mut entered, mut n, mut end, mut used) = (0, 0, 0, 0);
         let then = Instant::now();
         let over = unsafe {
@@ -191,7 +191,7 @@ impl Question<'_> {
             at == end
                 && used == end + n * prefix
                 && text[at..].iter().all(|&b| b == 0xAA)
-                && ends[n..].iter().all(|&e| e == 0xAAAA_AAAA)
+                && ends[n..1024].iter().all(|&e| e == 0xAAAA_AAAA)
         );
         (Came::To(entered, out), took)
     }

@@ -44,11 +44,11 @@ abbrev cs : ℕ → lts.Claims
 cs t = (part-reads.Asked, part-reads.Learnt, retained-reads.Asked, retained-reads.Learnt, stem-reads.Asked, stem-reads.Learnt, own-reads.Asked, own-reads.Learnt, insts-end-reads.Asked, insts-end-reads.Learnt, insts-from-reads.Asked, insts-from-reads.Learnt, next-inst-reads.Asked, next-inst-reads.Learnt, entering-reads.Asked, entering-reads.Learnt, part-of-reads.Asked, part-of-reads.Learnt, put-reads.Asked, put-reads.Learnt, self-below t, self.Post)
 
 abbrev Inv-loop : lts.InvT-loop
-Inv-loop job index count k left files area retained n below e elen tail₀ t prefix text₀ ends₀ u w₀ full end at₀ tail text ends w at =
-    (length tail ≡ length tail₀) × ((length text ≡ length text₀) × ((length ends ≡ length ends₀) × Round job index count k left (files ++ area) n (entriesBelow below (tableNames (files ++ area) retained n)) e elen t u prefix tail₀ (w₀ .entered + row-visits job index count k left (files ++ area) n (entriesBelow below (tableNames (files ++ area) retained n)) e elen t u prefix tail₀) (addAll (pathsOf text₀ ends₀ (w₀ .count)) (row-lists job index count k left (files ++ area) n (entriesBelow below (tableNames (files ++ area) retained n)) e elen t u prefix tail₀)) tail text ends w at end))
+Inv-loop job index count k left files area retained n below e elen h tail₀ t prefix text₀ ends₀ u w₀ full end at₀ tail text ends w at =
+    (length tail ≡ length tail₀) × ((length text ≡ length text₀) × ((length ends ≡ length ends₀) × Round job index count k left (files ++ area) n (entriesBelow below (tableNames (files ++ area) retained n)) e elen h t u prefix tail₀ (w₀ .entered + row-visits job index count k left (files ++ area) n (entriesBelow below (tableNames (files ++ area) retained n)) e elen h t u prefix tail₀) (addAll (pathsOf text₀ ends₀ (w₀ .count)) (row-lists job index count k left (files ++ area) n (entriesBelow below (tableNames (files ++ area) retained n)) e elen h t u prefix tail₀)) tail text ends w at end))
 
 abbrev μ-loop : lts.MeasureT-loop
-μ-loop job index count k left files area retained n below e elen tail₀ t prefix text₀ ends₀ u w₀ full end at₀ tail text ends w at =
+μ-loop job index count k left files area retained n below e elen h tail₀ t prefix text₀ ends₀ u w₀ full end at₀ tail text ends w at =
     end - at
 
 pub +corruptible-spec : {M : Type 1} → statement M
@@ -67,7 +67,7 @@ pub +corruptible-spec : {M : Type 1} → statement M
     let at-part2 = c .before .before in
     let at-stem = at-part2 .before .before .before .before in
     let start = at-stem .before .before .before .before .before .before .before .before .before .before .before .before .before .before in
-    (own-given _ _ _ _ _ _ _ [] _ _ _ _ (start .pre .1 .0) (start .pre .1 .1 .0) _ _ (at-stem .stem .ensures) _ (at-part2 .part2 .ensures), start .pre .1 .1 .1))  -- own-requires
+    (own-given _ _ _ _ _ _ _ [] _ _ _ _ _ (start .pre .1 .0) (start .pre .1 .1 .0) _ _ (at-stem .stem .ensures) _ (at-part2 .part2 .ensures), start .pre .1 .1 .1))  -- own-requires
     (λ c. search needs)  -- same-length-2
     (λ c. search needs)  -- same-length-3
     (λ c. search needs)  -- same-length-4
@@ -79,7 +79,7 @@ pub +corruptible-spec : {M : Type 1} → statement M
     let at-retained = at-if1 .before in
     let at-part = at-retained .before in
     let start = at-part .before .before .before .before .before .before .before .before .before .before in
-    walk-full _ _ _ _ _ _ _ _ _ _ _ _ (start .pre .1 .0) (start .pre .1 .1 .0) _ (at-part .part .ensures) _ (at-retained .retained .ensures) (at-if1 .if1 .left) _ _ (at-stem .stem .ensures) _ (at-part2 .part2 .ensures) _ _ _ _ _ _ (at-own .own .ensures) (c .if2 .taken))  -- returns-2
+    walk-full _ _ _ _ _ _ _ _ _ _ _ _ _ (start .pre .1 .0) (start .pre .1 .1 .0) _ (at-part .part .ensures) _ (at-retained .retained .ensures) (at-if1 .if1 .left) _ _ (at-stem .stem .ensures) _ (at-part2 .part2 .ensures) _ _ _ _ _ _ (at-own .own .ensures) (c .if2 .taken))  -- returns-2
     (λ c. search needs)  -- same-length-5
     (λ c. search needs)  -- same-length-6
     (λ c. search needs)  -- same-length-7
@@ -92,13 +92,13 @@ pub +corruptible-spec : {M : Type 1} → statement M
     let at-retained = at-if1 .before in
     let at-part = at-retained .before in
     let start = at-part .before .before .before .before .before .before .before .before .before .before in
-    walk-last _ _ _ _ _ _ _ _ _ _ _ _ (start .pre .1 .0) (start .pre .1 .1 .0) _ (at-part .part .ensures) _ (at-retained .retained .ensures) (at-if1 .if1 .left) _ _ (at-stem .stem .ensures) _ (at-part2 .part2 .ensures) _ _ _ _ _ _ (at-own .own .ensures) (at-if2 .if2 .left) (c .if3 .taken))  -- returns-3
+    walk-last _ _ _ _ _ _ _ _ _ _ _ _ _ (start .pre .1 .0) (start .pre .1 .1 .0) _ (at-part .part .ensures) _ (at-retained .retained .ensures) (at-if1 .if1 .left) _ _ (at-stem .stem .ensures) _ (at-part2 .part2 .ensures) _ _ _ _ _ _ (at-own .own .ensures) (at-if2 .if2 .left) (c .if3 .taken))  -- returns-3
     (λ c κs.
     let start = c .before .before .before .before .before .before .before .before .before .before .before .before .before .before .before .before .before .before .before .before .before .before .before .before .before .before .before in
-    module-row _ _ _ _ _ _ _ _ _ _ (start .pre .1 .0))  -- insts-end-requires
+    module-row _ _ _ _ _ _ _ _ _ _ _ (start .pre .1 .0))  -- insts-end-requires
     (λ c κs.
     let start = c .before .before .before .before .before .before .before .before .before .before .before .before .before .before .before .before .before .before .before .before .before .before .before .before .before .before .before .before in
-    module-row _ _ _ _ _ _ _ _ _ _ (start .pre .1 .0))  -- insts-from-requires
+    module-row _ _ _ _ _ _ _ _ _ _ _ (start .pre .1 .0))  -- insts-from-requires
     (λ c.
     let at-insts-end = c .before in
     let at-if3 = at-insts-end .before in
@@ -106,7 +106,7 @@ pub +corruptible-spec : {M : Type 1} → statement M
     let at-own = at-if2 .before .before .before .before .before in
     let at-stem = at-own .before .before .before .before .before .before .before in
     let start = at-stem .before .before .before .before .before .before .before .before .before .before .before .before .before .before in
-    (search needs, (search needs, (search needs, round-start _ _ _ _ _ _ _ _ _ _ _ _ _ _ _ (start .pre .1 .0) (start .pre .1 .1 .0) (at-stem .stem .ensures) (at-if3 .if3 .left) _ _ _ _ _ (at-own .own .ensures) (at-if2 .if2 .left) _ _ (c .insts-from .ensures) (at-insts-end .insts-end .ensures)))))  -- loop-holds
+    (search needs, (search needs, (search needs, round-start _ _ _ _ _ _ _ _ _ _ _ _ _ _ _ _ (start .pre .1 .0) (start .pre .1 .1 .0) (at-stem .stem .ensures) (at-if3 .if3 .left) _ _ _ _ _ (at-own .own .ensures) (at-if2 .if2 .left) _ _ (c .insts-from .ensures) (at-insts-end .insts-end .ensures)))))  -- loop-holds
     (λ c κs. search needs)  -- next-inst-requires
     (λ c. search needs)  -- enum-known-r
     (λ c. search needs)  -- enum-told
@@ -125,7 +125,7 @@ pub +corruptible-spec : {M : Type 1} → statement M
     let at-retained = at-if1 .before in
     let at-part = at-retained .before in
     let start = at-part .before .before .before .before .before .before .before .before .before .before in
-    walk-done _ _ _ _ _ _ _ _ _ _ _ _ (start .pre .1 .0) (start .pre .1 .1 .0) _ (at-part .part .ensures) _ (at-retained .retained .ensures) (at-if1 .if1 .left) _ _ (at-stem .stem .ensures) _ (at-part2 .part2 .ensures) _ _ _ _ _ _ (at-own .own .ensures) (at-if2 .if2 .left) (at-if3 .if3 .left) _ _ _ _ (round-end _ _ _ _ _ _ _ _ _ _ _ _ _ _ _ _ _ _ _ _ _ _ (at-loop .loop .inv .1 .1 .1) _ (at-next-inst .next-inst .ensures) (c .enum-told .given .1)) (at-loop .loop .inv .1 .1 .1 .front))  -- returns-4
+    walk-done _ _ _ _ _ _ _ _ _ _ _ _ _ (start .pre .1 .0) (start .pre .1 .1 .0) _ (at-part .part .ensures) _ (at-retained .retained .ensures) (at-if1 .if1 .left) _ _ (at-stem .stem .ensures) _ (at-part2 .part2 .ensures) _ _ _ _ _ _ (at-own .own .ensures) (at-if2 .if2 .left) (at-if3 .if3 .left) _ _ _ _ (round-end _ _ _ _ _ _ _ _ _ _ _ _ _ _ _ _ _ _ _ _ _ _ _ (at-loop .loop .inv .1 .1 .1) _ (at-next-inst .next-inst .ensures) (c .enum-told .given .1)) (at-loop .loop .inv .1 .1 .1 .front))  -- returns-4
     (λ c κs.
     let at-loop = c .before .before .before .before in
     at-loop .loop .inv .1 .1 .1 .given .few)  -- entering-requires
@@ -133,13 +133,13 @@ pub +corruptible-spec : {M : Type 1} → statement M
     let at-r = c .before .before .before in
     let at-next-inst = at-r .before .before in
     let at-loop = at-next-inst .before in
-    round-less _ _ _ _ _ _ _ _ _ _ _ _ _ _ _ _ _ _ _ _ _ _ (at-loop .loop .inv .1 .1 .1) _ (at-next-inst .next-inst .ensures) _ _ _ _ (at-r .r .given .1))  -- loop-less
+    round-less _ _ _ _ _ _ _ _ _ _ _ _ _ _ _ _ _ _ _ _ _ _ _ (at-loop .loop .inv .1 .1 .1) _ (at-next-inst .next-inst .ensures) _ _ _ _ (at-r .r .given .1))  -- loop-less
     (λ c.
     let at-entering = c .before in
     let at-r = at-entering .before .before in
     let at-next-inst = at-r .before .before in
     let at-loop = at-next-inst .before in
-    (at-loop .loop .inv .0, (at-loop .loop .inv .1 .0, (at-loop .loop .inv .1 .1 .0, round-pass _ _ _ _ _ _ _ _ _ _ _ _ _ _ _ _ _ _ _ _ _ _ (at-loop .loop .inv .1 .1 .1) _ (at-next-inst .next-inst .ensures) _ _ _ _ (at-r .r .given .1) _ (at-entering .entering .ensures) (c .if4 .taken)))))  -- loop-again
+    (at-loop .loop .inv .0, (at-loop .loop .inv .1 .0, (at-loop .loop .inv .1 .1 .0, round-pass _ _ _ _ _ _ _ _ _ _ _ _ _ _ _ _ _ _ _ _ _ _ _ (at-loop .loop .inv .1 .1 .1) _ (at-next-inst .next-inst .ensures) _ _ _ _ (at-r .r .given .1) _ (at-entering .entering .ensures) (c .if4 .taken)))))  -- loop-again
     (λ c κs. search needs)  -- part-of-requires
     (λ c κs. search needs)  -- put-requires
     (λ c. search needs)  -- sub-corruptible
@@ -153,23 +153,23 @@ pub +corruptible-spec : {M : Type 1} → statement M
     let at-next-inst = at-r .before .before in
     let at-loop = at-next-inst .before in
     let start = at-loop .before .before .before .before .before .before .before .before .before .before .before .before .before .before .before .before .before .before .before .before .before .before .before .before .before .before .before .before .before .before in
-    (omega (arith, start .pre .0, at-loop .loop .inv .1 .1 .1 .more), (round-given _ _ _ _ _ _ _ _ _ _ _ _ _ _ _ _ _ _ _ _ _ _ (at-loop .loop .inv .1 .1 .1) _ (at-next-inst .next-inst .ensures) _ _ _ _ (at-r .r .given .1) _ (at-entering .entering .ensures) (at-if4 .if4 .left) _ (at-part-of .part-of .ensures) _ _ (at-put .put .ensures), (round-long _ _ _ _ _ _ _ _ _ _ _ _ _ _ _ _ _ _ _ _ _ _ (at-loop .loop .inv .1 .1 .1) _ (at-next-inst .next-inst .ensures) _ _ _ _ (at-r .r .given .1) _ (at-entering .entering .ensures) (at-if4 .if4 .left) _ (at-part-of .part-of .ensures) _ _ (at-put .put .ensures) (at-put .put .kept .0), at-loop .loop .inv .1 .1 .1 .turn .ready))))  -- corruptible-requires
+    (omega (arith, start .pre .0, at-loop .loop .inv .1 .1 .1 .more), (round-given _ _ _ _ _ _ _ _ _ _ _ _ _ _ _ _ _ _ _ _ _ _ _ (at-loop .loop .inv .1 .1 .1) _ (at-next-inst .next-inst .ensures) _ _ _ _ (at-r .r .given .1) _ (at-entering .entering .ensures) (at-if4 .if4 .left) _ (at-part-of .part-of .ensures) _ _ (at-put .put .ensures), (round-long _ _ _ _ _ _ _ _ _ _ _ _ _ _ _ _ _ _ _ _ _ _ _ (at-loop .loop .inv .1 .1 .1) _ (at-next-inst .next-inst .ensures) _ _ _ _ (at-r .r .given .1) _ (at-entering .entering .ensures) (at-if4 .if4 .left) _ (at-part-of .part-of .ensures) _ _ (at-put .put .ensures) (at-put .put .kept .0), at-loop .loop .inv .1 .1 .1 .turn .ready))))  -- corruptible-requires
     (λ c.
     let at-corruptible = c .before .before .before .before .before .before .before in
     let at-put = at-corruptible .before .before .before .before .before .before in
     let at-loop = at-put .before .before .before .before .before .before .before .before .before in
     let at-stem = at-loop .before .before .before .before .before .before .before .before .before .before .before .before .before .before .before .before in
-    at-corruptible .corruptible .kept .1 .1 .1 .1 .1 .1 .1 .1 .1 .1 .1 .1 .0 ∙ at-put .put .kept .0 ∙ at-loop .loop .inv .0 ∙ at-stem .stem .kept .0)  -- same-length-11
+    at-corruptible .corruptible .kept .1 .1 .1 .1 .1 .1 .1 .1 .1 .1 .1 .1 .1 .0 ∙ at-put .put .kept .0 ∙ at-loop .loop .inv .0 ∙ at-stem .stem .kept .0)  -- same-length-11
     (λ c.
     let at-corruptible = c .before .before .before .before .before .before .before in
     let at-loop = at-corruptible .before .before .before .before .before .before .before .before .before .before .before .before .before .before .before in
     let at-own = at-loop .before .before .before .before .before .before .before .before .before in
-    at-corruptible .corruptible .kept .1 .1 .1 .1 .1 .1 .1 .1 .1 .1 .1 .1 .1 .1 .1 .0 ∙ at-loop .loop .inv .1 .0 ∙ at-own .own .kept .1 .1 .1 .1 .1 .1 .1 .1 .1 .0)  -- same-length-12
+    at-corruptible .corruptible .kept .1 .1 .1 .1 .1 .1 .1 .1 .1 .1 .1 .1 .1 .1 .1 .1 .0 ∙ at-loop .loop .inv .1 .0 ∙ at-own .own .kept .1 .1 .1 .1 .1 .1 .1 .1 .1 .1 .0)  -- same-length-12
     (λ c.
     let at-corruptible = c .before .before .before .before .before .before .before in
     let at-loop = at-corruptible .before .before .before .before .before .before .before .before .before .before .before .before .before .before .before in
     let at-own = at-loop .before .before .before .before .before .before .before .before .before in
-    at-corruptible .corruptible .kept .1 .1 .1 .1 .1 .1 .1 .1 .1 .1 .1 .1 .1 .1 .1 .1 .0 ∙ at-loop .loop .inv .1 .1 .0 ∙ at-own .own .kept .1 .1 .1 .1 .1 .1 .1 .1 .1 .1 .0)  -- same-length-13
+    at-corruptible .corruptible .kept .1 .1 .1 .1 .1 .1 .1 .1 .1 .1 .1 .1 .1 .1 .1 .1 .1 .0 ∙ at-loop .loop .inv .1 .1 .0 ∙ at-own .own .kept .1 .1 .1 .1 .1 .1 .1 .1 .1 .1 .1 .0)  -- same-length-13
     (λ c.
     let at-corruptible = c .before .before .before .before .before .before .before in
     let at-put = at-corruptible .before .before .before .before .before .before in
@@ -188,12 +188,12 @@ pub +corruptible-spec : {M : Type 1} → statement M
     let at-retained = at-if1 .before in
     let at-part = at-retained .before in
     let start = at-part .before .before .before .before .before .before .before .before .before .before in
-    walk-done _ _ _ _ _ _ _ _ _ _ _ _ (start .pre .1 .0) (start .pre .1 .1 .0) _ (at-part .part .ensures) _ (at-retained .retained .ensures) (at-if1 .if1 .left) _ _ (at-stem .stem .ensures) _ (at-part2 .part2 .ensures) _ _ _ _ _ _ (at-own .own .ensures) (at-if2 .if2 .left) (at-if3 .if3 .left) _ _ _ _ (round-stop _ _ _ _ _ _ _ _ _ _ _ _ _ _ _ _ _ _ _ _ _ _ (at-loop .loop .inv .1 .1 .1) _ (at-next-inst .next-inst .ensures) _ _ _ _ (at-r .r .given .1) _ (at-entering .entering .ensures) (at-if4 .if4 .left) _ (at-part-of .part-of .ensures) _ _ (at-put .put .ensures) _ _ _ _ (at-corruptible .corruptible .ensures) (c .if5 .taken)) (round-front _ _ _ _ _ _ _ _ _ _ _ _ _ _ _ _ _ _ _ _ _ _ (at-loop .loop .inv .1 .1 .1) _ (at-next-inst .next-inst .ensures) _ _ _ _ (at-r .r .given .1) _ (at-entering .entering .ensures) (at-if4 .if4 .left) _ (at-part-of .part-of .ensures) _ _ (at-put .put .ensures) _ _ _ _ (at-corruptible .corruptible .ensures)))  -- returns-5
+    walk-done _ _ _ _ _ _ _ _ _ _ _ _ _ (start .pre .1 .0) (start .pre .1 .1 .0) _ (at-part .part .ensures) _ (at-retained .retained .ensures) (at-if1 .if1 .left) _ _ (at-stem .stem .ensures) _ (at-part2 .part2 .ensures) _ _ _ _ _ _ (at-own .own .ensures) (at-if2 .if2 .left) (at-if3 .if3 .left) _ _ _ _ (round-stop _ _ _ _ _ _ _ _ _ _ _ _ _ _ _ _ _ _ _ _ _ _ _ (at-loop .loop .inv .1 .1 .1) _ (at-next-inst .next-inst .ensures) _ _ _ _ (at-r .r .given .1) _ (at-entering .entering .ensures) (at-if4 .if4 .left) _ (at-part-of .part-of .ensures) _ _ (at-put .put .ensures) _ _ _ _ (at-corruptible .corruptible .ensures) (c .if5 .taken)) (round-front _ _ _ _ _ _ _ _ _ _ _ _ _ _ _ _ _ _ _ _ _ _ _ (at-loop .loop .inv .1 .1 .1) _ (at-next-inst .next-inst .ensures) _ _ _ _ (at-r .r .given .1) _ (at-entering .entering .ensures) (at-if4 .if4 .left) _ (at-part-of .part-of .ensures) _ _ (at-put .put .ensures) _ _ _ _ (at-corruptible .corruptible .ensures)))  -- returns-5
     (λ c.
     let at-r = c .before .before .before .before .before .before .before .before .before .before .before .before .before .before .before .before .before .before .before in
     let at-next-inst = at-r .before .before in
     let at-loop = at-next-inst .before in
-    round-less _ _ _ _ _ _ _ _ _ _ _ _ _ _ _ _ _ _ _ _ _ _ (at-loop .loop .inv .1 .1 .1) _ (at-next-inst .next-inst .ensures) _ _ _ _ (at-r .r .given .1))  -- loop-less-2
+    round-less _ _ _ _ _ _ _ _ _ _ _ _ _ _ _ _ _ _ _ _ _ _ _ (at-loop .loop .inv .1 .1 .1) _ (at-next-inst .next-inst .ensures) _ _ _ _ (at-r .r .given .1))  -- loop-less-2
     (λ c.
     let at-corruptible = c .before .before .before .before .before .before .before in
     let at-put = at-corruptible .before .before .before .before .before .before in
@@ -203,4 +203,4 @@ pub +corruptible-spec : {M : Type 1} → statement M
     let at-r = at-entering .before .before in
     let at-next-inst = at-r .before .before in
     let at-loop = at-next-inst .before in
-    (at-corruptible .corruptible .kept .1 .1 .1 .1 .1 .1 .1 .1 .1 .1 .1 .1 .0 ∙ at-put .put .kept .0 ∙ at-loop .loop .inv .0, (at-corruptible .corruptible .kept .1 .1 .1 .1 .1 .1 .1 .1 .1 .1 .1 .1 .1 .1 .1 .0 ∙ at-loop .loop .inv .1 .0, (at-corruptible .corruptible .kept .1 .1 .1 .1 .1 .1 .1 .1 .1 .1 .1 .1 .1 .1 .1 .1 .0 ∙ at-loop .loop .inv .1 .1 .0, round-on _ _ _ _ _ _ _ _ _ _ _ _ _ _ _ _ _ _ _ _ _ _ (at-loop .loop .inv .1 .1 .1) _ (at-next-inst .next-inst .ensures) _ _ _ _ (at-r .r .given .1) _ (at-entering .entering .ensures) (at-if4 .if4 .left) _ (at-part-of .part-of .ensures) _ _ (at-put .put .ensures) _ _ _ _ (at-corruptible .corruptible .ensures) (c .if5 .left) (at-corruptible .corruptible .kept .1 .1 .1 .1 .1 .1 .1 .1 .1 .1 .1 .1 .0 ∙ at-put .put .kept .0)))))  -- loop-again-2
+    (at-corruptible .corruptible .kept .1 .1 .1 .1 .1 .1 .1 .1 .1 .1 .1 .1 .1 .0 ∙ at-put .put .kept .0 ∙ at-loop .loop .inv .0, (at-corruptible .corruptible .kept .1 .1 .1 .1 .1 .1 .1 .1 .1 .1 .1 .1 .1 .1 .1 .1 .0 ∙ at-loop .loop .inv .1 .0, (at-corruptible .corruptible .kept .1 .1 .1 .1 .1 .1 .1 .1 .1 .1 .1 .1 .1 .1 .1 .1 .1 .0 ∙ at-loop .loop .inv .1 .1 .0, round-on _ _ _ _ _ _ _ _ _ _ _ _ _ _ _ _ _ _ _ _ _ _ _ (at-loop .loop .inv .1 .1 .1) _ (at-next-inst .next-inst .ensures) _ _ _ _ (at-r .r .given .1) _ (at-entering .entering .ensures) (at-if4 .if4 .left) _ (at-part-of .part-of .ensures) _ _ (at-put .put .ensures) _ _ _ _ (at-corruptible .corruptible .ensures) (c .if5 .left) (at-corruptible .corruptible .kept .1 .1 .1 .1 .1 .1 .1 .1 .1 .1 .1 .1 .1 .0 ∙ at-put .put .kept .0)))))  -- loop-again-2
