@@ -1,0 +1,4 @@
+pub mod Numbers
+pub mod Names
+pub mod Ways
+pub mod Modules
