@@ -54,12 +54,23 @@ pub record Way : Type 0 where
 abbrev pub wayIn : Bytes → List ℕ → List ℕ → ℕ → ℕ → Way
 wayIn job index table k j = record { name = wayName job table k j; into = moduleRow job index (num table (way-place k j + 2)) }
 
+-- the same with the number of its module
+pub record Down : Type 0 where
+  pub name : Bytes
+  pub row : ℕ
+
+abbrev pub downIn : Bytes → List ℕ → ℕ → ℕ → Down
+downIn job table k j = record { name = wayName job table k j; row = num table (way-place k j + 2) }
+
 -- all of module k
 abbrev pub namesOf : Bytes → List ℕ → ℕ → List Bytes
 namesOf job table k = rows (nameIn job table k) (num table (names-at k))
 
 abbrev pub waysOf : Bytes → List ℕ → List ℕ → ℕ → List Way
 waysOf job index table k = rows (wayIn job index table k) (num table (ways-at k))
+
+abbrev pub downsOf : Bytes → List ℕ → ℕ → List Down
+downsOf job table k = rows (downIn job table k) (num table (ways-at k))
 
 -- ---- the table of a job
 
