@@ -37,7 +37,7 @@ module _ (job : Bytes) (index : List ℕ) (head : Header) (j : Job) (ix : Indexe
   modules-are : j .modules ≡ modules job index (head .modules)
   modules-are = sym (ap (λ (x : Job). x .modules) (ix .stands))
 
-  row-in : (k : ℕ) → k < head .modules → Mem (moduleRow job index k) (j .modules)
+  pub row-in : (k : ℕ) → k < head .modules → Mem (moduleRow job index k) (j .modules)
   row-in k h = subst (λ (l : List Module). Mem (moduleRow job index k) l) (sym modules-are) (row-mem (moduleRow job index) (head .modules) k h)
 
   -- what the walk is given
