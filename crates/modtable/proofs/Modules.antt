@@ -11,7 +11,7 @@ use Rattle.text.specs.Ascii.{Bytes}
 use Rattle.jobindex.specs.Index.{num, moduleRow, rows}
 use Rattle.jobindex.specs.Rows.{rows-same}
 use Rattle.modtable.specs.Table.{names-at, name-place, ways-at, way-place, nameIn, wayIn, namesOf, waysOf, ModuleTabled, Tabled}
-use Rattle.modtable.specs.Making.{Limited, NamesGiven, NamesPut, WaysGiven, WaysPut, MakeGiven}
+use Rattle.modtable.specs.Making.{Limited, InputsGiven, InputsPut, NamesGiven, NamesPut, WaysGiven, WaysPut, MakeGiven}
 use Rattle.modtable.proofs.Numbers.{num-front}
 
 module _ (job : Bytes) (t t′ : List ℕ) (k : ℕ) where
@@ -37,16 +37,17 @@ module _ (job : Bytes) (t t′ : List ℕ) (k : ℕ) where
         }
 
 -- the modules before k are stored
-pub record Made (job : Bytes) (index : List ℕ) (count : ℕ) (table₀ table : List ℕ) (k : ℕ) : Type 0 where
+pub record Made (job : Bytes) (index : List ℕ) (count : ℕ) (inputs₀ inputs table₀ table : List ℕ) (k : ℕ) : Type 0 where
   pub done : (j : ℕ) → j < k → ModuleTabled job index count table j
   pub long : length table ≡ length table₀
-  pub given : MakeGiven job index count table₀
+  pub inputs-long : length inputs ≡ length inputs₀
+  pub given : MakeGiven job index count inputs₀ table₀
 
-module _ (job : Bytes) (index : List ℕ) (count : ℕ) (table₀ : List ℕ) where
-  pub made-start : MakeGiven job index count table₀ → Made job index count table₀ table₀ 0
-  made-start g = record { done = λ j l. absurd (omega (arith, l)); long = refl; given = g }
+module _ (job : Bytes) (index : List ℕ) (count : ℕ) (inputs₀ table₀ : List ℕ) where
+  pub made-start : MakeGiven job index count inputs₀ table₀ → Made job index count inputs₀ inputs₀ table₀ table₀ 0
+  made-start g = record { done = λ j l. absurd (omega (arith, l)); long = refl; inputs-long = refl; given = g }
 
-  module _ (table : List ℕ) (k : ℕ) (inv : Made job index count table₀ table k) where
+  module _ (inputs table : List ℕ) (k : ℕ) (inv : Made job index count inputs₀ inputs table₀ table k) where
     pub made-end : count ≤ k → Tabled job index count table
     made-end h j l = inv .done j (omega (arith, l, h))
 
@@ -54,8 +55,12 @@ module _ (job : Bytes) (index : List ℕ) (count : ℕ) (table₀ : List ℕ) wh
     made-fits h = omega (arith, h, inv .given .few)
 
     module _ (h : k < count) where
-      pub made-names : NamesGiven job index k table
-      made-names = record { row = omega (arith, h, inv .given .few); long = omega (arith, inv .given .long, inv .long); small = inv .given .small; few = inv .given .limited k h .names-few }
+      pub made-inputs : InputsGiven job index k inputs
+      made-inputs = record { row = omega (arith, h, inv .given .few); long = omega (arith, inv .given .inputs-long, inv .inputs-long); small = inv .given .small; few = inv .given .limited k h .inputs-few }
+
+      module _ (inputs₁ : List ℕ) (n : ℕ) (ip : InputsPut job index k inputs₁ n) where
+        pub made-names : NamesGiven job index k inputs₁ n table
+        made-names = record { put = ip; row = omega (arith, h, inv .given .few); long = omega (arith, inv .given .long, inv .long); small = inv .given .small; few = inv .given .limited k h .names-few }
 
       module _ (t₁ : List ℕ) (np : NamesPut job index k table t₁) (l₁ : length t₁ ≡ length table) where
         pub made-ways : WaysGiven job index count k t₁
@@ -79,13 +84,14 @@ module _ (job : Bytes) (index : List ℕ) (count : ℕ) (table₀ : List ℕ) wh
           low : (j : ℕ) → j < k + 1 → j ≤ k
           low j l = omega arith
 
-          pub made-next : Made job index count table₀ t₂ (k + 1)
-          made-next =
+          pub made-next : (inputs₁ : List ℕ) → length inputs₁ ≡ length inputs → Made job index count inputs₀ inputs₁ table₀ t₂ (k + 1)
+          made-next inputs₁ li =
               record {
                 done = λ j l.
                     ⊎-elim (λ e. rw e this) (λ g. tabled-same job table t₂ j index count (λ i b. before i (omega (arith, b, g))) (inv .done j g)) (eq-or-lt-of-le (low j l));
                 long = l₂ ∙ l₁ ∙ inv .long;
+                inputs-long = li ∙ inv .inputs-long;
                 given = inv .given;
               }
 
-pub ruleset mades = (needs, made-start, made-end, made-fits, made-names, made-ways, made-next)
+pub ruleset mades = (needs, made-start, made-end, made-fits, made-inputs, made-names, made-ways, made-next)

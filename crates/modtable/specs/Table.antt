@@ -72,6 +72,10 @@ waysOf job index table k = rows (wayIn job index table k) (num table (ways-at k)
 abbrev pub downsOf : Bytes → List ℕ → ℕ → List Down
 downsOf job table k = rows (downIn job table k) (num table (ways-at k))
 
+-- a non-output port, as it is listed for the module at hand
+abbrev pub inputIn : Bytes → List ℕ → ℕ → Bytes
+inputIn job inputs i = partAt job inputs (2 * i)
+
 -- ---- the table of a job
 
 -- "The walk goes down from a module into its instances with D 0 whose module is listed"

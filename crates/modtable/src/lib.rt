@@ -7,7 +7,9 @@ ghost use Rattle.jobindex.specs.Index.{num as Index·num};
 ghost use Rattle.modtable.specs.Table.{names-at, ways-at, nameIn, wayName, way-place};
 use text::part::place;
 
+pub mod inputs;
 pub mod make;
+pub mod part;
 
 // How many names module k loses.
 pub fn name_count(table: &[u32], k: usize) -> usize

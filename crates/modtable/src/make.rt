@@ -2,52 +2,40 @@
 ghost use mathlib.Core.Path.{_≡_};
 ghost use mathlib.Core.Bool.{cond};
 ghost use mathlib.Core.Option.{none};
-ghost use Prim.Native.Nat.{_+_, _≤_, _<_};
-ghost use lib.ListN.{length, set};
+ghost use Prim.Native.Nat.{_≤_};
 ghost use Rattle.fields.specs.Meant.{dimsIs};
 ghost use Rattle.lines.specs.Cursors.{spanned};
 ghost use Rattle.lookup.specs.Rows.{modules, ModuleSeen};
 ghost use Rattle.design.specs.Lookup.{moduleNamed};
-ghost use Rattle.modtable.specs.Table.{lowOf, partPut, Tabled};
+ghost use Rattle.modtable.specs.Table.{Tabled};
 ghost use Rattle.modtable.specs.Making.{NamesGiven, NamesPut, WaysGiven, WaysPut, MakeGiven};
+use super::inputs::is_listed;
+use super::inputs::put_inputs;
+use super::part::low;
+use super::part::put_part;
 use fields::Dims;
 use jobindex::Span;
 use lines::InstAt;
 use ports::Step;
 
-// A place of the job, or a length, in 32 bits: those past the end of every job are one.
-fn low(x: usize) -> u32
-    ensures { λ r. ⌜ r ≡ lowOf x ⌝ }
-{
-    if x < 4294967295 {
-        return x as u32;
-    }
-    4294967295
-}
-
-// A part of the job into two numbers.
-fn put_part(table: &mut [u32], p: usize, s: Span)
-    requires { ⌜ (p ≤ 73984) × (p + 1 < length (now table)) ⌝ }
-    ensures { λ _. ⌜ now (table .exit) ≡ partPut (now (table .entry)) p s ⌝ }
-{
-    table[p] = low(s.at);
-    table[p + 1] = low(s.len);
-}
-
-// The names that module k loses.
-fn put_names(job: &[u8], index: &[u32], k: usize, table: &mut [u32])
-    requires { ⌜ NamesGiven (now job) (now index) k (now table) ⌝ }
+// The names that module k loses. The first n of `inputs` are its non-output ports.
+fn put_names(job: &[u8], index: &[u32], k: usize, inputs: &[u32], n: usize, table: &mut [u32])
+    requires { ⌜ NamesGiven (now job) (now index) k (now inputs) n (now table) ⌝ }
     ensures { λ _. ⌜ NamesPut (now (job .entry)) (now (index .entry)) k (now (table .entry)) (now (table .exit)) ⌝ }
 {
     let from = 578 * k + 1;
     let mut i = 0;
     let mut c = ports::first(index, k);
     loop {
-        let r = ports::next_losable(job, index, k, c);
+        let r = ports::next_candidate(job, index, k, c);
         let Step::Name { name, next } = r else {
             table[578 * k] = low(i);
             return;
         };
+        if is_listed(job, inputs, n, lines::part_of(job, name)) {
+            c = next;
+            continue;
+        }
         put_part(table, from + 2 * i, name);
         i += 1;
         c = next;
@@ -99,14 +87,15 @@ fn put_ways(job: &[u8], index: &[u32], count: usize, k: usize, table: &mut [u32]
     }
 }
 
-// The table of the first `count` modules.
-pub fn make(job: &[u8], index: &[u32], count: usize, table: &mut [u32])
-    requires { ⌜ MakeGiven (now job) (now index) count (now table) ⌝ }
+// The table of the first `count` modules. `inputs` is for the ports of the module at hand.
+pub fn make(job: &[u8], index: &[u32], count: usize, inputs: &mut [u32], table: &mut [u32])
+    requires { ⌜ MakeGiven (now job) (now index) count (now inputs) (now table) ⌝ }
     ensures { λ _. ⌜ Tabled (now (job .entry)) (now (index .entry)) count (now (table .exit)) ⌝ }
 {
     let mut k = 0;
     while k < count {
-        put_names(job, index, k, table);
+        let n = put_inputs(job, index, k, inputs);
+        put_names(job, index, k, inputs, n, table);
         put_ways(job, index, count, k, table);
         k += 1;
     }

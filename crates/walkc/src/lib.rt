@@ -35,11 +35,17 @@ pub extern "C" fn walkc_index(job: &[u8], index: &mut [u32]) -> usize
 
 // Makes the table of the first `count` modules.
 #[no_mangle]
-pub extern "C" fn walkc_table(job: &[u8], index: &[u32], count: usize, table: &mut [u32])
-    requires { ⌜ MakeGiven (now job) (now index) count (now table) ⌝ }
+pub extern "C" fn walkc_table(
+    job: &[u8],
+    index: &[u32],
+    count: usize,
+    inputs: &mut [u32],
+    table: &mut [u32],
+)
+    requires { ⌜ MakeGiven (now job) (now index) count (now inputs) (now table) ⌝ }
     ensures { λ _. ⌜ Tabled (now (job .entry)) (now (index .entry)) count (now (table .exit)) ⌝ }
 {
-    modtable::make::make(job, index, count, table)
+    modtable::make::make(job, index, count, inputs, table)
 }
 
 // Puts a name into row k of a table.

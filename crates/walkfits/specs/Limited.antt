@@ -1,4 +1,4 @@
--- Of an accepted job and its index: a module loses at most 192 names and has at most 64 instances, so the table of its modules can be made.
+-- Of an accepted job and its index: a module loses at most 192 names, has at most 192 non-output ports and 64 instances, so the table of its modules can be made.
 -- Assumes nothing.
 use Prim.Native.Nat.{ℕ, suc, _+_, _≤_, _<_}
 use mathlib.Core.Path.{_≡_, refl, sym, ap, _∙_}
@@ -16,7 +16,7 @@ use Rattle.jobfacts.specs.Accepted.{accepted-good}
 use Rattle.jobindex.specs.Index.{moduleRow, Indexed}
 use Rattle.jobindex.specs.declared.Header.{Header}
 use Rattle.design.specs.Lists.{those, isIn, addNew, addAll}
-use Rattle.design.specs.Ports.{taken, directed, headerPorts, bodyPort, bodyPorts, isOutput, outputs, isSignal, signals, inputPorts, outputPorts, losable}
+use Rattle.design.specs.Ports.{taken, directed, headerPorts, bodyPort, bodyPorts, isOutput, outputs, others, isSignal, signals, inputPorts, outputPorts, losable}
 use Rattle.modtable.specs.Making.{Limited}
 use Rattle.walkfits.specs.Accepted.{row-in}
 
@@ -59,6 +59,9 @@ header-fewer Style.empty ps = omega arith
 outputs-fewer : (ps : List Port) → length (outputs ps) ≤ length ps
 outputs-fewer ps = omega (arith, length-map (those (λ (p : Port). isOutput (p .dir)) ps) (λ (p : Port). p .name), those-fewer (λ (p : Port). isOutput (p .dir)) ps)
 
+others-fewer : (ps : List Port) → length (others ps) ≤ length ps
+others-fewer ps = omega (arith, length-map (those (λ (p : Port). not (isOutput (p .dir))) ps) (λ (p : Port). p .name), those-fewer (λ (p : Port). not (isOutput (p .dir))) ps)
+
 -- a declaration is a port or a signal, or neither
 decls-fewer : (ds : List Decl) → length (bodyPorts ds) + length (those (λ (d : Decl). isSignal (d .kind) && not (d .dims)) ds) ≤ length ds
 unfolding those flatMap
@@ -74,7 +77,7 @@ decls-fewer (x ∷ ds) = go (x .kind) (x .dims) (decls-fewer ds)
     go Kind.odd b h = omega arith
     go (Kind.body dir) b h = omega arith
 
-pub losable-few : (m : Module) → length (losable m) ≤ length (m .ports) + length (m .decls)
+losable-few : (m : Module) → length (losable m) ≤ length (m .ports) + length (m .decls)
 losable-few m =
     omega (
       arith,
@@ -88,6 +91,17 @@ losable-few m =
       decls-fewer (m .decls),
     )
 
+inputs-few : (m : Module) → length (inputPorts m) ≤ length (m .ports) + length (m .decls)
+inputs-few m =
+    omega (
+      arith,
+      length-append (others (headerPorts (m .style) (m .ports))) (others (bodyPorts (m .decls))),
+      others-fewer (headerPorts (m .style) (m .ports)),
+      header-fewer (m .style) (m .ports),
+      others-fewer (bodyPorts (m .decls)),
+      decls-fewer (m .decls),
+    )
+
 -- ---- an accepted job
 
 all-at : {A : Type 0} (P : A → Type 0) (l : List A) → All P l → {x : A} → Mem x l → P x
@@ -98,4 +112,4 @@ module _ (job : Bytes) (index : List ℕ) (head : Header) (j : Job) (ix : Indexe
   pub accepted-limited : (k : ℕ) → k < head .modules → Limited job index k
   accepted-limited k h =
       let g : GoodModule (moduleRow job index k) = all-at GoodModule (j .modules) (accepted-good job j ok .lists .modules) (row-in job index head j ix ok k h) in
-      record { names-few = omega (arith, losable-few (moduleRow job index k), g .ports-few, g .decls-few); insts-few = g .insts-few }
+      record { inputs-few = omega (arith, inputs-few (moduleRow job index k), g .ports-few, g .decls-few); names-few = omega (arith, losable-few (moduleRow job index k), g .ports-few, g .decls-few); insts-few = g .insts-few }

@@ -18,7 +18,17 @@ use upf_rs::upf::Asked;
 #[link(name = "walkc", kind = "static")]
 extern "C" {
     fn walkc_index(job: *const u8, n: usize, index: *mut u32, m: usize) -> usize;
-    fn walkc_table(job: *const u8, n: usize, index: *const u32, m: usize, count: usize, table: *mut u32, t: usize);
+    fn walkc_table(
+        job: *const u8,
+        n: usize,
+        index: *const u32,
+        m: usize,
+        count: usize,
+        inputs: *mut u32,
+        i: usize,
+        table: *mut u32,
+        t: usize,
+    );
     fn walkc_put(
         table: *mut u32,
         n: usize,
@@ -128,8 +138,19 @@ struct Question<'a> {
 /// The table of a job's modules.
 fn modules(bytes: &[u8], index: &[u32], count: usize) -> Vec<u32> {
     let mut t = vec![0xAAAA_AAAAu32; 73984];
+    let mut inputs = [0xAAAA_AAAAu32; 384];
     unsafe {
-        walkc_table(bytes.as_ptr(), bytes.len(), index.as_ptr(), index.len(), count, t.as_mut_ptr(), t.len())
+        walkc_table(
+            bytes.as_ptr(),
+            bytes.len(),
+            index.as_ptr(),
+            index.len(),
+            count,
+            inputs.as_mut_ptr(),
+            inputs.len(),
+            t.as_mut_ptr(),
+            t.len(),
+        )
     };
     t
 }

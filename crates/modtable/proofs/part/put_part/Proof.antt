@@ -1,8 +1,8 @@
--- `modtable::make::put_part` meets its contract. Assumes nothing.
+-- `modtable::part::put_part` meets its contract. Assumes nothing.
 use borrow.Author.Needs.{needs}
 use Rattle.modtable.proofs.Numbers.{stores}
-use Rattle.modtable.proofs.make.put_part.Statement.{statement}
-use Rattle.modtable.proofs.make.put_part.Tie as tie
+use Rattle.modtable.proofs.part.put_part.Statement.{statement}
+use Rattle.modtable.proofs.part.put_part.Tie as tie
 
 pub put-part-spec : {M : Type 1} → statement M
 put-part-spec =

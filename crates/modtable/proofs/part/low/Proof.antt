@@ -1,8 +1,8 @@
--- `modtable::make::low` meets its contract. Assumes nothing.
+-- `modtable::part::low` meets its contract. Assumes nothing.
 use Rattle.modtable.proofs.Numbers.{lows}
 use borrow.Author.Needs.{needs}
-use Rattle.modtable.proofs.make.low.Statement.{statement}
-use Rattle.modtable.proofs.make.low.Tie as tie
+use Rattle.modtable.proofs.part.low.Statement.{statement}
+use Rattle.modtable.proofs.part.low.Tie as tie
 
 pub low-spec : {M : Type 1} → statement M
 low-spec = tie.close (tie.spec
