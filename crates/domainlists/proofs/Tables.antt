@@ -28,6 +28,7 @@ use Rattle.store.specs.declared.state.Retention.{Retention}
 use Rattle.store.specs.declared.state.Retentions.{Retentions}
 use Rattle.made.specs.Made.{reachOf}
 use Rattle.setting.specs.Orders.{Holds, holds-few, holds-long, holds-at, holds-next, holds-end}
+use Rattle.domainlists.specs.Own.{flat-first, those-flat}
 use Rattle.domainlists.specs.Lists.{entriesOf, allEntries, isOf, ownEntries, OfDomain, OfRetentions, Names}
 
 -- ---- stored strings as spans
@@ -135,10 +136,6 @@ module _ (mem : Bytes) (all : List Bytes) (table₀ table : List ℕ) (n : ℕ) 
   gathers-done : Gathers mem all table₀ table n [] → Names mem all table₀ table n
   gathers-done inv = record { are = sym (append-nil (tableNames mem table n)) ∙ inv .are; count = omega (arith, inv .count); long = inv .long }
 
-flat-first : {A B : Type 0} (f : A → List B) (x : A) (l : List A) → flatMap f (x ∷ l) ≡ f x ++ flatMap f l
-unfolding flatMap
-flat-first f x l = refl
-
 flat-none : {A B : Type 0} (f : A → List B) → flatMap f [] ≡ []
 unfolding flatMap
 flat-none f = refl
@@ -150,16 +147,6 @@ those-first p x l b e = rw e
 those-none : {A : Type 0} (p : A → Bool) → those p [] ≡ []
 unfolding those
 those-none p = refl
-
--- no more than all
-those-flat : {A B : Type 0} (p : A → Bool) (f : A → List B) (l : List A) → length (flatMap f (those p l)) ≤ length (flatMap f l)
-unfolding those
-those-flat p f [] = omega arith
-those-flat p f (x ∷ l) = go (p x) (those-flat p f l)
-  where
-    go : (b : Bool) → length (flatMap f (those p l)) ≤ length (flatMap f l) → length (flatMap f (cond b (x ∷ those p l) (those p l))) ≤ length (flatMap f (x ∷ l))
-    go true h = omega (arith, h, length-append (f x) (flatMap f (those p l)), length-append (f x) (flatMap f l), ap length (flat-first f x (those p l)), ap length (flat-first f x l))
-    go false h = omega (arith, h, length-append (f x) (flatMap f l), ap length (flat-first f x l))
 
 abbrev left-of : Retentions → ℕ → List Retention
 left-of t i = drop i (take (t .n) (t .all))

@@ -79,7 +79,7 @@ module _ (files area : Bytes) (nums : List ℕ) (s : State) (o : Orders files ar
       let l : s .domains .n ≤ length (s .domains .all) = holds-long (ofDomain (reachOf (length files))) (length (files ++ area)) (s .domains .n) (s .domains .all) (domains-hold files area nums s o) in
       record { small = o .small; strings = e; few = within-get (λ (x : Domain). length (domainOf (files ++ area) x .elements)) (s .domains .all) (s .domains .n) i d elements-few h l; room = room }
 
-  retained-few : length (allEntries (files ++ area) (s .retentions)) ≤ 1024
+  pub retained-few : length (allEntries (files ++ area) (s .retentions)) ≤ 1024
   unfolding modelOf
   retained-few = rw (total-flat (files ++ area) (take (s .retentions .n) (s .retentions .all))) at (o .few .retained)
 
