@@ -1,0 +1,4 @@
+pub mod Orders
+pub mod Owns
+pub mod Inserts
+pub mod Loops
