@@ -1,14 +1,12 @@
 -- The way written name by name; the scope by the override, by a type, by the design top.
 -- Assumes nothing.
-use mathlib.Core.Path.{_≡_, refl, ap, _∙_, sym, subst}
+use mathlib.Core.Path.{_≡_, refl, ap, _∙_, sym}
 use Prim.Native.Nat.{ℕ, zero, suc, _+_, _-_, _<_, _≤_}
 use native.Mathlib.Numerals.{add-one}
 use native.Mathlib.Omega.{arith}
-use mathlib.Core.Bool.{Bool, true, false, cond, not}
-use mathlib.Core.List.{List, [], _∷_, _++_, map}
-use mathlib.Core.List.{List·Memᴰ as Mem}
+use mathlib.Core.Bool.{Bool, true, false, not}
+use mathlib.Core.List.{List, [], _∷_, _++_}
 use mathlib.Core.Option.{Option, none, some}
-use lib.Dec.{eqb, leb, ltb}
 use lib.ListN.{length, take, drop, getD, drop-of-length-le, length-take, length-drop, length-append, length-map}
 use lib.Seq.{drop-cons, take-at, drop-at}
 use borrow.Author.Needs.{needs}
@@ -23,14 +21,14 @@ use Rattle.spans.specs.Reach.{Held}
 use Rattle.spans.specs.Span.{bytes}
 use Rattle.spans.specs.declared.span.Span.{Span as FileSpan}
 use Rattle.joblines.specs.Job.{Module}
-use Rattle.jobindex.specs.Index.{moduleRow, jobOf, Indexed}
+use Rattle.jobindex.specs.Index.{moduleRow, jobOf}
 use Rattle.jobindex.specs.declared.Header.{Header}
 use Rattle.jobindex.specs.declared.Span.{Span}
 use Rattle.design.specs.AcceptedNames.{AllNamed, accepted-names}
 use Rattle.design.specs.Laws.{not-is-true}
 use Rattle.design.specs.Limits.{most-calls}
 use Rattle.design.specs.Lookup.{moduleAt}
-use Rattle.design.specs.Search.{Search, searchType, findByType, callsMade}
+use Rattle.design.specs.Search.{searchType, callsMade}
 use Rattle.lines.specs.Cursors.{spanned}
 use Rattle.lookup.specs.Rows.{modules, rowIs, ModuleSeen, at-none}
 use Rattle.walkfits.specs.Accepted.{row-mem}
@@ -40,7 +38,7 @@ use Rattle.store.specs.Strings.{spanOf, maybeOf}
 use Rattle.store.specs.declared.stored.Stored.{Stored}
 use Rattle.store.specs.declared.stored.Maybe.{Maybe}
 use Rattle.store.specs.declared.stored.Maybe.the-variants.{Not, Given}
-use Rattle.texts.specs.Scope.{Scope, at, no-scope, Path, along, refused, existing, foundAt, pathTo, byDesignTop, withoutTop, overrideParts, scopeAlong, scopePathOf, scopeOf}
+use Rattle.texts.specs.Scope.{Scope, at, along, existing, foundAt, pathTo, byDesignTop, withoutTop, overrideParts, scopeAlong, scopeOf}
 use Rattle.scope.specs.Parts.{parts, no-parts}
 use Rattle.findscope.specs.declared.ScopeAt.{ScopeAt}
 use Rattle.findscope.specs.Scopes.{pathText, scopeIs, refusedBy, topmost, Tells, Told, Taken, Whole}

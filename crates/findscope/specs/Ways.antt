@@ -1,15 +1,13 @@
 -- Laws: the names on the way that a type search finds are NAMEs, so that the way can be written as text with dots and read again as its parts.
 -- Assumes nothing.
 use Prim.Native.Nat.{ℕ, zero, suc, _+_, _*_, _≤_, _<_}
-use mathlib.Core.Path.{_≡_, refl, sym, ap, subst, _∙_}
-use mathlib.Core.Logic.{⊎-elim}
-use mathlib.Core.Bool.{Bool, true, false, cond, _&&_, _||_}
+use mathlib.Core.Path.{_≡_, refl, ap, subst, _∙_}
+use mathlib.Core.Bool.{Bool, true, false, cond}
 use mathlib.Core.Option.{Option, none, some, Option·map}
 use mathlib.Core.List.{List, [], _∷_, _++_}
 use mathlib.Core.List.{List·Memᴰ as Mem, List·Memᴰ·head as here, List·Memᴰ·tail as there}
 use native.Mathlib.Omega.{arith}
-use lib.Dec.{eqb}
-use lib.ListN.{length, take, drop, length-append}
+use lib.ListN.{length, length-append}
 use lib.Seq.{take-at, drop-at}
 use borrow.Author.Tests.{ne-eqb}
 use Rattle.text.specs.Ascii.{Bytes, byte, ascii}
@@ -23,9 +21,9 @@ use Rattle.fields.specs.Names.{name-bytes, name-some, name-short}
 use Rattle.joblines.specs.Job.{Inst, Module}
 use Rattle.design.specs.AcceptedNames.{Named, AllNamed}
 use Rattle.design.specs.Laws.{first-mem}
-use Rattle.design.specs.Lists.{onSome, first}
-use Rattle.design.specs.Lookup.{moduleNamed, instances}
-use Rattle.design.specs.Search.{Search, nothing, called, under, orElse, atInstance, amongInstances, searchFrom}
+use Rattle.design.specs.Lists.{onSome}
+use Rattle.design.specs.Lookup.{moduleNamed}
+use Rattle.design.specs.Search.{Search, nothing, under, atInstance, amongInstances, searchFrom}
 use Rattle.texts.specs.Scope.{overrideParts}
 use Rattle.scope.specs.Parts.{separates, no-parts, parts-skip, parts-word}
 
