@@ -1,6 +1,5 @@
 // A job answered: the ten checks of document 01, and all that was lent left as it says.
 ghost use mathlib.Core.Path.{_≡_};
-ghost use mathlib.Core.List.{_++_};
 ghost use Prim.Native.Nat.{_≤_};
 ghost use lib.ListN.{length};
 ghost use Rattle.findscope.specs.Scopes.{Taken, Whole};
@@ -71,7 +70,13 @@ fn checked(
     requires { ⌜ (length (now files) ≡ 65536) × ((length (now area) ≡ 65536) × (16384 ≤ length (now nums))) ⌝ }
     ensures { λ r. ⌜ Checked (now (job .entry)) (now (glue .entry)) (now (glue .exit)) (now (pkg .entry)) (now (pkg .exit)) (now (report .entry)) (now (report .exit)) (now (log .entry)) (now (log .exit)) r ⌝ }
 {
-    let r = intent::read_intent(job, &mut files[..], &mut area[..], &mut nums[..], &mut log[..]);
+    let r = intent::read_intent(
+        job,
+        &mut files[..],
+        &mut area[..],
+        &mut nums[..],
+        &mut log[..],
+    );
     let taken = r.taken;
     if !taken {
         return answers::refused(r.number, r.place);
@@ -99,6 +104,23 @@ fn checked(
     answers::fitted(t, end, rooms)
 }
 
+// The same with the front of the second work area.
+fn in_area(
+    job: &[u8],
+    files: &mut [u8],
+    area: &mut [u8],
+    nums: &mut [u32],
+    glue: &mut [u8],
+    pkg: &mut [u8],
+    report: &mut [u8],
+    log: &mut [u8],
+) -> Answer
+    requires { ⌜ (length (now files) ≡ 65536) × ((65536 ≤ length (now area)) × (16384 ≤ length (now nums))) ⌝ }
+    ensures { λ r. ⌜ Checked (now (job .entry)) (now (glue .entry)) (now (glue .exit)) (now (pkg .entry)) (now (pkg .exit)) (now (report .entry)) (now (report .exit)) (now (log .entry)) (now (log .exit)) r ⌝ }
+{
+    checked(job, files, &mut area[..65536], nums, glue, pkg, report, log)
+}
+
 // Check 1, and the others.
 fn answered(
     job: &[u8],
@@ -121,16 +143,7 @@ fn answered(
     if nums.len() < 16384 {
         return answers::refused(1, 0);
     }
-    checked(
-        job,
-        &mut files[..65536],
-        &mut area[..65536],
-        nums,
-        glue,
-        pkg,
-        report,
-        log,
-    )
+    in_area(job, &mut files[..65536], area, nums, glue, pkg, report, log)
 }
 
 // A job, answered. Outputs past their length, and the work areas, are zero afterwards.
