@@ -7,7 +7,7 @@ use mathlib.Core.Path.{_≡_, refl, sym, ap, _∙_}
 use mathlib.Core.Bool.{Bool, true, false, cond}
 use mathlib.Core.List.{List, [], _∷_, map}
 use mathlib.Core.Option.{Option, none, some}
-use lib.ListN.{take, drop, getD}
+use lib.ListN.{length, take, drop, getD}
 use borrow.Author.Needs.{needs}
 use Rattle.text.specs.Ascii.{Bytes, ascii}
 use Rattle.text.specs.Compare.{same}
@@ -15,7 +15,7 @@ use Rattle.spans.specs.Span.{bytes, pairAt, pairs, strings}
 use Rattle.fields.specs.Fields.{among}
 use Rattle.model.specs.Names.{Named, commandNamed, names, or-unknown}
 use Rattle.model.specs.Numbers.{namedIn, namedBy}
-use Rattle.cmdnames.specs.Table.{numberIn}
+use Rattle.cmdnames.specs.Table.{numberIn, Numbered}
 
 -- k of n names are passed: the word is none of them
 pub record Left (table : Bytes) (spans : List ℕ) (n : ℕ) (w : Bytes) (k : ℕ) : Type 0 where
@@ -65,6 +65,23 @@ said (x ∷ xs) w = go (same w (ascii (x .0))) (said xs w)
     go true e = refl
     go false e = e
 
-pub number-is : (ns : List Bytes) (r : ℕ) (w : Bytes) → ns ≡ firsts names → r ≡ numberIn ns w → commandNamed w ≡ namedBy r
+named-is : (ns : List Bytes) (r : ℕ) (w : Bytes) → ns ≡ firsts names → r ≡ numberIn ns w → commandNamed w ≡ namedBy r
 unfolding commandNamed
-number-is ns r w e h = said names w ∙ rw (h, e)
+named-is ns r w e h = said names w ∙ rw (h, e)
+
+-- no number is past the names
+in-all : (ns : List Bytes) (w : Bytes) → numberIn ns w ≤ length ns
+unfolding numberIn
+in-all [] w = omega arith
+in-all (x ∷ xs) w = go (same w x) (in-all xs w)
+  where
+    go : (t : Bool) → numberIn xs w ≤ length xs → cond t 0 (suc (numberIn xs w)) ≤ suc (length xs)
+    go true e = omega arith
+    go false e = omega arith
+
+thirty : length (firsts names) ≡ 30
+unfolding firsts
+thirty = refl
+
+pub number-is : (ns : List Bytes) (r : ℕ) (w : Bytes) → ns ≡ firsts names → r ≡ numberIn ns w → Numbered w r
+number-is ns r w e h = record { is = named-is ns r w e h; known = omega (arith, h, in-all ns w, ap length e, thirty) }

@@ -4,9 +4,7 @@ ghost use mathlib.Core.List.{_++_};
 ghost use Prim.Native.Nat.{_*_, _≤_};
 ghost use lib.ListN.{length};
 ghost use Rattle.spans.specs.Span.{bytes, strings};
-ghost use Rattle.model.specs.Names.{commandNamed};
-ghost use Rattle.model.specs.Numbers.{namedBy};
-ghost use Rattle.cmdnames.specs.Table.{numberIn};
+ghost use Rattle.cmdnames.specs.Table.{numberIn, Numbered};
 use spans::span::Span;
 use spans::span::is;
 use text::part::part;
@@ -104,7 +102,7 @@ fn find<'a>(
 
 // The number of the command that a word names, from 0; 30 for no name of the table.
 pub fn number<'a>(files: &'a [u8], area: &'a [u8], w: Span) -> usize
-    ensures { λ r. ⌜ commandNamed (bytes (now (files .entry) ++ now (area .entry)) w) ≡ namedBy r ⌝ }
+    ensures { λ r. ⌜ Numbered (bytes (now (files .entry) ++ now (area .entry)) w) r ⌝ }
 {
     find(files, area, w, &NAMES, &SPANS, 30)
 }

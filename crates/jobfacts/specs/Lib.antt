@@ -1,3 +1,4 @@
 pub mod WellFormed
 pub mod Kept
 pub mod Accepted
+pub mod Bodies

@@ -98,6 +98,7 @@ pub record Doing (job files area nums words : List ℕ) (count n k left : ℕ) (
   pub held : Held files area nums 1 s
   pub worded : Worded files words n s
   pub named : 0 < n
+  pub few : n ≤ 128
   pub file : k < count
   pub depth : left ≤ 16
 

@@ -1,0 +1,3 @@
+// The files, command by command.
+pub mod file;
+pub mod whole;

@@ -1,0 +1,14 @@
+-- `plain::counted` meets its contract. Assumes nothing.
+use Rattle.plain.proofs.Counts.{counts}
+use Rattle.plain.proofs.counted.Statement.{statement}
+use Rattle.plain.proofs.counted.Tie as tie
+
+pub counted-spec : {M : Type 1} → statement M
+counted-spec =
+    tie.close (tie.spec
+    (λ c. search counts)  -- returns
+    (λ c κs. search counts)  -- entries-requires
+    (λ c. search counts)  -- enum-told
+    (λ c. search counts)  -- enum-known-t
+    (λ c. search counts)  -- returns-2
+    (λ c. search counts))  -- returns-3
