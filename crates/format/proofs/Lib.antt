@@ -1,0 +1,3 @@
+pub mod Scopes
+pub mod Arguments
+pub mod Letters

@@ -1,0 +1,4 @@
+// Templates in the Rust's own syntax, filled with texts in pieces.
+pub mod arg;
+pub mod fill;
+pub mod path;
