@@ -32,7 +32,14 @@ use Rattle.actual.specs.declared.Net.{Net}
 use Rattle.actual.specs.declared.Net.the-variants as net
 use Rattle.actual.specs.declared.Says.{Says}
 use Rattle.actual.specs.declared.Says.the-variants as says
-use Rattle.actual.specs.Nets.{netIs, saidIs, actualOf, atEnd, starAt, connNext, portNext, isFirstAt, saysAt, lastOf, ports-from, ports-end}
+use Rattle.refs.specs.Text.{textOf, jobRef}
+use Rattle.refs.specs.Laws.{job-is}
+use Rattle.refs.specs.declared.Ref.{Ref}
+use Rattle.actual.specs.Nets.{netIs, PlainSeen, saidIs, actualOf, atEnd, starAt, connNext, portNext, isFirstAt, saysAt, lastOf, ports-from, ports-end}
+
+-- ---- the port's name
+pub port-is : (job mem : Bytes) (n : Span) (y : Ref) (x : Ref) (b : Bool) → x ≡ jobRef (n .at) (n .len) → b ≡ same (textOf job mem x) (textOf job mem y) → b ≡ same (spanned job n) (textOf job mem y)
+port-is job mem n y x b e h = h ∙ rw (e, job-is job mem (n .at) (n .len))
 
 -- ---- one connection
 module _ (b : Bool) (c : ConnAt) where
@@ -44,12 +51,12 @@ module _ (b : Bool) (c : ConnAt) where
 
 pub ruleset stars = (needs, star-had, star-new)
 
-module _ (job : Bytes) (n : Span) (p : Bytes) (w : Bytes) (ew : w ≡ spanned job n) (b : Bool) (eb : b ≡ same w (ascii "-")) where
-  pub plain-not : b ≡ true → none ≡ plain (spanned job n)
-  plain-not h = rw (← ew, ← eb, h)
+module _ (job : Bytes) (n : Span) (w : Bytes) (ew : w ≡ spanned job n) (b : Bool) (eb : b ≡ same w (ascii "-")) where
+  pub plain-not : b ≡ true → PlainSeen job n net.None
+  plain-not h = record { is = λ p. rw (← ew, ← eb, h) }
 
-  pub plain-is : b ≡ false → some (spanned job n) ≡ plain (spanned job n)
-  plain-is h = let e : same (spanned job n) (ascii "-") ≡ false = sym (ap (λ (x : Bytes). same x (ascii "-")) ew) ∙ (sym eb ∙ h) in rw e
+  pub plain-is : b ≡ false → PlainSeen job n (net.Of n)
+  plain-is h = let e : same (spanned job n) (ascii "-") ≡ false = sym (ap (λ (x : Bytes). same x (ascii "-")) ew) ∙ (sym eb ∙ h) in record { is = λ p. rw e }
 
 pub ruleset plains = (needs, plain-not, plain-is)
 
@@ -57,8 +64,8 @@ module _ (job : Bytes) (q : PortAt) (p : Bytes) where
   pub first-none : q ≡ port.End → false ≡ isFirstAt job q p
   first-none g = rw g
 
-  pub first-is : (d : Dir·code) (n : Span) (next : ℕ) → q ≡ port.Port d n next → (w : Bytes) → w ≡ spanned job n → (b : Bool) → b ≡ same w p → b ≡ isFirstAt job q p
-  first-is d n next g w ew b eb = rw g (eb ∙ ap (λ (x : Bytes). same x p) ew)
+  pub first-is : (d : Dir·code) (n : Span) (next : ℕ) → q ≡ port.Port d n next → (b : Bool) → b ≡ same (spanned job n) p → b ≡ isFirstAt job q p
+  first-is d n next g b eb = rw g eb
 
 pub ruleset firsts = (needs, first-none, first-is)
 
@@ -69,9 +76,9 @@ module _ (job : Bytes) (c : ConnAt) (q : PortAt) (p : Bytes) where
   pub said-star : (next : ℕ) → c ≡ conn.Star next → none ≡ saysAt job c q p
   said-star next g = rw g
 
-  module _ (x : Span) (next : ℕ) (g : c ≡ conn.Implicit x next) (w : Bytes) (ew : w ≡ spanned job x) (b : Bool) (eb : b ≡ same w p) where
+  module _ (x : Span) (next : ℕ) (g : c ≡ conn.Implicit x next) (b : Bool) (eb : b ≡ same (spanned job x) p) where
     implicit-is : saysAt job c q p ≡ when b (some p)
-    implicit-is = rw (g, ← ew, ← eb)
+    implicit-is = rw (g, ← eb)
 
     pub said-implicit-not : not b ≡ true → none ≡ saysAt job c q p
     said-implicit-not h = sym (implicit-is ∙ rw (not-true b h))
@@ -79,15 +86,15 @@ module _ (job : Bytes) (c : ConnAt) (q : PortAt) (p : Bytes) where
     pub said-implicit : not b ≡ false → some (some p) ≡ saysAt job c q p
     said-implicit h = sym (implicit-is ∙ rw (not-false b h))
 
-  module _ (x n : Span) (next : ℕ) (g : c ≡ conn.Named x n next) (w : Bytes) (ew : w ≡ spanned job x) (b : Bool) (eb : b ≡ same w p) where
+  module _ (x n : Span) (next : ℕ) (g : c ≡ conn.Named x n next) (b : Bool) (eb : b ≡ same (spanned job x) p) where
     named-is : saysAt job c q p ≡ when b (plain (spanned job n))
-    named-is = rw (g, ← ew, ← eb)
+    named-is = rw (g, ← eb)
 
     pub said-named-not : not b ≡ true → none ≡ saysAt job c q p
     said-named-not h = sym (named-is ∙ rw (not-true b h))
 
-    pub said-named : not b ≡ false → (r : Net) → netIs job p r ≡ plain (spanned job n) → saidIs job p (says.This r) ≡ saysAt job c q p
-    said-named h r e = sym (named-is ∙ rw (not-false b h, e))
+    pub said-named : not b ≡ false → (r : Net) → PlainSeen job n r → saidIs job p (says.This r) ≡ saysAt job c q p
+    said-named h r e = sym (named-is ∙ rw (not-false b h, e .is p))
 
   module _ (n : Span) (next : ℕ) (g : c ≡ conn.Pos n next) (b : Bool) (eb : b ≡ isFirstAt job q p) where
     pos-is : saysAt job c q p ≡ when b (plain (spanned job n))
@@ -96,8 +103,8 @@ module _ (job : Bytes) (c : ConnAt) (q : PortAt) (p : Bytes) where
     pub said-pos-not : not b ≡ true → none ≡ saysAt job c q p
     said-pos-not h = sym (pos-is ∙ rw (not-true b h))
 
-    pub said-pos : not b ≡ false → (r : Net) → netIs job p r ≡ plain (spanned job n) → saidIs job p (says.This r) ≡ saysAt job c q p
-    said-pos h r e = sym (pos-is ∙ rw (not-false b h, e))
+    pub said-pos : not b ≡ false → (r : Net) → PlainSeen job n r → saidIs job p (says.This r) ≡ saysAt job c q p
+    said-pos h r e = sym (pos-is ∙ rw (not-false b h, e .is p))
 
 pub ruleset saids = (needs, said-end, said-star, said-implicit-not, said-implicit, said-named-not, said-named, said-pos-not, said-pos)
 

@@ -11,6 +11,7 @@ use Rattle.text.specs.Scan.{any}
 use Rattle.joblines.specs.Job.{Conn, Inst, Module}
 use Rattle.joblines.specs.Lines.{when}
 use Rattle.jobindex.specs.Index.{num, rowAt}
+use Rattle.jobindex.specs.declared.Span.{Span}
 use Rattle.design.specs.Connections.{plain, isStar, decided, outputActual}
 use Rattle.design.specs.Ports.{portOrder}
 use Rattle.lines.specs.Cursors.{spanned}
@@ -28,6 +29,10 @@ abbrev pub netIs : Bytes → Bytes → Net → Option Bytes
 netIs job p net.None = none
 netIs job p net.Own = some p
 netIs job p (net.Of s) = some (spanned job s)
+
+-- the net of a connection that has one, whatever the port's name is
+pub record PlainSeen (job : Bytes) (n : Span) (r : Net) : Type 0 where
+  pub is : (p : Bytes) → netIs job p r ≡ plain (spanned job n)
 
 -- what is said of the port: nothing, or its net
 abbrev pub saidIs : Bytes → Bytes → Says → Option (Option Bytes)

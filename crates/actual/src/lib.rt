@@ -2,14 +2,19 @@
 ghost use mathlib.Core.Path.{_≡_};
 ghost use Prim.Native.Nat.{_≤_};
 ghost use mathlib.Core.Bool.{_||_};
+ghost use mathlib.Core.List.{_++_};
+ghost use Rattle.text.specs.Compare.{same};
 ghost use Rattle.joblines.specs.Sections.{connsIn};
 ghost use Rattle.jobindex.specs.Index.{section, moduleRow};
-ghost use Rattle.design.specs.Connections.{plain as Connections·plain};
+ghost use Rattle.refs.specs.Text.{textOf};
 ghost use Rattle.lines.specs.Cursors.{spanned};
-ghost use Rattle.actual.specs.Nets.{netIs, saidIs, saysAt, isFirstAt, atEnd, starAt, lastOf, connNext, portNext, actualOf, ports-from, ports-end};
+ghost use Rattle.actual.specs.Nets.{netIs, PlainSeen, saidIs, saysAt, isFirstAt, atEnd, starAt, lastOf, connNext, portNext, actualOf, ports-from, ports-end};
 use jobindex::Span;
 use lines::ConnAt;
 use lines::PortAt;
+use refs::Ref;
+use refs::of_job;
+use refs::same_refs;
 
 // A net: none that is a plain identifier, that of the port's own name, or a name of the job.
 pub enum Net {
@@ -92,9 +97,17 @@ fn port_next(q: PortAt, end: usize) -> usize
     }
 }
 
+// Whether a part of the job is the port's name.
+fn is_port(job: &[u8], files: &[u8], area: &[u8], n: Span, port: Ref) -> bool
+    ensures { λ r. ⌜ r ≡ same (spanned (now (job .entry)) n) (textOf (now (job .entry)) (now (files .entry) ++ now (area .entry)) port) ⌝ }
+{
+    let name = of_job(n.at, n.len);
+    same_refs(job, files, area, name, port)
+}
+
 // Whether a port line is the port's.
-fn is_first(job: &[u8], q: PortAt, port: &[u8]) -> bool
-    ensures { λ r. ⌜ r ≡ isFirstAt (now (job .entry)) q (now (port .entry)) ⌝ }
+fn is_first(job: &[u8], files: &[u8], area: &[u8], q: PortAt, port: Ref) -> bool
+    ensures { λ r. ⌜ r ≡ isFirstAt (now (job .entry)) q (textOf (now (job .entry)) (now (files .entry) ++ now (area .entry)) port) ⌝ }
 {
     match q {
         PortAt::End => false,
@@ -102,13 +115,13 @@ fn is_first(job: &[u8], q: PortAt, port: &[u8]) -> bool
             dir: _,
             name,
             next: _,
-        } => text::compare::same(lines::part_of(job, name), port),
+        } => is_port(job, files, area, name, port),
     }
 }
 
-// The net of a connection that has one, where it is a plain identifier. (The port's name is not looked at.)
-fn plain(job: &[u8], net: Span, port: &[u8]) -> Net
-    ensures { λ r. ⌜ netIs (now (job .entry)) (now (port .entry)) r ≡ Connections·plain (spanned (now (job .entry)) net) ⌝ }
+// The net of a connection that has one, where it is a plain identifier.
+fn plain(job: &[u8], net: Span) -> Net
+    ensures { λ r. ⌜ PlainSeen (now (job .entry)) net r ⌝ }
 {
     if text::compare::same(lines::part_of(job, net), b"-") {
         return Net::None;
@@ -117,14 +130,14 @@ fn plain(job: &[u8], net: Span, port: &[u8]) -> Net
 }
 
 // What a connection says of the port; q is the header's name at the connection's own place.
-fn said_of(job: &[u8], c: ConnAt, q: PortAt, port: &[u8]) -> Says
-    ensures { λ r. ⌜ saidIs (now (job .entry)) (now (port .entry)) r ≡ saysAt (now (job .entry)) c q (now (port .entry)) ⌝ }
+fn said_of(job: &[u8], files: &[u8], area: &[u8], c: ConnAt, q: PortAt, port: Ref) -> Says
+    ensures { λ r. ⌜ saidIs (now (job .entry)) (textOf (now (job .entry)) (now (files .entry) ++ now (area .entry)) port) r ≡ saysAt (now (job .entry)) c q (textOf (now (job .entry)) (now (files .entry) ++ now (area .entry)) port) ⌝ }
 {
     match c {
         ConnAt::End => Says::Other,
         ConnAt::Star { next: _ } => Says::Other,
         ConnAt::Implicit { port: p, next: _ } => {
-            if !text::compare::same(lines::part_of(job, p), port) {
+            if !is_port(job, files, area, p, port) {
                 return Says::Other;
             }
             Says::This(Net::Own)
@@ -134,16 +147,16 @@ fn said_of(job: &[u8], c: ConnAt, q: PortAt, port: &[u8]) -> Says
             net,
             next: _,
         } => {
-            if !text::compare::same(lines::part_of(job, p), port) {
+            if !is_port(job, files, area, p, port) {
                 return Says::Other;
             }
-            Says::This(plain(job, net, port))
+            Says::This(plain(job, net))
         }
         ConnAt::Pos { net, next: _ } => {
-            if !is_first(job, q, port) {
+            if !is_first(job, files, area, q, port) {
                 return Says::Other;
             }
-            Says::This(plain(job, net, port))
+            Says::This(plain(job, net))
         }
     }
 }
@@ -165,10 +178,12 @@ pub fn output_actual(
     next: usize,
     end: usize,
     sub: usize,
-    port: &[u8],
+    files: &[u8],
+    area: &[u8],
+    port: Ref,
 ) -> Net
     requires { ⌜ sub ≤ 128 ⌝ }
-    ensures { λ r. ⌜ netIs (now (job .entry)) (now (port .entry)) r ≡ actualOf (connsIn (section (now (job .entry)) next end)) (moduleRow (now (job .entry)) (now (index .entry)) sub) (now (port .entry)) ⌝ }
+    ensures { λ r. ⌜ netIs (now (job .entry)) (textOf (now (job .entry)) (now (files .entry) ++ now (area .entry)) port) r ≡ actualOf (connsIn (section (now (job .entry)) next end)) (moduleRow (now (job .entry)) (now (index .entry)) sub) (textOf (now (job .entry)) (now (files .entry) ++ now (area .entry)) port) ⌝ }
 {
     let pe = text::part::place(index, 128 + 8 * sub + 4);
     let mut p = text::part::place(index, 128 + 8 * sub + 3);
@@ -180,7 +195,7 @@ pub fn output_actual(
             return last(star);
         }
         let q = lines::next_port(job, p, pe);
-        let s = said_of(job, c, q, port);
+        let s = said_of(job, files, area, c, q, port);
         let Says::This(net) = s else {
             star = star_at(star, c);
             at = conn_next(c, end);

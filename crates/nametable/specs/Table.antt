@@ -128,10 +128,11 @@ tag-form form sep w = go (eqb form 0) refl (eqb form 2) refl sep
     go false e false f true = rw (e, f)
     go false e false f false = rw (e, f)
 
-module _ (mem : Bytes) (t : List ℕ) (k : ℕ) (n : Name) (h : 5 * k + 5 ≤ length t) where
-  same-row : nameOf mem (rowName (rowPut t k n) k) ≡ nameOf mem n
-  unfolding rowName nameOf
-  same-row =
+-- what is read back from row k: the spans, the slash, and the form as a name looks at it
+module _ (t : List ℕ) (k : ℕ) (n : Name) (h : 5 * k + 5 ≤ length t) where
+  pub row-back : rowName (rowPut t k n) k ≡ named (n .scope) (n .sep) (n .word) (formAt (tagOf (n .form) (n .sep)))
+  unfolding rowName
+  row-back =
       let l1 = set t (5 * k) (n .scope .at) in
       let l2 = set l1 (5 * k + 1) (n .scope .len) in
       let l3 = set l2 (5 * k + 2) (n .word .at) in
@@ -146,7 +147,12 @@ module _ (mem : Bytes) (t : List ℕ) (k : ℕ) (n : Name) (h : 5 * k + 5 ≤ le
       let e2 : getD (rowPut t k n) (5 * k + 2) 0 ≡ n .word .at = getD-set-other l4 (5 * k + 4) (5 * k + 2) v 0 (λ e. omega arith) ∙ getD-set-other l3 (5 * k + 3) (5 * k + 2) (n .word .len) 0 (λ e. omega arith) ∙ getD-set-same l2 (5 * k + 2) (n .word .at) 0 (omega arith) in
       let e1 : getD (rowPut t k n) (5 * k + 1) 0 ≡ n .scope .len = getD-set-other l4 (5 * k + 4) (5 * k + 1) v 0 (λ e. omega arith) ∙ getD-set-other l3 (5 * k + 3) (5 * k + 1) (n .word .len) 0 (λ e. omega arith) ∙ getD-set-other l2 (5 * k + 2) (5 * k + 1) (n .word .at) 0 (λ e. omega arith) ∙ getD-set-same l1 (5 * k + 1) (n .scope .len) 0 (omega arith) in
       let e0 : getD (rowPut t k n) (5 * k) 0 ≡ n .scope .at = getD-set-other l4 (5 * k + 4) (5 * k) v 0 (λ e. omega arith) ∙ getD-set-other l3 (5 * k + 3) (5 * k) (n .word .len) 0 (λ e. omega arith) ∙ getD-set-other l2 (5 * k + 2) (5 * k) (n .word .at) 0 (λ e. omega arith) ∙ getD-set-other l1 (5 * k + 1) (5 * k) (n .scope .len) 0 (λ e. omega arith) ∙ getD-set-same t (5 * k) (n .scope .at) 0 (omega arith) in
-      rw (e0, e1, e2, e3, e4, tag-sep (n .form) (n .sep), tag-form (n .form) (n .sep) (bytes mem (n .word)))
+      rw (e0, e1, e2, e3, e4, tag-sep (n .form) (n .sep))
+
+module _ (mem : Bytes) (t : List ℕ) (k : ℕ) (n : Name) (h : 5 * k + 5 ≤ length t) where
+  pub same-row : nameOf mem (rowName (rowPut t k n) k) ≡ nameOf mem n
+  unfolding nameOf
+  same-row = rw (row-back t k n h, tag-form (n .form) (n .sep) (bytes mem (n .word)))
 
   -- a name put into the row behind n rows is one more at the end
   pub put-names : tableNames mem (rowPut t k n) (k + 1) ≡ tableNames mem t k ++ (nameOf mem n ∷ [])

@@ -8,7 +8,6 @@ is-first-spec =
     tie.close (tie.spec
     (λ c. search needs)  -- enum-told
     (λ c. search needs)  -- enum-known-q
-    (λ c κs. search needs)  -- part-of-requires
-    (λ c κs. search needs)  -- same-requires
-    (λ c. search needs)  -- returns
+    (λ c κs. search needs)  -- is-port-requires
+    (λ c. search firsts)  -- returns
     (λ c. search firsts))  -- returns-2

@@ -1,15 +1,17 @@
 use Prim.Native.Nat.{_+_, _≤_, _-_}
 use mathlib.Core.Path.{_≡_}
+use mathlib.Core.List.{_++_}
 use lib.ListN.{length, drop}
+use Rattle.refs.specs.Text.{textOf}
 use Rattle.actual.proofs.Turns.{Deciding, decisions}
 use Rattle.actual.proofs.output_actual.Statement.{statement}
 use Rattle.actual.proofs.output_actual.Tie as tie
 
 abbrev Inv-loop : tie.InvT-loop
-Inv-loop job index next end sub port pe p₀ at₀ star₀ p at star = Deciding job index next end sub port pe p at star
+Inv-loop job index next end sub files area port pe p₀ at₀ star₀ p at star = Deciding job index next end sub (textOf job (files ++ area) port) pe p at star
 
 abbrev μ-loop : tie.MeasureT-loop
-μ-loop job index next end sub port pe p₀ at₀ star₀ p at star = end - at
+μ-loop job index next end sub files area port pe p₀ at₀ star₀ p at star = end - at
 
 pub output-actual-spec : {M : Type 1} → statement M
 output-actual-spec =

@@ -10,20 +10,18 @@ said-of-spec =
     (λ c. search needs)  -- enum-told
     (λ c. search needs)  -- enum-told-2
     (λ c. search needs)  -- enum-known-c
-    (λ c κs. search needs)  -- part-of-requires
-    (λ c κs. search needs)  -- same-requires
+    (λ c κs. search needs)  -- is-port-requires
     (λ c. search saids)  -- returns
     (λ c. search needs)  -- enum-known-c-2
-    (λ c κs. search needs)  -- part-of-requires-2
-    (λ c κs. search needs)  -- same-requires-2
+    (λ c κs. search needs)  -- is-port-requires-2
     (λ c. search saids)  -- returns-2
     (λ c κs. search needs)  -- plain-requires
     (λ c. search needs)  -- enum-known-c-3
     (λ c κs. search needs)  -- is-first-requires
     (λ c. search saids)  -- returns-3
     (λ c κs. search needs)  -- plain-requires-2
-    (λ c. search needs)  -- returns-4
-    (λ c. search needs)  -- returns-5
+    (λ c. search saids)  -- returns-4
+    (λ c. search saids)  -- returns-5
     (λ c. search saids)  -- returns-6
     (λ c. search saids)  -- returns-7
     (λ c. search saids))  -- returns-8
