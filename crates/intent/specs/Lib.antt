@@ -1,0 +1,2 @@
+pub mod Intent
+pub mod Reads
