@@ -21,23 +21,45 @@ use Rattle.design.specs.Lookup.{moduleAt}
 use Rattle.design.specs.Paths.{dotted, elementPath, filledParts}
 use Rattle.walk.specs.Walk.{corruptible, modulesEntered, sumOver, retainedPaths, elementList, domainList, elementEntered, domainEntered}
 use Rattle.paths.specs.Sizes.{name-short}
+use Rattle.pathnumber.specs.Number.{number}
 use Rattle.listing.specs.declared.Walk.{Walk}
+use Rattle.listing.specs.Flags.{flagged-none}
 use Rattle.listing.specs.Listing.{cut, pathsOf, Ascends, cost, nowhere, Ready, Answer}
 use Rattle.listing.specs.Turns.{Turn, turn-end, turn-stop, turn-next}
+use Rattle.corrupt.specs.OverTable.{lostBelow, enteredBelow}
 use Rattle.corrupt.specs.Corrupt.{Given, DomainGiven, Walked}
+use Rattle.corrupt.proofs.OverTable.{lost-is, entered-is, table-sound}
 
 element-path : (e : Bytes) → elementPath [] e ≡ dotted e
 element-path [] = refl
 element-path (b ∷ e) = refl
 
+-- what is lent, once the flags are cleared
+pub domain-cleared : (job : Bytes) (index : List ℕ) (count k : ℕ) (table : List ℕ) (files area : Bytes) (n m prefix : ℕ) (tail text : Bytes) (ends ends′ : List ℕ) → DomainGiven job index count k table files area n m prefix tail text ends → length ends′ ≡ length ends → DomainGiven job index count k table files area n m prefix tail text ends′
+domain-cleared job index count k table files area n m prefix tail text ends ends′ g e =
+    record {
+      few = g .few;
+      row = g .row;
+      job-small = g .job-small;
+      memory-small = g .memory-small;
+      entries-few = g .entries-few;
+      elements-few = g .elements-few;
+      prefix-small = g .prefix-small;
+      tail-long = g .tail-long;
+      text-long = g .text-long;
+      ends-long = omega (arith, g .ends-long, e);
+      short = g .short;
+      tabled = g .tabled;
+    }
+
 -- the elements from row i on are left
-pub record Elements (job : Bytes) (index : List ℕ) (count k : ℕ) (files area : Bytes) (n : ℕ) (entries : List Bytes) (elements : List ℕ) (m prefix : ℕ) (tail₀ text₀ : Bytes) (ends₀ : List ℕ) (total : ℕ) (all : List Bytes) (text : Bytes) (ends : List ℕ) (w : Walk) (i : ℕ) : Type 0 where
+pub record Elements (job : Bytes) (index : List ℕ) (count k : ℕ) (table : List ℕ) (files area : Bytes) (n : ℕ) (entries : List Bytes) (elements : List ℕ) (m prefix : ℕ) (tail₀ text₀ : Bytes) (ends₀ : List ℕ) (total : ℕ) (all : List Bytes) (text : Bytes) (ends : List ℕ) (w : Walk) (i : ℕ) : Type 0 where
   pub turn : Turn prefix total all w text ends
       (sumOver (elementEntered (modules job index count) (moduleRow job index k) [] entries) (namesFrom (files ++ area) elements i (m - i)))
       (flatMap (elementList (modules job index count) (moduleRow job index k) [] entries) (namesFrom (files ++ area) elements i (m - i)))
-  pub given : DomainGiven job index count k files area n m prefix tail₀ text₀ ends₀
+  pub given : DomainGiven job index count k table files area n m prefix tail₀ text₀ ends₀
 
-module _ (job : Bytes) (index : List ℕ) (count k : ℕ) (files area : Bytes) (n : ℕ) (entries : List Bytes) (elements : List ℕ) (m prefix : ℕ) (tail₀ text₀ : Bytes) (ends₀ : List ℕ) where
+module _ (job : Bytes) (index : List ℕ) (count k : ℕ) (table : List ℕ) (files area : Bytes) (n : ℕ) (entries : List Bytes) (elements : List ℕ) (m prefix : ℕ) (tail₀ text₀ : Bytes) (ends₀ : List ℕ) where
   abbrev d : List Module
   d = modules job index count
 
@@ -47,8 +69,8 @@ module _ (job : Bytes) (index : List ℕ) (count k : ℕ) (files area : Bytes) (
   abbrev mem : Bytes
   mem = files ++ area
 
-  pub elements-start : DomainGiven job index count k files area n m prefix tail₀ text₀ ends₀ → (w : Walk) → w ≡ nowhere
-      → Elements job index count k files area n entries elements m prefix tail₀ text₀ ends₀ (domainEntered d base [] entries (tableNames mem elements m)) (domainList d base [] entries (tableNames mem elements m)) text₀ ends₀ w 0
+  pub elements-start : DomainGiven job index count k table files area n m prefix tail₀ text₀ ends₀ → (w : Walk) → w ≡ nowhere
+      → Elements job index count k table files area n entries elements m prefix tail₀ text₀ ends₀ (domainEntered d base [] entries (tableNames mem elements m)) (domainList d base [] entries (tableNames mem elements m)) text₀ ends₀ w 0
   unfolding domainEntered domainList cut cost sumOver Ascends
   elements-start g w ew =
       rw ew (record {
@@ -63,6 +85,7 @@ module _ (job : Bytes) (index : List ℕ) (count k : ℕ) (files area : Bytes) (
             entered-few = omega arith;
             text-long = g .text-long;
             ends-long = g .ends-long;
+            flagged = flagged-none ends₀;
             small = g .prefix-small;
           };
           entered-left = rw (sub-zero m) (omega arith);
@@ -71,7 +94,7 @@ module _ (job : Bytes) (index : List ℕ) (count k : ℕ) (files area : Bytes) (
         given = g;
       })
 
-  module _ (total : ℕ) (all : List Bytes) (text : Bytes) (ends : List ℕ) (w : Walk) (i : ℕ) (inv : Elements job index count k files area n entries elements m prefix tail₀ text₀ ends₀ total all text ends w i) where
+  module _ (total : ℕ) (all : List Bytes) (text : Bytes) (ends : List ℕ) (w : Walk) (i : ℕ) (inv : Elements job index count k table files area n entries elements m prefix tail₀ text₀ ends₀ total all text ends w i) where
     pub elements-end : m ≤ i → Answer prefix total all w text ends
     unfolding sumOver flatMap
     elements-end h =
@@ -88,7 +111,7 @@ module _ (job : Bytes) (index : List ℕ) (count k : ℕ) (files area : Bytes) (
     pub element-fits : i < m → i + 1 < 2 ^ 64
     element-fits h = omega (arith, inv .given .elements-few)
 
-    module _ (h : i < m) (e : Name) (ee : e ≡ rowName elements i) where
+    module _ (l : i < m) (e : Name) (ee : e ≡ rowName elements i) where
       left-is : namesFrom mem elements i (m - i) ≡ nameOf mem e ∷ namesFrom mem elements (i + 1) (m - (i + 1))
       left-is =
           let z : m - i ≡ suc (m - (i + 1)) = omega arith in
@@ -103,7 +126,7 @@ module _ (job : Bytes) (index : List ℕ) (count k : ℕ) (files area : Bytes) (
       paths-left = rw left-is
 
       module _ (row : ℕ) (seen : ModuleSeen job index count (moduleAt d base (filledParts (nameOf mem e))) row) where
-        pub elements-pass : row ≡ 0 → Elements job index count k files area n entries elements m prefix tail₀ text₀ ends₀ total all text ends w (i + 1)
+        pub elements-pass : row ≡ 0 → Elements job index count k table files area n entries elements m prefix tail₀ text₀ ends₀ total all text ends w (i + 1)
         unfolding rowIs elementEntered elementList
         elements-pass z =
             let o : moduleAt d base (filledParts (nameOf mem e)) ≡ none = sym (seen .says) ∙ rw z in
@@ -121,22 +144,21 @@ module _ (job : Bytes) (index : List ℕ) (count k : ℕ) (files area : Bytes) (
         pub element-small : length files + length area < 2 ^ 32
         element-small = inv .given .memory-small
 
-        module _ (z : row ≡ 0 → ⊥) (elen : ℕ) (el : elen ≡ length (nameOf mem e)) where
-          pub element-walk : Given job index count (row - 1) 32 mem n e elen 0
+        module _ (z : row ≡ 0 → ⊥) (elen : ℕ) (el : elen ≡ length (nameOf mem e)) (h : ℕ) (eh : h ≡ number 0 (dotted (nameOf mem e))) where
+          pub element-walk : Given job table (row - 1) 32 mem n e elen h 0
           element-walk =
               let g = inv .given in
               record {
-                few = g .few;
-                row = omega (arith, seen .within, z);
+                sound = table-sound job index count table (g .tabled) (g .short) (g .few) (row - 1) (omega (arith, seen .within, z));
                 entries-few = g .entries-few;
                 elen-is = el;
+                number-is = eh;
                 elen-small = omega (arith, el, name-short mem e, length-append files area, g .memory-small);
                 job-small = g .job-small;
                 room = omega arith;
-                short = g .short;
               }
 
-          module _ (tail tail′ : Bytes) (w′ : Walk) (text′ : Bytes) (ends′ : List ℕ) (a : Walked job index count (row - 1) 32 mem entries e tail tail′ 0 prefix (w .entered) (pathsOf text ends (w .count)) w′ text′ ends′) where
+          module _ (tail tail′ : Bytes) (w′ : Walk) (text′ : Bytes) (ends′ : List ℕ) (a : Walked job table (row - 1) 32 mem entries e tail tail′ 0 prefix (w .entered) (pathsOf text ends (w .count)) w′ text′ ends′) where
             found : moduleAt d base (filledParts (nameOf mem e)) ≡ some (moduleRow job index (row - 1))
             unfolding rowIs
             found = let y : row ≡ suc (row - 1) = omega arith in sym (seen .says) ∙ ap (rowIs job index) y
@@ -146,7 +168,13 @@ module _ (job : Bytes) (index : List ℕ) (count k : ℕ) (files area : Bytes) (
 
             answer-is : Answer prefix (w .entered + elementEntered d base [] entries (nameOf mem e)) (addAll (pathsOf text ends (w .count)) (elementList d base [] entries (nameOf mem e))) w′ text′ ends′
             unfolding elementEntered elementList
-            answer-is = rw found (rw path-is at (a .answer))
+            answer-is =
+                let l : row - 1 < count = omega (arith, seen .within, z) in
+                rw found (rw (
+                  path-is,
+                  entered-is job index count table (inv .given .tabled) (retainedPaths [] entries) 32 (row - 1) l (elementPath [] (nameOf mem e)),
+                  lost-is job index count table (inv .given .tabled) (retainedPaths [] entries) 32 (row - 1) l (elementPath [] (nameOf mem e)),
+                ) at (a .answer))
 
             pub elements-stop : w′ .over ≡ true → Answer prefix total all w′ text′ ends′
             elements-stop o =
@@ -154,7 +182,7 @@ module _ (job : Bytes) (index : List ℕ) (count k : ℕ) (files area : Bytes) (
                 (elementEntered d base [] entries (nameOf mem e)) (sumOver (elementEntered d base [] entries) (namesFrom mem elements (i + 1) (m - (i + 1)))) (elementList d base [] entries (nameOf mem e)) (flatMap (elementList d base [] entries) (namesFrom mem elements (i + 1) (m - (i + 1))))
                 entered-left paths-left w′ text′ ends′ answer-is o
 
-            pub elements-on : w′ .over ≡ false → Elements job index count k files area n entries elements m prefix tail₀ text₀ ends₀ total all text′ ends′ w′ (i + 1)
+            pub elements-on : w′ .over ≡ false → Elements job index count k table files area n entries elements m prefix tail₀ text₀ ends₀ total all text′ ends′ w′ (i + 1)
             elements-on o =
                 record {
                   turn = turn-next prefix total all w text ends (sumOver (elementEntered d base [] entries) (namesFrom mem elements i (m - i))) (flatMap (elementList d base [] entries) (namesFrom mem elements i (m - i))) (inv .turn)

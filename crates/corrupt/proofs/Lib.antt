@@ -1,3 +1,4 @@
+pub mod OverTable
 pub mod OwnNames
 pub mod Rounds
 pub mod Domain

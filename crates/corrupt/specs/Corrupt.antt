@@ -8,40 +8,43 @@ use lib.Dec.{eqb}
 use lib.ListN.{length, take}
 use Rattle.text.specs.Ascii.{Bytes, byte}
 use Rattle.joblines.specs.Job.{Inst}
-use Rattle.jobindex.specs.Index.{moduleRow}
-use Rattle.lookup.specs.Rows.{modules}
+use Rattle.jobindex.specs.Index.{num, moduleRow}
 use Rattle.names.specs.Name.{nameOf}
 use Rattle.names.specs.declared.name.Name.{Name}
 use Rattle.design.specs.Lists.{addAll}
 use Rattle.design.specs.Paths.{dotted}
 use Rattle.walk.specs.Limits.{most-depth, most-paths, most-path-bytes}
-use Rattle.walk.specs.Walk.{corruptible, modulesEntered, retainedPaths}
-use Rattle.listing.specs.Listing.{Answer}
+use Rattle.walk.specs.Walk.{retainedPaths}
+use Rattle.pathnumber.specs.Number.{number}
+use Rattle.listing.specs.Listing.{flag-count, Answer}
 use Rattle.listing.specs.declared.Walk.{Walk}
+use Rattle.modtable.specs.Table.{names-at, Tabled}
+use Rattle.corrupt.specs.OverTable.{lostBelow, enteredBelow, Sound}
 
 -- the names of instances have at most 64 bytes
 abbrev pub Short : Bytes → List ℕ → ℕ → Type 0
 Short job index count = (k : ℕ) → k < count → (i : Inst) → Mem i (moduleRow job index k .insts) → length (i .name) ≤ 64
 
 -- for the names of one module
-pub record OwnGiven (job : Bytes) (k : ℕ) (mem : Bytes) (e : Name) (elen : ℕ) (tail : Bytes) : Type 0 where
+pub record OwnGiven (job : Bytes) (table : List ℕ) (k : ℕ) (mem : Bytes) (e : Name) (elen h : ℕ) (tail : Bytes) : Type 0 where
   pub row : k ≤ 128
+  pub few : num table (names-at k) ≤ 192
   pub elen-is : elen ≡ length (nameOf mem e)
+  pub number-is : h ≡ number 0 (dotted (nameOf mem e))
   pub fits : elen + (length tail + length job) < 2 ^ 40
 
 -- for the walk from one module: a tail of 2,080 bytes has room for the instances left, each with a dot
-pub record Given (job : Bytes) (index : List ℕ) (count k left : ℕ) (mem : Bytes) (n : ℕ) (e : Name) (elen t : ℕ) : Type 0 where
-  pub few : count ≤ 128
-  pub row : k < count
+pub record Given (job : Bytes) (table : List ℕ) (k left : ℕ) (mem : Bytes) (n : ℕ) (e : Name) (elen h t : ℕ) : Type 0 where
+  pub sound : Sound job table k
   pub entries-few : n ≤ 65536
   pub elen-is : elen ≡ length (nameOf mem e)
+  pub number-is : h ≡ number 0 (dotted (nameOf mem e))
   pub elen-small : elen < 2 ^ 36
   pub job-small : length job < 2 ^ 32
   pub room : t + 65 * left ≤ 65 * most-depth
-  pub short : Short job index count
 
 -- for the walk of a domain
-pub record DomainGiven (job : Bytes) (index : List ℕ) (count k : ℕ) (files area : Bytes) (n m prefix : ℕ) (tail text : Bytes) (ends : List ℕ) : Type 0 where
+pub record DomainGiven (job : Bytes) (index : List ℕ) (count k : ℕ) (table : List ℕ) (files area : Bytes) (n m prefix : ℕ) (tail text : Bytes) (ends : List ℕ) : Type 0 where
   pub few : count ≤ 128
   pub row : k < count
   pub job-small : length job < 2 ^ 32
@@ -51,8 +54,9 @@ pub record DomainGiven (job : Bytes) (index : List ℕ) (count k : ℕ) (files a
   pub prefix-small : prefix < 2 ^ 32
   pub tail-long : 2081 ≤ length tail
   pub text-long : most-path-bytes ≤ length text
-  pub ends-long : most-paths ≤ length ends
+  pub ends-long : most-paths + flag-count ≤ length ends
   pub short : Short job index count
+  pub tabled : Tabled job index count table
 
 -- the dot behind a path of elen and t bytes that is not empty
 abbrev pub dotBehind : ℕ → ℕ → Bytes
@@ -63,7 +67,7 @@ pub record Stemmed (elen t : ℕ) (tail tail′ : Bytes) (r : ℕ) : Type 0 wher
   pub front : take r tail′ ≡ take t tail ++ dotBehind elen t
   pub kept : length tail′ ≡ length tail
 
--- the answer of the walk from module k, called after v modules were entered and ps listed; the front of the tail is kept
-pub record Walked (job : Bytes) (index : List ℕ) (count k left : ℕ) (mem : Bytes) (entries : List Bytes) (e : Name) (tail tail′ : Bytes) (t prefix v : ℕ) (ps : List Bytes) (r : Walk) (text : Bytes) (ends : List ℕ) : Type 0 where
+-- the answer of the walk from row k, called after v modules were entered and ps listed; the front of the tail is kept
+pub record Walked (job : Bytes) (table : List ℕ) (k left : ℕ) (mem : Bytes) (entries : List Bytes) (e : Name) (tail tail′ : Bytes) (t prefix v : ℕ) (ps : List Bytes) (r : Walk) (text : Bytes) (ends : List ℕ) : Type 0 where
   pub kept : take t tail′ ≡ take t tail
-  pub answer : Answer prefix (v + modulesEntered (modules job index count) (retainedPaths [] entries) left (moduleRow job index k) (dotted (nameOf mem e) ++ take t tail)) (addAll ps (corruptible (modules job index count) (retainedPaths [] entries) left (moduleRow job index k) (dotted (nameOf mem e) ++ take t tail))) r text ends
+  pub answer : Answer prefix (v + enteredBelow job table (retainedPaths [] entries) left k (dotted (nameOf mem e) ++ take t tail)) (addAll ps (lostBelow job table (retainedPaths [] entries) left k (dotted (nameOf mem e) ++ take t tail))) r text ends

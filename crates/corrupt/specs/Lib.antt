@@ -1,1 +1,3 @@
+pub mod OverTable
 pub mod Corrupt
+pub mod RowMem

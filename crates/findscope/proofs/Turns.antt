@@ -31,7 +31,7 @@ use Rattle.design.specs.Lookup.{moduleAt}
 use Rattle.design.specs.Search.{searchType, callsMade}
 use Rattle.lines.specs.Cursors.{spanned}
 use Rattle.lookup.specs.Rows.{modules, rowIs, ModuleSeen, at-none}
-use Rattle.walkfits.specs.Accepted.{row-mem}
+use Rattle.corrupt.specs.RowMem.{row-mem}
 use Rattle.search.specs.declared.Found.{Found}
 use Rattle.search.specs.Found.{wayFrom, way, Searched}
 use Rattle.store.specs.Strings.{spanOf, maybeOf}

@@ -1,3 +1,4 @@
+pub mod Flags
 pub mod Listing
 pub mod Turns
 pub mod Written

@@ -1,15 +1,21 @@
 -- How a text and its ends stand for a list of paths, how far a walk has come, and what its answer says: a refusal exactly where a limit is passed, else the paths.
 -- Assumes nothing.
-use Prim.Native.Nat.{ℕ, zero, suc, _+_, _-_, _≤_, _<_, _^_}
+use Prim.Native.Nat.{ℕ, zero, suc, _+_, _-_, _%_, _≤_, _<_, _^_}
 use mathlib.Core.Path.{_≡_, refl, sym, ap, _∙_}
 use mathlib.Core.Bool.{Bool, true, false, cond}
 use mathlib.Core.List.{List, [], _∷_, _++_}
 use native.Mathlib.Omega.{arith}
-use lib.ListN.{length, take, drop, length-append}
+use lib.ListN.{length, take, drop, getD, length-append}
 use lib.Seq.{take-take}
 use Rattle.text.specs.Ascii.{Bytes}
 use Rattle.text.specs.Lists.{drop-take}
 use Rattle.jobindex.specs.Index.{section}
+use Rattle.names.specs.Name.{nameOf}
+use Rattle.names.specs.declared.name.Name.{Name}
+use Rattle.design.specs.Lists.{isIn}
+use Rattle.design.specs.Paths.{dotted}
+use Rattle.paths.specs.Pieces.{Sized}
+use Rattle.pathnumber.specs.Number.{number}
 use Rattle.walk.specs.Limits.{most-entered, most-paths, most-path-bytes}
 use Rattle.walk.specs.Walk.{sumOver}
 use Rattle.listing.specs.declared.Walk.{Walk}
@@ -29,6 +35,19 @@ pathsOf text ends n = cut text 0 (take n ends)
 unfoldable pub Ascends : ℕ → List ℕ → ℕ → Type 0
 Ascends a [] z = a ≡ z
 Ascends a (e ∷ es) z = (a ≤ e) × Ascends e es z
+
+-- ---- the flags
+
+abbrev pub flag-count : ℕ
+flag-count = 16384
+
+-- where a path's flag stands: behind the ends, by the path's number
+abbrev pub flagPlace : Bytes → ℕ
+flagPlace p = most-paths + number 0 p % flag-count
+
+-- a path whose flag is not set is none of the list
+abbrev pub Flagged : List ℕ → List Bytes → Type 0
+Flagged ends ps = (p : Bytes) → getD ends (flagPlace p) 0 ≡ 0 → isIn p ps ≡ false
 
 -- ---- the limits
 
@@ -60,8 +79,15 @@ pub record Ready (prefix : ℕ) (s : Walk) (text : Bytes) (ends : List ℕ) : Ty
   pub few : s .count ≤ most-paths
   pub entered-few : s .entered ≤ most-entered
   pub text-long : most-path-bytes ≤ length text
-  pub ends-long : most-paths ≤ length ends
+  pub ends-long : most-paths + flag-count ≤ length ends
+  pub flagged : Flagged ends (pathsOf text ends (s .count))
   pub small : prefix < 2 ^ 32
+
+-- for a path that the list does not have
+pub record NewGiven (mem : Bytes) (e : Name) (elen : ℕ) (tail name : Bytes) (flag prefix : ℕ) (s : Walk) (text : Bytes) (ends : List ℕ) : Type 0 where
+  pub sized : Sized mem e elen tail name
+  pub flag-is : flag ≡ flagPlace (dotted (nameOf mem e) ++ (tail ++ name))
+  pub ready : Ready prefix s text ends
 
 -- the answer of a walk that enters v modules and lists ps
 pub record Answer (prefix v : ℕ) (ps : List Bytes) (r : Walk) (text : Bytes) (ends : List ℕ) : Type 0 where

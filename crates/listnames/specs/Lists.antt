@@ -14,6 +14,8 @@ use Rattle.entries.specs.Entry.{entryBytes}
 use Rattle.names.specs.Scoped.{scoped}
 use Rattle.names.specs.Name.{nameOf, nameEnd, entryOf}
 use Rattle.names.specs.declared.name.Name.{Name}
+use Rattle.model.specs.Records.{no-records, with-scope}
+use Rattle.model.specs.Commands.{nth, supplyOf}
 use Rattle.nametable.specs.Table.{tableNames}
 
 -- ---- one entry
@@ -31,6 +33,18 @@ unfoldable pub nthBelow : Bytes → ℕ → List Bytes → Bytes
 nthBelow scope k [] = []
 nthBelow scope ℕ.zero (e ∷ es) = scoped scope e
 nthBelow scope (ℕ.suc k) (e ∷ es) = nthBelow scope k es
+
+-- the net that a value of a switch's port names
+pub supply-net : (scope : Bytes) (es : List Bytes) → supplyOf (with-scope no-records scope) es .net ≡ nthBelow scope 1 es
+unfolding nthBelow
+supply-net scope [] = refl
+supply-net scope (p ∷ []) = refl
+supply-net scope (p ∷ n ∷ es) = refl
+
+pub supply-port : (scope : Bytes) (es : List Bytes) → supplyOf (with-scope no-records scope) es .port ≡ nth 0 es
+supply-port scope [] = refl
+supply-port scope (p ∷ []) = refl
+supply-port scope (p ∷ n ∷ es) = refl
 
 -- ---- what is asked: a value that lies in the files or in the area
 

@@ -1,14 +1,11 @@
 -- Laws: a command taken by its number. Assumes nothing.
-use Prim.Native.Nat.{ℕ, _≤_, _<_}
+use Prim.Native.Nat.{ℕ, _≤_}
 use mathlib.Core.Path.{_≡_}
 use mathlib.Core.List.{List}
 use lib.ListN.{length}
-use Rattle.text.specs.Ascii.{Bytes}
 use Rattle.model.specs.Numbers.{namedBy}
-use Rattle.read.specs.Reading.{Reading}
 use Rattle.store.specs.declared.state.State.{State}
 use Rattle.scopes.specs.declared.go.Out.{Out}
-use Rattle.scopes.specs.Moves.{Line}
 use Rattle.held.specs.Held.{modelAt, countedOf, Ran}
 use Rattle.loads.specs.Steps.{acted, lineAt}
 use Rattle.plain.specs.Asks.{Asks, Others}

@@ -1,10 +1,9 @@
 -- Laws: `set_scope`, which may write its scope to the area. Assumes nothing.
-use Prim.Native.Nat.{ℕ, _+_, _-_, _≤_, _<_}
+use Prim.Native.Nat.{ℕ, _+_, _-_, _≤_}
 use native.Mathlib.Omega.{arith}
-use native.Mathlib.Nat.{add-zero}
 use mathlib.Core.Path.{_≡_, refl, sym, ap, _∙_}
-use mathlib.Core.Bool.{Bool, true, false, cond, _&&_}
-use mathlib.Core.List.{List, [], _∷_, _++_}
+use mathlib.Core.Bool.{Bool, true, false, cond}
+use mathlib.Core.List.{List, []}
 use lib.Dec.{leb}
 use lib.ListN.{length, take, drop}
 use lib.Seq.{drop-drop}
@@ -12,7 +11,6 @@ use borrow.Author.Tests.{leb-true}
 use Rattle.text.specs.Ascii.{Bytes}
 use Rattle.text.specs.Sames.{both}
 use Rattle.out.specs.Emit.{_▸_, emit}
-use Rattle.spans.specs.Span.{strings}
 use Rattle.tcl.specs.Arguments.{nameOf}
 use Rattle.args.specs.View.{wordsFrom}
 use Rattle.model.specs.Names.{Named}
@@ -20,15 +18,14 @@ use Rattle.model.specs.Records.{Model, with-scope}
 use Rattle.model.specs.Scope.{moved}
 use Rattle.model.specs.Commands.{scope-command}
 use Rattle.model.specs.Within.{Counted}
-use Rattle.read.specs.Reading.{Reading, done, refused, Line, lineOf}
+use Rattle.read.specs.Reading.{Reading, done, refused}
 use Rattle.store.specs.Strings.{string}
 use Rattle.store.specs.View.{modelOf}
 use Rattle.store.specs.Rows.{storeOf}
 use Rattle.store.specs.declared.state.State.{State}
 use Rattle.scopes.specs.declared.go.Out.{Out}
 use Rattle.scopes.specs.Moves.{scopeFits, In, Stays, Moves, Line as Scopes·Line}
-use Rattle.held.specs.Held.{memOf, modelAt, countedOf, Logged, Lends, Held, Lent, Comes, Ran}
-use Rattle.held.specs.Laws.{lent-same}
+use Rattle.held.specs.Held.{memOf, modelAt, countedOf, Logged, Lends, Held, Comes, Ran}
 use Rattle.loads.specs.Steps.{acted, lineAt}
 use Rattle.loads.specs.Scoped.{line-is, scoping, in-held, in-model, in-counted, in-log, scope-within}
 use Rattle.plain.specs.Asks.{Asks}

@@ -37,10 +37,10 @@ use Rattle.ports.specs.declared.Step.{Step}
 use Rattle.ports.specs.declared.Step.the-variants as step
 use Rattle.ports.specs.declared.body.Pick.{Pick}
 use Rattle.ports.specs.declared.body.Pick.the-variants as pick
-use Rattle.ports.specs.Headers.{outBy, outputsBy, othersBy, HeaderSeen}
+use Rattle.ports.specs.Headers.{outBy, outputsBy, othersBy, HeaderSeen, OtherSeen}
 use Rattle.ports.specs.Bodies.{pickIs, picked, picked-append, BodySeen}
 use Rattle.ports.specs.Fresh.{fresh, fresh-old, fresh-new, in-append, one-front}
-use Rattle.ports.specs.Cursors.{ports-from, decls-from, decls-end, header-end, headed, bodied, freshFrom, BodyAt, FreshSeen, CursorAt, AmongPorts, outputsFrom, signalsFrom, candidatesFrom, losableFrom, OutputSeen, CandidateSeen, LosableSeen}
+use Rattle.ports.specs.Cursors.{ports-from, decls-from, decls-end, header-end, headed, bodied, freshFrom, BodyAt, FreshSeen, CursorAt, AmongPorts, outputsFrom, signalsFrom, candidatesFrom, losableFrom, OutputSeen, CandidateSeen, LosableSeen, inputsFrom, InputSeen}
 use Rattle.ports.specs.Starts.{inputs-are}
 
 -- ---- places
@@ -86,6 +86,30 @@ pub passed-start : (job : Bytes) (at : ℕ) → Passed job at at
 passed-start job at = passed-none job at
 
 pub ruleset headerTurns = (needs, passed-start, header-none, header-less, header-passed, header-here, header-on)
+
+-- ---- the next other port of a header
+module _ (job : Bytes) (at end i : ℕ) (o : Bool) (inv : othersBy false (portsIn (section job at end)) ≡ othersBy o (portsIn (section job i end))) (r : PortAt) (seen : PortSeen job i end r) where
+  pub next-none : r ≡ port.End → OtherSeen job at end named.End
+  unfolding othersBy
+  next-none g = record { says = sym (inv ∙ rw (← seen .says, g)) }
+
+  module _ (d : Dir·code) (n : Span) (next : ℕ) (g : r ≡ port.Port d n next) where
+    on-next : Stepped job i end next
+    on-next = rw g at (seen .goes)
+
+    pub next-less : end - next < end - i
+    next-less = omega (arith, on-next .further, on-next .within)
+
+    module _ (b : Bool) (eb : b ≡ outBy o (dirIs d)) where
+      pub next-here : not b ≡ true → OtherSeen job at end (named.Name n next)
+      unfolding othersBy
+      next-here h = record { says = sym (inv ∙ rw (← seen .says, g, ← eb, not-true b h)) }
+
+      pub next-on : not b ≡ false → othersBy false (portsIn (section job at end)) ≡ othersBy true (portsIn (section job next end))
+      unfolding othersBy
+      next-on h = inv ∙ rw (← seen .says, g, ← eb, not-false b h)
+
+pub ruleset nextTurns = (needs, next-none, next-less, next-here, next-on)
 
 -- ---- whether a name is an output port of a header
 module _ (job : Bytes) (at end : ℕ) (name : Bytes) (i : ℕ) (o : Bool) (inv : isIn name (outputsBy false (portsIn (section job at end))) ≡ isIn name (outputsBy o (portsIn (section job i end)))) (r : NameAt) (seen : HeaderSeen job i end o r) where
@@ -340,6 +364,36 @@ module _ (job : Bytes) (index : List ℕ) (k : ℕ) (c : Cursor) where
   output-signals at g = rw g (record { says = refl; goes = tt; ports = tt })
 
 pub ruleset outputSteps = (needs, body-first, body-cursor, output-first, output-header, output-body, output-signals)
+
+-- ---- the next non-output port
+module _ (job : Bytes) (index : List ℕ) (k at e : ℕ) (ee : e ≡ decls-end index k) (r : NameAt) (seen : BodySeen job at e pick.Other r) where
+  pub input-end : r ≡ named.End → InputSeen job index k (cursor.Body at) step.End
+  input-end g = record { says = rw (← ee, ← seen .says, g) }
+
+  pub input-step : (n : Span) (next : ℕ) → r ≡ named.Name n next → InputSeen job index k (cursor.Body at) (step.Name n (cursor.Body next))
+  input-step n next g = record { says = rw (← ee, ← seen .says, g) }
+
+pub ruleset inputBodies = (needs, input-end, input-step)
+
+module _ (job : Bytes) (index : List ℕ) (k : ℕ) (c : Cursor) where
+  module _ (at : ℕ) (out : Bool) (g : c ≡ cursor.Header at out) (h : ℕ) (eh : h ≡ header-end index k) (r : NameAt) (seen : OtherSeen job at h r) where
+    pub input-first : r ≡ named.End → (d : ℕ) → d ≡ decls-from index k → (q : Step) → InputSeen job index k (cursor.Body d) q → InputSeen job index k c q
+    input-first e d ed q s =
+        let l : othersBy false (portsIn (section job at (header-end index k))) ≡ [] = rw (← eh, ← seen .says, e) in
+        rw g (record { says = s .says ∙ rw (ed, l) })
+
+    pub input-next : (n : Span) (next : ℕ) → r ≡ named.Name n next → InputSeen job index k c (step.Name n (cursor.Header next false))
+    input-next n next e =
+        let l : othersBy false (portsIn (section job at (header-end index k))) ≡ spanned job n ∷ othersBy false (portsIn (section job next (header-end index k))) = rw (← eh, ← seen .says, e) in
+        rw g (record { says = rw l })
+
+  pub input-behind : (at : ℕ) → c ≡ cursor.Body at → (q : Step) → InputSeen job index k (cursor.Body at) q → InputSeen job index k c q
+  input-behind at g q s = rw g s
+
+  pub input-signals : (at : ℕ) → c ≡ cursor.Signals at → InputSeen job index k c step.End
+  input-signals at g = rw g (record { says = refl })
+
+pub ruleset inputSteps = (needs, input-first, input-next, input-behind, input-signals)
 
 -- ---- the next candidate
 module _ (job : Bytes) (index : List ℕ) (k at e : ℕ) (ee : e ≡ decls-end index k) (r : NameAt) (seen : BodySeen job at e pick.Signal r) where

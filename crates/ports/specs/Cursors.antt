@@ -85,6 +85,12 @@ candidatesFrom job index k c = outputsFrom job index k c ++ signalsFrom job inde
 abbrev pub losableFrom : Bytes → List ℕ → ℕ → Cursor → List Bytes
 losableFrom job index k c = those (λ n. not (isIn n (inputPorts (moduleRow job index k)))) (candidatesFrom job index k c)
 
+-- the non-output ports, from a cursor among the ports that stands behind one of them or at the first line
+abbrev pub inputsFrom : Bytes → List ℕ → ℕ → Cursor → List Bytes
+inputsFrom job index k (cursor.Header at out) = othersBy false (portsIn (section job at (header-end index k))) ++ picked pick.Other (declsIn (section job (decls-from index k) (decls-end index k)))
+inputsFrom job index k (cursor.Body at) = picked pick.Other (declsIn (section job at (decls-end index k)))
+inputsFrom job index k (cursor.Signals at) = []
+
 -- ---- cursors that stand where a line begins
 abbrev pub CursorAt : Bytes → List ℕ → ℕ → Cursor → Type 0
 CursorAt job index k (cursor.Header at out) = Unit {0}
@@ -122,3 +128,6 @@ pub record CandidateSeen (job : Bytes) (index : List ℕ) (k : ℕ) (c : Cursor)
 pub record LosableSeen (job : Bytes) (index : List ℕ) (k : ℕ) (c : Cursor) (r : Step) : Type 0 where
   pub says : stepped job (losableFrom job index k) r ≡ losableFrom job index k c
   pub goes : StepOn job index k r
+
+pub record InputSeen (job : Bytes) (index : List ℕ) (k : ℕ) (c : Cursor) (r : Step) : Type 0 where
+  pub says : stepped job (inputsFrom job index k) r ≡ inputsFrom job index k c

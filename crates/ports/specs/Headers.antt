@@ -68,3 +68,11 @@ NameOn job at end (name.Name n next) = Stepped job at end next
 pub record HeaderSeen (job : Bytes) (at end : ℕ) (out : Bool) (r : NameAt) : Type 0 where
   pub says : headerLeft job end r ≡ outputsBy out (portsIn (section job at end))
   pub goes : NameOn job at end r
+
+-- ---- a step along the others: behind one of them the last direction is not output
+abbrev pub otherLeft : Bytes → ℕ → NameAt → List Bytes
+otherLeft job end name.End = []
+otherLeft job end (name.Name n next) = spanned job n ∷ othersBy false (portsIn (section job next end))
+
+pub record OtherSeen (job : Bytes) (at end : ℕ) (r : NameAt) : Type 0 where
+  pub says : otherLeft job end r ≡ othersBy false (portsIn (section job at end))

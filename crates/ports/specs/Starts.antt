@@ -21,7 +21,7 @@ use Rattle.ports.specs.declared.body.Pick.the-variants as pick
 use Rattle.ports.specs.Headers.{outputsBy, othersBy, outputs-by, others-by}
 use Rattle.ports.specs.Bodies.{picked, picked-outputs, picked-others, picked-signals}
 use Rattle.ports.specs.Fresh.{fresh, added}
-use Rattle.ports.specs.Cursors.{ports-from, decls-from, decls-end, header-end, headed, bodied, freshFrom, outputsFrom, signalsFrom, losableFrom}
+use Rattle.ports.specs.Cursors.{ports-from, decls-from, decls-end, header-end, headed, bodied, freshFrom, outputsFrom, signalsFrom, inputsFrom, losableFrom}
 
 -- no style but ansi has header ports
 unstyled : (b : Bool) (ps : List Port) → headerPorts (cond b nonansi empty) ps ≡ []
@@ -60,6 +60,9 @@ module _ (job : Bytes) (index : List ℕ) (k : ℕ) where
 
   pub inputs-are : inputPorts row ≡ othersBy false (portsIn (section job (ports-from index k) (header-end index k))) ++ picked pick.Other (declsIn (section job (decls-from index k) (decls-end index k)))
   inputs-are = ap₂ (λ (a b : List Bytes). a ++ b) header-others (ap (λ ds. others (bodyPorts ds)) decls-are ∙ picked-others (declsIn (section job (decls-from index k) (decls-end index k))))
+
+  pub inputs-start : inputsFrom job index k (cursor.Header (ports-from index k) false) ≡ inputPorts row
+  inputs-start = sym inputs-are
 
   no-bodied : bodied job (decls-from index k) (decls-from index k) ≡ []
   unfolding linesIn gather picked

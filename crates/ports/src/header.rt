@@ -5,7 +5,7 @@ ghost use Rattle.fields.specs.Meant.{dirIs};
 ghost use Rattle.joblines.specs.Sections.{portsIn};
 ghost use Rattle.jobindex.specs.Index.{section};
 ghost use Rattle.design.specs.Lists.{isIn};
-ghost use Rattle.ports.specs.Headers.{outBy, outputsBy, othersBy, HeaderSeen};
+ghost use Rattle.ports.specs.Headers.{outBy, outputsBy, othersBy, HeaderSeen, OtherSeen};
 use super::NameAt;
 use fields::Dir;
 use lines::PortAt;
@@ -40,6 +40,25 @@ pub fn next_output(job: &[u8], at: usize, end: usize, out: bool) -> NameAt
         }
         i = next;
         o = false;
+    }
+}
+
+// The next port that is no output, from the first line or from behind such a port.
+pub fn next_other(job: &[u8], at: usize, end: usize) -> NameAt
+    ensures { λ r. ⌜ OtherSeen (now (job .entry)) at end r ⌝ }
+{
+    let mut i = at;
+    let mut o = false;
+    loop {
+        let r = lines::next_port(job, i, end);
+        let PortAt::Port { dir, name, next } = r else {
+            return NameAt::End;
+        };
+        if !outward(o, dir) {
+            return NameAt::Name { name, next };
+        }
+        i = next;
+        o = true;
     }
 }
 

@@ -7,7 +7,7 @@ ghost use Rattle.jobindex.specs.Index.{moduleRow};
 ghost use Rattle.design.specs.Lists.{isIn};
 ghost use Rattle.design.specs.Ports.{inputPorts};
 ghost use Rattle.ports.specs.declared.Cursor.the-variants as cursor;
-ghost use Rattle.ports.specs.Cursors.{ports-from, header-end, decls-from, decls-end, FreshSeen, BodyAt, CursorAt, AmongPorts, OutputSeen, CandidateSeen, LosableSeen};
+ghost use Rattle.ports.specs.Cursors.{ports-from, header-end, decls-from, decls-end, FreshSeen, BodyAt, CursorAt, AmongPorts, OutputSeen, CandidateSeen, InputSeen, LosableSeen};
 use body::Pick;
 use jobindex::Span;
 
@@ -180,7 +180,7 @@ fn next_signal(job: &[u8], index: &[u32], k: usize, at: usize) -> Step
 }
 
 // The next output port or signal of module k.
-fn next_candidate(job: &[u8], index: &[u32], k: usize, c: Cursor) -> Step
+pub fn next_candidate(job: &[u8], index: &[u32], k: usize, c: Cursor) -> Step
     requires { ⌜ (k ≤ 128) × CursorAt (now job) (now index) k c ⌝ }
     ensures { λ r. ⌜ CandidateSeen (now (job .entry)) (now (index .entry)) k c r ⌝ }
 {
@@ -200,6 +200,47 @@ fn next_or_signal(job: &[u8], index: &[u32], k: usize, c: Cursor) -> Step
     match r {
         Step::End => next_signal(job, index, k, decls_from(index, k)),
         Step::Name { name, next } => Step::Name { name, next },
+    }
+}
+
+// The next non-output port among the body ports.
+fn body_input(job: &[u8], index: &[u32], k: usize, at: usize) -> Step
+    requires { ⌜ k ≤ 128 ⌝ }
+    ensures { λ r. ⌜ InputSeen (now (job .entry)) (now (index .entry)) k (cursor.Body at) r ⌝ }
+{
+    let e = decls_end(index, k);
+    let r = body::next_of(job, at, e, Pick::Other);
+    match r {
+        NameAt::End => Step::End,
+        NameAt::Name { name, next } => Step::Name {
+            name,
+            next: Cursor::Body { at: next },
+        },
+    }
+}
+
+// The next non-output port of module k, header and body, from the first cursor or one that this function gave.
+pub fn next_input(job: &[u8], index: &[u32], k: usize, c: Cursor) -> Step
+    requires { ⌜ k ≤ 128 ⌝ }
+    ensures { λ r. ⌜ InputSeen (now (job .entry)) (now (index .entry)) k c r ⌝ }
+{
+    match c {
+        Cursor::Header { at, out: _ } => {
+            let h = header_end(index, k);
+            let r = header::next_other(job, at, h);
+            match r {
+                NameAt::End => body_input(job, index, k, decls_from(index, k)),
+                NameAt::Name { name, next } => Step::Name {
+                    name,
+                    next: Cursor::Header {
+                        at: next,
+                        out: false,
+                    },
+                },
+            }
+        }
+        Cursor::Body { at } => body_input(job, index, k, at),
+        Cursor::Signals { at: _ } => Step::End,
     }
 }
 

@@ -29,26 +29,33 @@ pub record Orders (files area nums : List ℕ) (s : State) : Type 0 where
   pub few : Few 1024 (modelOf (files ++ area) (storeOf nums s) s [])
 
 -- ---- a loop over a table: record i, and the end
+module _ {A : Type 0} (n : ℕ) (all : List A) (h : Sized 32 n all) where
+  pub sized-long : n ≤ length all
+  sized-long = omega (arith, h .long, h .count)
+
+  pub sized-next : (i : ℕ) (d : A) → i < n → drop i (take n all) ≡ getD all i d ∷ drop (i + 1) (take n all)
+  sized-next i d g =
+      let l : i < length (take n all) = rw (length-take-le n all sized-long) g in
+      drop-cons (take n all) i d l ∙ rw (getD-take n all i d g, add-one i)
+
+  pub sized-end : (i : ℕ) → n ≤ i → drop i (take n all) ≡ []
+  sized-end i g = drop-of-length-le (take n all) {i = i} (rw (length-take-le n all sized-long) g)
+
 module _ {A : Type 0} (of : A → ℕ) (bound n : ℕ) (all : List A) (h : Holds of bound n all) where
   pub holds-few : n ≤ 32
   holds-few = h .sized .count
 
   pub holds-long : n ≤ length all
-  holds-long = omega (arith, h .sized .long, h .sized .count)
-
-  pub holds-index : (i : ℕ) → i < n → i < length all
-  holds-index i g = omega (arith, holds-long)
+  holds-long = sized-long n all (h .sized)
 
   pub holds-at : (i : ℕ) (d : A) → i < n → of (getD all i d) ≤ bound
   holds-at i d g = within-get of all n i d (h .within) g holds-long
 
   pub holds-next : (i : ℕ) (d : A) → i < n → drop i (take n all) ≡ getD all i d ∷ drop (i + 1) (take n all)
-  holds-next i d g =
-      let l : i < length (take n all) = rw (length-take-le n all holds-long) g in
-      drop-cons (take n all) i d l ∙ rw (getD-take n all i d g, add-one i)
+  holds-next i d g = sized-next n all (h .sized) i d g
 
   pub holds-end : (i : ℕ) → n ≤ i → drop i (take n all) ≡ []
-  holds-end i g = drop-of-length-le (take n all) {i = i} (rw (length-take-le n all holds-long) g)
+  holds-end i g = sized-end n all (h .sized) i g
 
 -- ---- table by table
 module _ (files area nums : List ℕ) (s : State) (o : Orders files area nums s) where

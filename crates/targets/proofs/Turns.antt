@@ -32,6 +32,7 @@ use Rattle.refs.specs.Text.{textOf}
 use Rattle.refs.specs.declared.Ref.{Ref}
 use Rattle.texts.specs.Isolation.{frontParts, belowParent}
 use Rattle.targets.specs.Instance.{Instance, instanceAt}
+use Rattle.targets.specs.Textual.{textual, textual-is}
 use Rattle.targets.specs.Seen.{partIs, DownIs, DownSeen, nowherePlace, placeIs, PlaceSeen}
 use Rattle.targets.specs.declared.Part.{Part}
 use Rattle.targets.specs.declared.Part.the-variants as part
@@ -116,30 +117,6 @@ first-all (x ∷ t) w e = go (eqb x (byte "/")) (parts-some (byte "/") t) e (λ 
         let o : others (parts t) ≡ [] = ap others g in
         let h : x ∷ firstPart (parts t) ≡ w = ap firstPart g in
         ap (λ (l : Bytes). x ∷ l) (r (firstPart (parts t)) (p ∙ ap (λ (l : List Bytes). firstPart (parts t) ∷ l) o)) ∙ h
-
--- the text of its parts
-abbrev textual : List Bytes → Bytes
-textual [] = []
-textual (p ∷ []) = p
-textual (p ∷ q ∷ ps) = p ++ byte "/" ∷ textual (q ∷ ps)
-
-textual-onto : (x : ℕ) (p : Bytes) (ps : List Bytes) → textual (onto x (p ∷ ps)) ≡ x ∷ textual (p ∷ ps)
-textual-onto x p [] = refl
-textual-onto x p (q ∷ ps) = refl
-
-textual-is : (t : Bytes) → textual (parts t) ≡ t
-unfolding splitAt
-textual-is [] = refl
-textual-is (x ∷ t) = go (eqb x (byte "/")) refl (parts-some (byte "/") t) (textual-is t)
-  where
-    go : (b : Bool) → eqb x (byte "/") ≡ b → parts t ≡ firstPart (parts t) ∷ others (parts t) → textual (parts t) ≡ t → textual (cond b ([] ∷ parts t) (onto x (parts t))) ≡ x ∷ t
-    go true c p e =
-        let y : x ≡ byte "/" = eqb-true x (byte "/") c in
-        let a : textual ([] ∷ parts t) ≡ byte "/" ∷ textual (parts t) = rw p in
-        a ∙ rw (e, y)
-    go false c p e =
-        let a : textual (onto x (parts t)) ≡ x ∷ textual (parts t) = rw p (textual-onto x (firstPart (parts t)) (others (parts t))) in
-        a ∙ rw e
 
 first-more : (t w u : Bytes) → parts t ≡ w ∷ parts u → t ≡ w ++ byte "/" ∷ u
 first-more t w u e =

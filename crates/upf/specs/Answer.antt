@@ -33,10 +33,11 @@ pub data Answer : Type 0 where
   refused : ℕ → ℕ → Answer
 
 -- "Does each text fit its lent buffer? No: 14."
+abbrev pub allFit : Lent → Bytes → Bytes → Bytes → Bytes → Bool
+allFit l g p r o = leb (length g) (l .glue-room) && (leb (length p) (l .package-room) && (leb (length r) (l .report-room) && leb (length o) (l .log-room)))
+
 abbrev pub fitted : Lent → Bytes → Bytes → Bytes → Bytes → Answer
-fitted l g p r o =
-    cond (leb (length g) (l .glue-room) && (leb (length p) (l .package-room) && (leb (length r) (l .report-room) && leb (length o) (l .log-room))))
-    (texts g p r o) (refused 14 0)
+fitted l g p r o = cond (allFit l g p r o) (texts g p r o) (refused 14 0)
 
 -- "Within the generation limits? No: 13."
 abbrev pub generated : Lent → Setting → Answer

@@ -6,7 +6,9 @@ ghost use lib.ListN.{length};
 ghost use Rattle.spans.specs.Span.{_⋯_};
 ghost use Rattle.joblines.specs.Parse.{parse};
 ghost use Rattle.jobindex.specs.Index.{index-size, moduleRow};
-ghost use Rattle.lookup.specs.Rows.{modules};
+ghost use Rattle.lookup.specs.Rows.{modules as Rows·modules};
+ghost use Rattle.modtable.specs.Table.{Tabled};
+ghost use Rattle.modtable.specs.Making.{MakeGiven};
 ghost use Rattle.names.specs.Name.{named};
 ghost use Rattle.nametable.specs.Table.{rowPut, Stores, tableNames};
 ghost use Rattle.walk.specs.Walk.{domainList, domainEntered};
@@ -29,6 +31,21 @@ pub extern "C" fn walkc_index(job: &[u8], index: &mut [u32]) -> usize
         Answer::Refused { number: _, line: _ } => 0,
         Answer::Taken { head } => head.modules,
     }
+}
+
+// Makes the table of the first `count` modules.
+#[no_mangle]
+pub extern "C" fn walkc_table(
+    job: &[u8],
+    index: &[u32],
+    count: usize,
+    inputs: &mut [u32],
+    table: &mut [u32],
+)
+    requires { ⌜ MakeGiven (now job) (now index) count (now inputs) (now table) ⌝ }
+    ensures { λ _. ⌜ Tabled (now (job .entry)) (now (index .entry)) count (now (table .exit)) ⌝ }
+{
+    modtable::make::make(job, index, count, inputs, table)
 }
 
 // Puts a name into row k of a table.
@@ -65,6 +82,7 @@ pub extern "C" fn walkc_paths(
     index: &[u32],
     count: usize,
     k: usize,
+    modules: &[u32],
     files: &[u8],
     area: &[u8],
     retained: &[u32],
@@ -81,14 +99,15 @@ pub extern "C" fn walkc_paths(
     end: &mut usize,
     used: &mut usize,
 ) -> bool
-    requires { ⌜ DomainGiven (now job) (now index) count k (now files) (now area) n m prefix (now tail) (now text) (now ends) ⌝ }
-    ensures { λ r. ⌜ Listing·Answer prefix (domainEntered (modules (now (job .entry)) (now (index .entry)) count) (moduleRow (now (job .entry)) (now (index .entry)) k) [] (entriesBelow below (tableNames (now (files .entry) ++ now (area .entry)) (now (retained .entry)) n)) (tableNames (now (files .entry) ++ now (area .entry)) (now (elements .entry)) m)) (domainList (modules (now (job .entry)) (now (index .entry)) count) (moduleRow (now (job .entry)) (now (index .entry)) k) [] (entriesBelow below (tableNames (now (files .entry) ++ now (area .entry)) (now (retained .entry)) n)) (tableNames (now (files .entry) ++ now (area .entry)) (now (elements .entry)) m)) (walkBy r (now (entered .exit)) (now (paths .exit)) (now (end .exit)) (now (used .exit))) (now (text .exit)) (now (ends .exit)) ⌝ }
+    requires { ⌜ DomainGiven (now job) (now index) count k (now modules) (now files) (now area) n m prefix (now tail) (now text) (now ends) ⌝ }
+    ensures { λ r. ⌜ Listing·Answer prefix (domainEntered (Rows·modules (now (job .entry)) (now (index .entry)) count) (moduleRow (now (job .entry)) (now (index .entry)) k) [] (entriesBelow below (tableNames (now (files .entry) ++ now (area .entry)) (now (retained .entry)) n)) (tableNames (now (files .entry) ++ now (area .entry)) (now (elements .entry)) m)) (domainList (Rows·modules (now (job .entry)) (now (index .entry)) count) (moduleRow (now (job .entry)) (now (index .entry)) k) [] (entriesBelow below (tableNames (now (files .entry) ++ now (area .entry)) (now (retained .entry)) n)) (tableNames (now (files .entry) ++ now (area .entry)) (now (elements .entry)) m)) (walkBy r (now (entered .exit)) (now (paths .exit)) (now (end .exit)) (now (used .exit))) (now (text .exit)) (now (ends .exit)) ⌝ }
 {
     let w = corrupt::domain_paths(
         job,
         index,
         count,
         k,
+        modules,
         files,
         area,
         retained,

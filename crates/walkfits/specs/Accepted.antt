@@ -2,12 +2,10 @@
 -- Assumes nothing.
 use Prim.Native.Nat.{ℕ, zero, suc, _+_, _≤_, _<_}
 use mathlib.Core.Path.{_≡_, refl, sym, ap, subst, _∙_}
-use mathlib.Core.Logic.{⊎-elim}
 use mathlib.Core.Bool.{true, _&&_}
 use mathlib.Core.List.{List, [], _∷_, _++_}
 use mathlib.Core.List.{List·Memᴰ as Mem, List·Memᴰ·head as here, Memᴰ·append-left as on-left, Memᴰ·append-right as on-right, Memᴰ·cast as cast}
 use native.Mathlib.Omega.{arith}
-use native.Mathlib.Nat.{eq-or-lt-of-le}
 use lib.Dec.{leb}
 use lib.ListN.{length}
 use borrow.Author.Tests.{leb-true}
@@ -19,11 +17,12 @@ use Rattle.fields.specs.Limits.{most-name}
 use Rattle.fields.specs.Fields.{isName}
 use Rattle.joblines.specs.Job.{Inst, Module, Job}
 use Rattle.joblines.specs.Parse.{accepted, parse}
-use Rattle.jobindex.specs.Index.{moduleRow, rows, Indexed}
+use Rattle.jobindex.specs.Index.{moduleRow, Indexed}
 use Rattle.jobindex.specs.declared.Header.{Header}
 use Rattle.lookup.specs.Rows.{modules}
 use Rattle.design.specs.AcceptedNames.{accepted-names, name-filled}
 use Rattle.walk.specs.Relative.{Filled}
+use Rattle.corrupt.specs.RowMem.{row-mem}
 use Rattle.corrupt.specs.Corrupt.{Short}
 
 name-short : (s : Bytes) → isName s ≡ true → length s ≤ 64
@@ -34,18 +33,11 @@ name-short (b ∷ s) e =
     let r = both (all inName s) (leb (length (b ∷ s)) most-name) (h .1) in
     leb-true (length (b ∷ s)) most-name (r .1)
 
-pub row-mem : {A : Type 0} (f : ℕ → A) (n k : ℕ) → k < n → Mem (f k) (rows f n)
-unfolding rows
-row-mem f zero k h = absurd (omega arith)
-row-mem f (suc n) k h =
-    let l : k ≤ n = omega arith in
-    ⊎-elim (λ e. on-right (rows f n) (here (ap f e))) (λ g. on-left (f n ∷ []) (row-mem f n k g)) (eq-or-lt-of-le l)
-
 module _ (job : Bytes) (index : List ℕ) (head : Header) (j : Job) (ix : Indexed job index head j) (ok : parse job ≡ accepted j) where
   modules-are : j .modules ≡ modules job index (head .modules)
   modules-are = sym (ap (λ (x : Job). x .modules) (ix .stands))
 
-  row-in : (k : ℕ) → k < head .modules → Mem (moduleRow job index k) (j .modules)
+  pub row-in : (k : ℕ) → k < head .modules → Mem (moduleRow job index k) (j .modules)
   row-in k h = subst (λ (l : List Module). Mem (moduleRow job index k) l) (sym modules-are) (row-mem (moduleRow job index) (head .modules) k h)
 
   -- what the walk is given

@@ -1,3 +1,4 @@
 -- Laws.
 pub mod Accepted
 pub mod Exact
+pub mod Limited

@@ -3,6 +3,7 @@
 mod batch;
 mod check;
 mod convert;
+mod corpus;
 mod design;
 mod gen;
 mod generation;
@@ -33,6 +34,8 @@ const USAGE: &str = "usage: oracle COMMAND
   selftest           the checks written by hand
   gen SEED COUNT DIR generated jobs into a directory, with their answers
   bounds DIR         the boundary jobs, likewise
+  corpus SEED COUNT  the stored corpus, to standard output
+  marked             the jobs of 'Marked runs' and of the traps, likewise
   coverage SEED COUNT  what the generated jobs reach
   cross SEED COUNT   checks and reference over generated jobs and texts
   texts LENGTH       words and lists of all short texts
@@ -61,6 +64,8 @@ fn main() {
         ["selftest"] => exit(!selftest::all() as i32),
         ["gen", seed, count, dir] => done(batch::write(number(seed), number(count), dir)),
         ["bounds", dir] => done(batch::write_bounds(dir)),
+        ["corpus", seed, count] => done(corpus::write(number(seed), number(count))),
+        ["marked"] => done(corpus::marked()),
         ["coverage", seed, count] => batch::coverage(number(seed), number(count)),
         ["cross", seed, count] => exit(!batch::cross(number(seed), number(count)) as i32),
         ["texts", length] => exit(!batch::texts(number(length) as usize) as i32),

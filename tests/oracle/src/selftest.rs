@@ -2,7 +2,7 @@
 
 mod form;
 mod limits;
-mod marked;
+pub mod marked;
 mod points;
 
 use crate::check::{expect, rust_paths, rust_reading, Answer, Lent, AMPLE, STANDARD};

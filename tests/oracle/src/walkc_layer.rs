@@ -18,6 +18,17 @@ use upf_rs::upf::Asked;
 #[link(name = "walkc", kind = "static")]
 extern "C" {
     fn walkc_index(job: *const u8, n: usize, index: *mut u32, m: usize) -> usize;
+    fn walkc_table(
+        job: *const u8,
+        n: usize,
+        index: *const u32,
+        m: usize,
+        count: usize,
+        inputs: *mut u32,
+        i: usize,
+        table: *mut u32,
+        t: usize,
+    );
     fn walkc_put(
         table: *mut u32,
         n: usize,
@@ -36,6 +47,8 @@ extern "C" {
         im: usize,
         count: usize,
         k: usize,
+        modules: *const u32,
+        ml: usize,
         files: *const u8,
         fl: usize,
         area: *const u8,
@@ -114,11 +127,32 @@ enum Came {
 struct Question<'a> {
     job: &'a [u8],
     index: &'a [u32],
+    modules: &'a [u32],
     count: usize,
     base: usize,
     scope: &'a [String],
     elements: &'a [String],
     retained: &'a [String],
+}
+
+/// The table of a job's modules.
+fn modules(bytes: &[u8], index: &[u32], count: usize) -> Vec<u32> {
+    let mut t = vec![0xAAAA_AAAAu32; 73984];
+    let mut inputs = [0xAAAA_AAAAu32; 384];
+    unsafe {
+        walkc_table(
+            bytes.as_ptr(),
+            bytes.len(),
+            index.as_ptr(),
+            index.len(),
+            count,
+            inputs.as_mut_ptr(),
+            inputs.len(),
+            t.as_mut_ptr(),
+            t.len(),
+        )
+    };
+    t
 }
 
 fn table(names: &[((usize, usize), bool, (usize, usize), u8)]) -> Vec<u32> {
@@ -141,7 +175,7 @@ impl Question<'_> {
         let prefix = if self.scope.is_empty() { 0 } else { front.len() + 1 };
         let mut tail = vec![0xAAu8; 2081];
         let mut text = vec![0xAAu8; 32768];
-        let mut ends = vec![0xAAAA_AAAAu32; 1024];
+        let mut ends = vec![0xAAAA_AAAAu32; 1024 + 16384];
         let (mut entered, mut n, mut end, mut used) = (0, 0, 0, 0);
         let then = Instant::now();
         let over = unsafe {
@@ -152,6 +186,8 @@ impl Question<'_> {
                 self.index.len(),
                 self.count,
                 self.base,
+                self.modules.as_ptr(),
+                self.modules.len(),
                 st.files.as_ptr(),
                 st.files.len(),
                 st.area.as_ptr(),
@@ -191,7 +227,7 @@ impl Question<'_> {
             at == end
                 && used == end + n * prefix
                 && text[at..].iter().all(|&b| b == 0xAA)
-                && ends[n..].iter().all(|&e| e == 0xAAAA_AAAA)
+                && ends[n..1024].iter().all(|&e| e == 0xAAAA_AAAA)
         );
         (Came::To(entered, out), took)
     }
@@ -272,6 +308,7 @@ fn see(t: &mut Tally, r: &mut Rng, bytes: &[u8], rounds: usize) {
         t.wrong += 1;
         return;
     }
+    let modules = modules(bytes, &index, j.modules.len());
     let tree = convert::tree(&j);
     let asked = Asked::new(&tree);
     for round in 0..rounds {
@@ -298,6 +335,7 @@ fn see(t: &mut Tally, r: &mut Rng, bytes: &[u8], rounds: usize) {
         let q = Question {
             job: bytes,
             index: &index,
+            modules: &modules,
             count: j.modules.len(),
             base,
             scope: &scope,
@@ -383,11 +421,18 @@ fn speed() {
         let j = job::parse(&bytes).unwrap();
         let mut index = vec![0u32; 1280];
         unsafe { walkc_index(bytes.as_ptr(), bytes.len(), index.as_mut_ptr(), index.len()) };
+        let (mut made, mut modules) = (u128::MAX, Vec::new());
+        for _ in 0..20 {
+            let then = Instant::now();
+            modules = self::modules(&bytes, &index, j.modules.len());
+            made = made.min(then.elapsed().as_nanos());
+        }
         let tree = convert::tree(&j);
         let asked = Asked::new(&tree);
         let q = Question {
             job: &bytes,
             index: &index,
+            modules: &modules,
             count: j.modules.len(),
             base: 0,
             scope: &[],
@@ -405,10 +450,11 @@ fn speed() {
             b = b.min(q.due(&j, &asked).1);
         }
         println!(
-            "walkc: {name}, {n} paths: {} us, the reference {} us, ratio {:.2}",
+            "walkc: {name}, {n} paths: {} us, the reference {} us, ratio {:.2}; the table of the job {} us",
             a / 1000,
             b / 1000,
-            a as f64 / b as f64
+            a as f64 / b as f64,
+            made / 1000
         );
     }
 }

@@ -9,5 +9,5 @@ is-first-spec =
     (λ c. search needs)  -- enum-told
     (λ c. search needs)  -- enum-known-q
     (λ c κs. search needs)  -- is-port-requires
-    (λ c. search needs)  -- returns
+    (λ c. search firsts)  -- returns
     (λ c. search firsts))  -- returns-2

@@ -20,8 +20,8 @@ said-of-spec =
     (λ c κs. search needs)  -- is-first-requires
     (λ c. search saids)  -- returns-3
     (λ c κs. search needs)  -- plain-requires-2
-    (λ c. search needs)  -- returns-4
-    (λ c. search needs)  -- returns-5
+    (λ c. search saids)  -- returns-4
+    (λ c. search saids)  -- returns-5
     (λ c. search saids)  -- returns-6
     (λ c. search saids)  -- returns-7
     (λ c. search saids))  -- returns-8

@@ -118,6 +118,7 @@ const OTHERS: &[&str] = &[
 ];
 
 /// Counts over accepted jobs and over all jobs.
+#[derive(Clone)]
 pub struct Coverage {
     jobs: [usize; 2],
     counts: HashMap<String, [usize; 2]>,
@@ -157,6 +158,11 @@ impl Coverage {
         if job.len() > 30_000 {
             self.add("30 KB", accepted, 1);
         }
+    }
+
+    /// How many rows have a job, and how many an accepted one.
+    pub fn reached(&self) -> usize {
+        self.counts.values().map(|c| (c[0] > 0) as usize + (c[1] > 0) as usize).sum()
     }
 
     fn add(&mut self, key: &str, accepted: bool, n: usize) {

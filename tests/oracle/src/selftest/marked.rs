@@ -90,3 +90,37 @@ port=none q\ndecl=out 1 q\ndecl=net 1 w\n";
     t.paths("the empty element is walked", &run, &["q"]);
     t.glue("the empty element has no isolation target", &run, "Isolation enabled", 0);
 }
+
+/// The jobs of 'Marked runs' and of the traps, with number and place, to be replayed.
+pub fn cases() -> Vec<(Vec<u8>, u32, u32)> {
+    let deep = |upf: String| job("", &[("p", &upf)], DEEP);
+    let text = "create_power_domain PD -elements {u1}\n".to_string() + SUPPLIES;
+    let ghost = "module=top\nstyle=empty\ninst=0 g ghost\n";
+    let dims = "module=top\nstyle=empty\ninst=0 u1 core\nmodule=core\nstyle=nonansi
+port=none q\ndecl=out 1 q\ndecl=net 1 w\n";
+    let files = [
+        ("p", "set N u1\nload_upf q\n"),
+        ("q", "create_power_domain PD -elements {$N}\ncreate_power_domain PE -elements $N"),
+    ];
+    let open = "module=top\nstyle=ansi\nport=out q\n";
+    let upf = domain(".") + "set_isolation I -domain PD -isolation_signal iso\n";
+    let below = "set_retention R -elements {s}\n";
+    vec![
+        (worked(&text), 0, 0),
+        (worked(&(text.clone() + "set_retention R -elements {u1}\n")), 0, 0),
+        (worked(""), 0, 0),
+        (worked("create_power_switch S -off_state -on_state"), 0, 0),
+        (worked("create_power_domain -include_scope PD"), 0, 0),
+        (nested(16), 0, 0),
+        (nested(17), 8, 17),
+        (worked("load_upf p.upf"), 8, 17),
+        (job("", &[("p", "set_design_top ghost")], ghost), 12, 0),
+        (job("", &[("p", "set_design_top other")], ghost), 11, 0),
+        (deep(domain("s") + below), 0, 0),
+        (deep(domain("s/u1") + below), 0, 0),
+        (deep(domain("s") + "set_retention R -elements {s/u1}\n"), 0, 0),
+        (job("", &[("p", &domain("u1"))], dims), 0, 0),
+        (job("", &files, WORKED), 0, 0),
+        (job("", &[("p", &upf)], open), 0, 0),
+    ]
+}

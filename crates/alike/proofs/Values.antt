@@ -1,0 +1,90 @@
+-- A strategy's name, signal and active value: laws as the needs ask them. Assumes nothing.
+use Prim.Native.Nat.{ℕ, _<_}
+use mathlib.Core.Path.{_≡_, refl, sym, ap, ap₂, _∙_}
+use mathlib.Core.Bool.{Bool, true, false, cond, _&&_}
+use mathlib.Core.List.{List, [], _∷_, _++_}
+use native.Mathlib.Omega.{arith}
+use borrow.Author.Needs.{needs}
+use Rattle.text.specs.Ascii.{Bytes, ascii}
+use Rattle.text.specs.Compare.{same}
+use Rattle.text.specs.Sames.{same-refl}
+use Rattle.out.specs.Bytewise.{dotted}
+use Rattle.names.specs.Name.{nameOf}
+use Rattle.names.specs.declared.name.Name.{Name}
+use Rattle.refs.specs.Text.{noName}
+use Rattle.model.specs.Records.{Isolation as Isolationʳ}
+use Rattle.model.specs.Commands.{or-else}
+use Rattle.store.specs.Strings.{maybeOf}
+use Rattle.store.specs.View.{isolationOf}
+use Rattle.store.specs.declared.stored.Stored.{Stored}
+use Rattle.store.specs.declared.stored.Maybe.{Maybe}
+use Rattle.store.specs.declared.stored.Maybe.the-variants.{Not, Given}
+use Rattle.store.specs.declared.state.Isolation.{Isolation}
+use Rattle.store.specs.declared.state.Isolations.{Isolations}
+use Rattle.texts.specs.Isolation.{lowered, activeOf}
+use Rattle.clamps.specs.Values.{storedName, activeNumber}
+use Rattle.alike.specs.Strategies.{isolationAt, strategyAt, signalName, signalOf, areAlike}
+use Rattle.alike.specs.Shown.{signal-text}
+
+pub name-of : (x y : Isolation) (n : Name) → n ≡ storedName (x .name) → x ≡ y → n ≡ storedName (y .name)
+name-of x y n e f = e ∙ rw f
+
+pub no-signal : (m : Maybe) (n : Name) → m ≡ Not → n ≡ noName → n ≡ signalName m
+no-signal m n e f = f ∙ rw e
+
+pub its-signal : (m : Maybe) (s : Stored) (n : Name) → m ≡ Given s → n ≡ storedName s → n ≡ signalName m
+its-signal m s n e f = f ∙ rw e
+
+pub signal-of : (x y : Isolation) (n : Name) → n ≡ signalName (x .signal) → x ≡ y → n ≡ signalName (y .signal)
+signal-of x y n e f = e ∙ rw f
+
+pub active-of : (mem : Bytes) (x : Isolation) (t : Isolations) (i n : ℕ) → n ≡ activeNumber (lowered (or-else (maybeOf mem (x .sense)) (ascii "high"))) → x ≡ isolationAt t i → n ≡ activeNumber (lowered (strategyAt mem t i .sense))
+unfolding isolationOf
+active-of mem x t i n e f = e ∙ rw f
+
+pub ruleset values = (needs, name-of, no-signal, its-signal, signal-of, active-of)
+
+-- ---- whether two are alike
+
+abbrev number : Bool → ℕ
+number b = cond b 5 6
+
+module _ (i j : Isolationʳ) (n m : ℕ) (e : n ≡ activeNumber (lowered (i .sense))) (f : m ≡ activeNumber (lowered (j .sense))) where
+  differ : (a b : Bool) → (number a ≡ number b → ⊥) → (x : Bool) → false ≡ x && same (cond a (ascii "1'b0") (ascii "1'b1")) (cond b (ascii "1'b0") (ascii "1'b1"))
+  unfolding same
+  differ true true h x = absurd (h refl)
+  differ false false h x = absurd (h refl)
+  differ true false h true = refl
+  differ true false h false = refl
+  differ false true h true = refl
+  differ false true h false = refl
+
+  agree : (a b : Bool) → number a ≡ number b → (x : Bool) → x ≡ x && same (cond a (ascii "1'b0") (ascii "1'b1")) (cond b (ascii "1'b0") (ascii "1'b1"))
+  unfolding same
+  agree true true h true = refl
+  agree true true h false = refl
+  agree false false h true = refl
+  agree false false h false = refl
+  agree true false h x = absurd (omega arith)
+  agree false true h x = absurd (omega arith)
+
+  unalike : (n ≡ m → ⊥) → false ≡ areAlike i j
+  unfolding areAlike activeNumber
+  unalike h = differ (same (lowered (i .sense)) (ascii "low")) (same (lowered (j .sense)) (ascii "low")) (λ g. h (e ∙ g ∙ sym f)) (same (dotted (signalOf i)) (dotted (signalOf j)))
+
+  alike-by : n ≡ m → (r : Bool) → r ≡ same (dotted (signalOf i)) (dotted (signalOf j)) → r ≡ areAlike i j
+  unfolding areAlike activeNumber
+  alike-by h r g = g ∙ agree (same (lowered (i .sense)) (ascii "low")) (same (lowered (j .sense)) (ascii "low")) (sym e ∙ h ∙ f) (same (dotted (signalOf i)) (dotted (signalOf j)))
+
+module _ (mem : Bytes) (t : Isolations) (i j n m : ℕ) (e : n ≡ activeNumber (lowered (strategyAt mem t i .sense))) (f : m ≡ activeNumber (lowered (strategyAt mem t j .sense))) where
+  pub not-alike : (n ≡ m → ⊥) → false ≡ areAlike (strategyAt mem t i) (strategyAt mem t j)
+  not-alike h = unalike (strategyAt mem t i) (strategyAt mem t j) n m e f h
+
+  text-of : (k : ℕ) (x : Name) → x ≡ signalName (isolationAt t k .signal) → nameOf mem x ≡ signalOf (strategyAt mem t k)
+  unfolding isolationOf
+  text-of k x g = rw g (signal-text mem (isolationAt t k .signal))
+
+  pub signals-alike : n ≡ m → (x y : Name) (r : Bool) → r ≡ same (dotted (nameOf mem x)) (dotted (nameOf mem y)) → x ≡ signalName (isolationAt t i .signal) → y ≡ signalName (isolationAt t j .signal) → r ≡ areAlike (strategyAt mem t i) (strategyAt mem t j)
+  signals-alike h x y r g p q = alike-by (strategyAt mem t i) (strategyAt mem t j) n m e f h r (g ∙ rw (text-of i x p, text-of j y q))
+
+pub ruleset alikes = (needs, not-alike, signals-alike)

@@ -1,0 +1,4 @@
+pub mod Strategies
+pub mod Shown
+pub mod Numbers
+pub mod Ruled

@@ -1,0 +1,3 @@
+pub mod Aims
+pub mod Found
+pub mod Covering

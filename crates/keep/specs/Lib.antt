@@ -1,0 +1,5 @@
+pub mod Gains
+pub mod Held
+pub mod Covered
+pub mod Turns
+pub mod Warned

@@ -1,0 +1,43 @@
+-- Laws: the flag of a path that is added. Assumes nothing.
+use Prim.Native.Nat.{ℕ, _+_, _%_, _<_, _≤_}
+use mathlib.Core.Path.{_≡_, refl, sym, ap, _∙_}
+use mathlib.Core.Bool.{Bool, true, false}
+use mathlib.Core.Logic.{_⊎_, inl, inr, ⊎-elim}
+use mathlib.Core.List.{List, [], _∷_, _++_, List·Memᴰ as Mem, List·Memᴰ·append-cases as append-cases, List·Memᴰ·eq-of-singleton as eq-single}
+use native.Mathlib.Omega.{arith}
+use lib.Dec.{eqb}
+use lib.ListN.{length, set, getD, length-set}
+use lib.Seq.{getD-set-same, getD-set-other}
+use borrow.Author.Tests.{eqb-true, eqb-false}
+use Rattle.text.specs.Ascii.{Bytes}
+use Rattle.text.specs.Scan.{any}
+use Rattle.design.specs.Lists.{isIn}
+use Rattle.design.specs.Laws.{isIn-out, out-isIn}
+use Rattle.pathnumber.specs.Number.{number}
+use Rattle.walk.specs.Limits.{most-paths}
+use Rattle.listing.specs.Listing.{flag-count, flagPlace, Flagged}
+
+pub flagged-none : (ends : List ℕ) → Flagged ends []
+unfolding any
+flagged-none ends p h = refl
+
+pub flag-low : (p : Bytes) → flagPlace p < most-paths + flag-count
+flag-low p = omega arith
+
+-- an end is stored and the flag of q is set
+module _ (ends : List ℕ) (ps : List Bytes) (q : Bytes) (c x : ℕ) (old : Flagged ends ps) (low : c < most-paths) (long : most-paths + flag-count ≤ length ends) where
+  set-here : getD (set (set ends c x) (flagPlace q) 1) (flagPlace q) 0 ≡ 1
+  set-here = getD-set-same (set ends c x) (flagPlace q) 1 0 (omega (arith, flag-low q, length-set ends c x))
+
+  module _ (p : Bytes) (z : getD (set (set ends c x) (flagPlace q) 1) (flagPlace p) 0 ≡ 0) where
+    apart : flagPlace p ≡ flagPlace q → ⊥
+    apart e = let o : _≡_ {A = ℕ} 1 0 = sym set-here ∙ ap (λ i. getD (set (set ends c x) (flagPlace q) 1) i 0) (sym e) ∙ z in omega (arith, o)
+
+    unset : getD ends (flagPlace p) 0 ≡ 0
+    unset = sym (getD-set-other (set ends c x) (flagPlace q) (flagPlace p) 1 0 apart ∙ getD-set-other ends c (flagPlace p) x 0 (λ e. omega (arith, e))) ∙ z
+
+    out : isIn p (ps ++ (q ∷ [])) ≡ false
+    out = out-isIn p (ps ++ (q ∷ [])) (λ m. ⊎-elim (isIn-out p ps (old p unset)) (λ k. apart (ap flagPlace (eq-single k))) (append-cases ps m))
+
+  pub flagged-on : Flagged (set (set ends c x) (flagPlace q) 1) (ps ++ (q ∷ []))
+  flagged-on p z = out p z

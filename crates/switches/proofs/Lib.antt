@@ -1,0 +1,3 @@
+pub mod Ons
+pub mod Glue
+pub mod Lines

@@ -1,0 +1,3 @@
+// Power switches: glue and report lines.
+pub mod on;
+pub mod write;

@@ -1,0 +1,63 @@
+-- `switchwarnings::condition_warnings` meets its contract: the warnings that are left are told behind those that were. Assumes nothing.
+use Prim.Native.Nat.{_+_, _≤_, _-_}
+use mathlib.Core.Path.{_≡_, _∙_}
+use lib.ListN.{length, drop}
+use borrow.Author.Needs.{needs}
+use mathlib.Core.List.{_++_}
+use Rattle.out.specs.Emit.{_▸_}
+use Rattle.names.specs.Name.{nameOf}
+use Rattle.nametable.specs.Table.{tableNames}
+use Rattle.scope.specs.Parts.{parts}
+use Rattle.model.specs.Commands.{controlsOf}
+use Rattle.conditions.specs.Controls.{scopeSetting}
+use Rattle.switchwarnings.proofs.Words.{Warns, warns-start, warns-low, warns-end, warns-less, warns-over, warns-on, name-less, told-long}
+use Rattle.switchwarnings.proofs.condition_warnings.Statement.{statement}
+use Rattle.switchwarnings.proofs.condition_warnings.Tie as tie
+
+abbrev Inv-loop : tie.InvT-loop
+Inv-loop out₀ job files area over from top controls count o₀ x₀ out o x = (length out ≡ length out₀) × Warns (scopeSetting (parts over from)) (controlsOf (tableNames (files ++ area) controls count)) (files ++ area) x₀ (out₀ ▸ o₀ .at) (o₀ .count) (out ▸ o .at) (o .count) x
+
+abbrev μ-loop : tie.MeasureT-loop
+μ-loop out₀ job files area over from top controls count o₀ x₀ out o x = length (nameOf (files ++ area) x)
+
+loop-holds : tie.Need-loop-holds Inv-loop μ-loop
+loop-holds c = (search needs, search warns-start)
+
+returns : tie.Need-returns Inv-loop μ-loop
+returns c = search warns-end
+
+word-warning-requires : tie.Need-word-warning-requires Inv-loop μ-loop
+word-warning-requires c κs = search warns-low
+
+loop-less : tie.Need-loop-less Inv-loop μ-loop
+loop-less c = search (warns-less _ _ _ _ _ _ _ _ _ (c .before .before .before .before .before .before .before .before .before .before .before .before .loop .inv .1) (c .before .before .before .before .before .before .before .before .before .before .before .next .result) (c .before .before .before .before .before .before .before .before .before .before .before .next .ensures))
+
+loop-again : tie.Need-loop-again Inv-loop μ-loop
+loop-again c = (told-long _ _ _ _ _ _ (c .before .before .before .word-warning .ensures) ∙ c .before .before .before .before .before .before .before .before .before .before .before .before .loop .inv .0, search (warns-over _ _ _ _ _ _ _ _ _ (c .before .before .before .before .before .before .before .before .before .before .before .before .loop .inv .1) (c .before .before .before .before .before .before .before .before .before .before .before .next .result) (c .before .before .before .before .before .before .before .before .before .before .before .next .ensures)))
+
+loop-less-2 : tie.Need-loop-less-2 Inv-loop μ-loop
+loop-less-2 c = search name-less
+
+loop-again-2 : tie.Need-loop-again-2 Inv-loop μ-loop
+loop-again-2 c = (search needs, search warns-on)
+
+pub condition-warnings-spec : {M : Type 1} → statement M
+condition-warnings-spec =
+    tie.close
+    (tie.spec
+    Inv-loop
+    μ-loop
+    loop-holds  -- loop-holds
+    (λ c κs. search needs)  -- next-requires
+    (λ c. search needs)  -- enum-told
+    (λ c. search needs)  -- same-length
+    returns  -- returns
+    (λ c. search needs)  -- enum-known-b
+    (λ c κs. search needs)  -- is-variable-requires
+    (λ c κs. search needs)  -- word-size-requires
+    word-warning-requires  -- word-warning-requires
+    (λ c κs. search needs)  -- behind-requires
+    loop-less  -- loop-less
+    loop-again  -- loop-again
+    loop-less-2  -- loop-less-2
+    loop-again-2)  -- loop-again-2
