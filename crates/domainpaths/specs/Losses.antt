@@ -24,7 +24,7 @@ use Rattle.store.specs.declared.state.Domain.{Domain}
 use Rattle.made.specs.Made.{reachOf}
 use Rattle.pathlines.specs.Lines.{below}
 use Rattle.pathlines.specs.Lost.{lost-over, lost-are}
-use Rattle.domainpaths.specs.declared.Lost.{Lost}
+use Rattle.domainpaths.specs.declared.Loss.{Loss}
 
 -- ---- what is asked
 
@@ -45,14 +45,14 @@ pub record OfWalk (job : Bytes) (nums : List ℕ) (count k : ℕ) (table : List 
 
 -- ---- what the walk leaves: the elements, and its answer
 
-pub record Loses (mods : List Module) (base : Module) (mem : Bytes) (entries : List Bytes) (d : Domain) (prefix : ℕ) (elements : List ℕ) (text : Bytes) (ends : List ℕ) (r : Lost) : Type 0 where
+pub record Loses (mods : List Module) (base : Module) (mem : Bytes) (entries : List Bytes) (d : Domain) (prefix : ℕ) (elements : List ℕ) (text : Bytes) (ends : List ℕ) (r : Loss) : Type 0 where
   pub elements-are : tableNames mem elements (r .elements) ≡ domainOf mem d .elements
   pub elements-few : r .elements ≤ 65
   pub answer : Answer prefix (domainEntered mods base [] (entriesBelow (ltb 0 prefix) entries) (domainOf mem d .elements)) (domainList mods base [] (entriesBelow (ltb 0 prefix) entries) (domainOf mem d .elements)) (r .walk) text ends
 
 -- ---- laws: what is lost, below the scope whose path adds `prefix` to each path
 
-module _ (mods : List Module) (base : Module) (mem : Bytes) (scope entries : List Bytes) (d : Domain) (ok : Filled mods) (at : Mem base mods) (bare : scopePath scope ≡ [] → scope ≡ []) (prefix : ℕ) (pre : prefix ≡ length (stem (scopePath scope))) (elements : List ℕ) (text : Bytes) (ends : List ℕ) (r : Lost) (l : Loses mods base mem entries d prefix elements text ends r) where
+module _ (mods : List Module) (base : Module) (mem : Bytes) (scope entries : List Bytes) (d : Domain) (ok : Filled mods) (at : Mem base mods) (bare : scopePath scope ≡ [] → scope ≡ []) (prefix : ℕ) (pre : prefix ≡ length (stem (scopePath scope))) (elements : List ℕ) (text : Bytes) (ends : List ℕ) (r : Loss) (l : Loses mods base mem entries d prefix elements text ends r) where
   -- a limit is passed exactly where the walk does not fit
   pub loses-over : r .walk .over ≡ not (walkFits mods base scope entries (domainOf mem d .elements))
   loses-over = lost-over mods base scope entries (domainOf mem d .elements) ok at bare prefix pre (r .walk) text ends (l .answer)

@@ -12,7 +12,7 @@ use listing::Walk;
 use store::state::Domain;
 
 // How far the walk of a domain has come, and how many elements the domain has.
-pub struct Lost {
+pub struct Loss {
     pub walk: Walk,
     pub elements: usize,
 }
@@ -34,7 +34,7 @@ pub fn lost<'a>(
     tail: &mut [u8],
     text: &mut [u8],
     ends: &mut [u32],
-) -> Lost
+) -> Loss
     requires { ⌜ OfWalk (now job) (now nums) count k (now table) (now files) (now area) kept d prefix (now tail) (now text) (now ends) × (325 ≤ length (now elements)) ⌝ }
     ensures { λ r. ⌜ Loses (modules (now (job .entry)) (now (nums .entry)) count) (moduleRow (now (job .entry)) (now (nums .entry)) k) (now (files .entry) ++ now (area .entry)) (tableNames (now (files .entry) ++ now (area .entry)) (now (retained .entry)) kept) d prefix (now (elements .exit)) (now (text .exit)) (now (ends .exit)) r ⌝ }
 {
@@ -57,7 +57,7 @@ pub fn lost<'a>(
         text,
         ends,
     );
-    Lost {
+    Loss {
         walk: w,
         elements: m,
     }
