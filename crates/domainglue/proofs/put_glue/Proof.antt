@@ -1,3 +1,4 @@
+-- `domainglue::put_glue` meets its contract. Assumes nothing.
 use borrow.Author.Needs.{needs}
 use Rattle.out.specs.Emit.{Wrote, wrote, _then_, kept}
 use Rattle.domainglue.proofs.put_glue.Statement.{statement}
@@ -26,7 +27,7 @@ put-glue-spec =
     (λ c κs. search needs)  -- put-wire-requires
     (λ c κs. search needs)  -- put-up-requires
     (λ c κs. search needs)  -- put-checks-requires
-    (λ c κs. search needs)  -- put-down-requires
-    (λ c κs. search needs)  -- put-initial-requires
+    (λ c κs. c .before .before .before .before .before .before .before .before .before .before .before .before .before .before .before .before .before .before .before .before .before .before .pre .1)  -- put-down-requires
+    (λ c κs. c .before .before .before .before .before .before .before .before .before .before .before .before .before .before .before .before .before .before .before .before .before .before .before .before .before .before .pre .1)  -- put-initial-requires
     same-length
     returns)
