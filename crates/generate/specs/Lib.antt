@@ -1,0 +1,3 @@
+pub mod Generates
+pub mod Pieces
+pub mod Steps

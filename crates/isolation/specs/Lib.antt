@@ -1,0 +1,4 @@
+pub mod Asked
+pub mod Turns
+pub mod Rules
+pub mod Told
