@@ -1,0 +1,2 @@
+pub mod Generates
+pub mod Pieces

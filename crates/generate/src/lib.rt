@@ -1,0 +1,1 @@
+// The three texts of generation.
