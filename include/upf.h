@@ -89,7 +89,10 @@ enum {
 /* What the programs `report`, `glue`, `package_text` and `log` lend for each text. A text may be longer: lend more where 14 is answered. */
 #define UPF_TEXT 65536u
 
-/* The stack that a call may take. A thread that calls needs a stack of this size and what it takes itself. */
+/*
+ * The stack that a call may take, in bytes; most for loads that are 16 deep. A main thread of Linux has 8 MB where nobody changed it; give another thread enough by
+ * pthread_attr_setstacksize (its default may be smaller than this).
+ */
 #define UPF_STACK 4194304u
 
 /*

@@ -43,6 +43,9 @@ pub const FILES: usize = 65_536;
 pub const AREA: usize = 65_536;
 pub const NUMS: usize = 16_384;
 
+/// The stack that a call may take. A main thread has 8 MB; the 2 MB that a thread of `std` has by default are not enough: see `std::thread::Builder::stack_size`.
+pub const STACK: usize = 4 << 20;
+
 /// What one call lends: three work areas, and the buffers for the four texts. Any sizes are allowed, and any content.
 pub struct Lent<'a> {
     pub files: &'a mut [u8],
