@@ -15,7 +15,12 @@
 extern "C" {
 #endif
 
-/* The answer: a number (0: accepted; else the refusal), a place, and the lengths of the four texts (all 0 for a refusal). */
+/*
+ * The answer: a number (0: accepted; else the refusal), a place, and the lengths of the four texts (all 0 for a refusal). The library does not know this struct; a
+ * caller may keep the answer in it:
+ *
+ *     a.number = upf_run(.., &a.place, &a.glue, &a.package, &a.report, &a.log);
+ */
 typedef struct {
     size_t number;
     size_t place;
@@ -96,23 +101,23 @@ enum {
 #define UPF_STACK 4194304u
 
 /*
- * Answers the job. Lent for writing are three work areas (joined files, all else, numbers) and four buffers (glue, package, report, log), each as a pointer and a
+ * Answers the job with its number; place and lengths of the texts stand behind the last five pointers. Lent for writing are three work areas (joined files, all else, numbers) and four buffers (glue, package, report, log), each as a pointer and a
  * length: bytes, for `nums` numbers. Every length is allowed, 0 too, and every content of the job and of what is lent.
  *
  * The caller sees to this:
  * - each pointer is not null, also with length 0, and its length is the caller's to read (the job) or to write (all others) during the call;
- * - `nums` is aligned as a uint32_t and `answer` as a size_t;
+ * - `nums` is aligned as a uint32_t, and the last five pointers as a size_t;
  * - none of the memory that is written overlaps the job or another part that is lent.
  *
  * The call ends, for every job. Afterwards:
- * - *answer has number, place and lengths;
+ * - the result is the number, and place and lengths are written, for a refusal too;
  * - each buffer has its text and behind it zeros to its end; for a refusal all four are zero. No text ends in a zero of its own: use the length;
  * - the three work areas are zero;
  * - the job is as it was, and no byte outside of what was lent is written.
  *
  * So there is one answer to a job and to the lengths that are lent; what the memory held before does not matter.
  */
-void upf_run(
+size_t upf_run(
     const uint8_t *job, size_t job_len,
     uint8_t *files, size_t files_len,
     uint8_t *area, size_t area_len,
@@ -121,7 +126,8 @@ void upf_run(
     uint8_t *package, size_t package_len,
     uint8_t *report, size_t report_len,
     uint8_t *log, size_t log_len,
-    upf_answer *answer);
+    size_t *place,
+    size_t *glue_used, size_t *package_used, size_t *report_used, size_t *log_used);
 
 #ifdef __cplusplus
 }

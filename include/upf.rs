@@ -4,7 +4,6 @@
 use std::fmt;
 
 /// Number and place of the answer (0 and 0: accepted), and the lengths of the four texts.
-#[repr(C)]
 #[derive(Clone, Copy, Debug, Default, PartialEq, Eq)]
 pub struct Answer {
     pub number: usize,
@@ -34,8 +33,12 @@ extern "C" {
         report_len: usize,
         log: *mut u8,
         log_len: usize,
-        answer: *mut Answer,
-    );
+        place: *mut usize,
+        glue_used: *mut usize,
+        package_used: *mut usize,
+        report_used: *mut usize,
+        log_used: *mut usize,
+    ) -> usize;
 }
 
 /// The least sizes of the work areas: bytes, bytes, numbers.
@@ -61,7 +64,7 @@ pub struct Lent<'a> {
 pub fn run(job: &[u8], lent: Lent) -> Answer {
     let mut answer = Answer::default();
     // SAFETY: eight slices that are alive during the call; those that are written are borrowed for this call alone.
-    unsafe {
+    answer.number = unsafe {
         upf_run(
             job.as_ptr(),
             job.len(),
@@ -79,9 +82,13 @@ pub fn run(job: &[u8], lent: Lent) -> Answer {
             lent.report.len(),
             lent.log.as_mut_ptr(),
             lent.log.len(),
-            &mut answer,
-        );
-    }
+            &mut answer.place,
+            &mut answer.glue,
+            &mut answer.package,
+            &mut answer.report,
+            &mut answer.log,
+        )
+    };
     answer
 }
 

@@ -89,8 +89,8 @@ static upf_answer answer(const uint8_t *job, size_t len, uint8_t *texts, size_t 
     uint8_t *files = lend(UPF_FILES), *area = lend(UPF_AREA);
     uint32_t *nums = lend(UPF_NUMS * sizeof *nums);
     upf_answer a;
-    upf_run(job, len, files, UPF_FILES, area, UPF_AREA, nums, UPF_NUMS, texts, room, texts + room, room, texts + 2 * room, room,
-            texts + 3 * room, room, &a);
+    a.number = upf_run(job, len, files, UPF_FILES, area, UPF_AREA, nums, UPF_NUMS, texts, room, texts + room, room, texts + 2 * room, room,
+                       texts + 3 * room, room, &a.place, &a.glue, &a.package, &a.report, &a.log);
     free(files);
     free(area);
     free(nums);

@@ -87,8 +87,9 @@ static void call(const test *t, const size_t len[SLICES], unsigned upper) {
     for (k = 0; k < SLICES; k++) ASAN_POISON_MEMORY_REGION(s[k].marks, s[k].marked);
     mprotect(s[JOB].base, ROOM, PROT_READ);
     clock_gettime(CLOCK_THREAD_CPUTIME_ID, &from);
-    upf_run(s[JOB].at, s[JOB].len, s[FILES].at, s[FILES].len, s[AREA].at, s[AREA].len, (uint32_t *)(void *)s[NUMS].at, s[NUMS].len / 4,
-            s[GLUE].at, s[GLUE].len, s[PACKAGE].at, s[PACKAGE].len, s[REPORT].at, s[REPORT].len, s[LOG].at, s[LOG].len, &a);
+    a.number = upf_run(s[JOB].at, s[JOB].len, s[FILES].at, s[FILES].len, s[AREA].at, s[AREA].len, (uint32_t *)(void *)s[NUMS].at,
+                       s[NUMS].len / 4, s[GLUE].at, s[GLUE].len, s[PACKAGE].at, s[PACKAGE].len, s[REPORT].at, s[REPORT].len, s[LOG].at,
+                       s[LOG].len, &a.place, &a.glue, &a.package, &a.report, &a.log);
     clock_gettime(CLOCK_THREAD_CPUTIME_ID, &to);
     mprotect(s[JOB].base, ROOM, PROT_READ | PROT_WRITE);
     for (k = 0; k < SLICES; k++) ASAN_UNPOISON_MEMORY_REGION(s[k].marks, s[k].marked);
