@@ -4,20 +4,25 @@
  * A case is a line of seven numbers (number, place, lengths of the job, glue, package, report and log) and a name, then the job and the four texts; the number
  * 999999 stands for an answer that is not known. Each job is answered with several lengths of what is lent. Every slice lies between two pages that cannot be
  * touched, at the one or at the other, with marked bytes on its open side; all that is lent is full of 0xFF. The job's page cannot be written during the call.
- * Looked at are the answer, every lent byte, the marks, the processor time of each call and the depth of the stack. With TITLE each case has its line of time.
+ * Looked at are the answer, every lent byte, the marks, the processor time of each call and the depth of the stack. With TITLE each case has one call, in a process of
+ * its own that is stopped after 20 seconds of the processor, and a line with its time.
  */
 #define _GNU_SOURCE
 #include <pthread.h>
 #include <sanitizer/asan_interface.h>
+#include <signal.h>
 #include <stdio.h>
 #include <stdlib.h>
 #include <string.h>
 #include <sys/mman.h>
+#include <sys/resource.h>
+#include <sys/wait.h>
 #include <time.h>
+#include <unistd.h>
 
 #include "upf.h"
 
-enum { PAGE = 4096, MARKS = 512, UNKNOWN = 999999, SLICES = 8, JOB = 0, FILES, AREA, NUMS, GLUE, PACKAGE, REPORT, LOG };
+enum { PAGE = 4096, MARKS = 512, SECONDS = 20, UNKNOWN = 999999, SLICES = 8, JOB = 0, FILES, AREA, NUMS, GLUE, PACKAGE, REPORT, LOG };
 static const size_t ROOM = (size_t)1 << 20;
 static const size_t STACK = (size_t)64 << 20;
 static const unsigned char MARK = 0xA5;
@@ -36,11 +41,18 @@ typedef struct {
     unsigned char *bytes; /* the job, then the four texts */
 } test;
 
+/* What the calls have come to; shared with the processes of the calls. */
+typedef struct {
+    unsigned long calls, wrong;
+    double slowest;
+    char slow[256];
+    size_t depth;
+} tally;
+
 static slice s[SLICES];
 static int title;
-static unsigned long calls, wrong;
-static double slowest;
-static char slow[256];
+static unsigned char *stack;
+static tally *sum;
 
 static void fail(const char *why) {
     fprintf(stderr, "hard: %s\n", why);
@@ -69,8 +81,8 @@ static int all(const unsigned char *p, size_t n, unsigned char b) {
 }
 
 static void differs(const test *t, const char *what, const size_t len[SLICES]) {
-    wrong++;
-    if (wrong <= 10)
+    sum->wrong++;
+    if (sum->wrong <= 10)
         printf("%s: %s (lent %zu %zu %zu, %zu %zu %zu %zu)\n", t->name, what, len[FILES], len[AREA], len[NUMS] / 4, len[GLUE],
                len[PACKAGE], len[REPORT], len[LOG]);
 }
@@ -93,12 +105,12 @@ static void call(const test *t, const size_t len[SLICES], unsigned upper) {
     clock_gettime(CLOCK_THREAD_CPUTIME_ID, &to);
     mprotect(s[JOB].base, ROOM, PROT_READ | PROT_WRITE);
     for (k = 0; k < SLICES; k++) ASAN_UNPOISON_MEMORY_REGION(s[k].marks, s[k].marked);
-    calls++;
+    sum->calls++;
 
     double ms = (double)(to.tv_sec - from.tv_sec) * 1e3 + (double)(to.tv_nsec - from.tv_nsec) / 1e6;
-    if (ms > slowest) {
-        slowest = ms;
-        strcpy(slow, t->name);
+    if (ms > sum->slowest) {
+        sum->slowest = ms;
+        strcpy(sum->slow, t->name);
     }
     if (title) printf("%8.1f ms  %5zu bytes  %2zu %4zu  %s\n", ms, t->job, a.number, a.place, t->name);
 
@@ -137,16 +149,48 @@ static size_t chosen(size_t n) {
     return (state >> 33) % n;
 }
 
+/* How deep the stack has been. */
+static void sound(void) {
+    size_t free_bytes = 0;
+    while (free_bytes < STACK && stack[free_bytes] == 0) free_bytes++;
+    if (STACK - free_bytes > sum->depth) sum->depth = STACK - free_bytes;
+}
+
+/* One call in a process of its own, with buffers of ROOM bytes. */
+static void apart(const test *t) {
+    size_t len[SLICES] = {t->job, UPF_FILES, UPF_AREA, 4 * UPF_NUMS, ROOM, ROOM, ROOM, ROOM};
+    int status;
+    pid_t pid = fork();
+    if (pid < 0) fail("no process");
+    if (pid == 0) {
+        struct rlimit most = {SECONDS, SECONDS + 1};
+        setrlimit(RLIMIT_CPU, &most);
+        call(t, len, 0xFF);
+        sound();
+        fflush(stdout);
+        _exit(0);
+    }
+    if (waitpid(pid, &status, 0) != pid) fail("no process");
+    if (WIFSIGNALED(status)) {
+        sum->wrong++;
+        printf("%s  %5zu bytes           %s\n", WTERMSIG(status) == SIGXCPU ? "over 20000 ms" : "signalled", t->job, t->name);
+    } else if (status != 0) {
+        sum->wrong++;
+        printf("a report of the sanitizer: %s\n", t->name);
+    }
+}
+
 /* The case with its own lengths exactly, with 65,536 each, and with odd ones. */
 static void answer(const test *t) {
     size_t len[SLICES] = {t->job, UPF_FILES, UPF_AREA, 4 * UPF_NUMS, t->text[0], t->text[1], t->text[2], t->text[3]};
     size_t odd[SLICES];
     int k;
-    if (t->number == UNKNOWN || title) {
-        for (k = GLUE; k <= LOG; k++) len[k] = ROOM;
-        call(t, len, 0xFF);
+    if (title) {
+        apart(t);
         return;
     }
+    if (t->number == UNKNOWN)
+        for (k = GLUE; k <= LOG; k++) len[k] = ROOM;
     call(t, len, (unsigned)chosen(256));
     /* one buffer one short */
     memcpy(odd, len, sizeof odd);
@@ -195,25 +239,30 @@ static void *work(void *unused) {
     }
     if (!feof(stdin)) fail("a case has another form");
     free(t.bytes);
-    printf("hard: %lu jobs, %lu calls, %lu differences, slowest call %.1f ms (%s)\n", cases, calls, wrong, slowest, slow);
+    printf("hard: %lu jobs, %lu calls, %lu differences, slowest call %.1f ms (%s)\n", cases, sum->calls, sum->wrong, sum->slowest, sum->slow);
     return NULL;
+}
+
+static void *shared(size_t bytes, int flags) {
+    void *p = mmap(NULL, bytes, PROT_READ | PROT_WRITE, MAP_ANONYMOUS | flags, -1, 0);
+    if (p == MAP_FAILED) fail("no memory");
+    return p;
 }
 
 int main(int argc, char **argv) {
     pthread_attr_t attr;
     pthread_t thread;
-    size_t free_bytes = 0;
     int k;
     (void)argv;
     title = argc > 1;
     setvbuf(stdout, NULL, _IOLBF, 0);
+    sum = shared(sizeof *sum, MAP_SHARED);
+    stack = shared(STACK, MAP_PRIVATE | MAP_NORESERVE);
     for (k = 0; k < SLICES; k++) map(&s[k]);
-    unsigned char *stack = mmap(NULL, STACK, PROT_READ | PROT_WRITE, MAP_PRIVATE | MAP_ANONYMOUS | MAP_NORESERVE, -1, 0);
-    if (stack == MAP_FAILED) fail("no memory");
     pthread_attr_init(&attr);
     if (pthread_attr_setstack(&attr, stack, STACK) != 0 || pthread_create(&thread, &attr, work, NULL) != 0) fail("no thread");
     pthread_join(thread, NULL);
-    while (free_bytes < STACK && stack[free_bytes] == 0) free_bytes++;
-    printf("hard: at most %zu bytes of stack, %u promised\n", STACK - free_bytes, UPF_STACK);
-    return wrong > 0 || STACK - free_bytes > UPF_STACK || slowest > 2000;
+    sound();
+    printf("hard: at most %zu bytes of stack, %u promised\n", sum->depth, UPF_STACK);
+    return sum->wrong > 0 || sum->depth > UPF_STACK || sum->slowest > 2000;
 }
