@@ -261,18 +261,17 @@ fn switches(all: &mut Vec<Worst>) {
         let run: String = (0..32).map(|k| format!("set D s{}; load_upf q\n", k)).collect();
         Sheet::new(&run).file("q", body)
     };
+    // a switch may have 32 entries of lists: 1,024 in all
     let front = "create_power_switch $D -input_supply_port {i V} -output_supply_port {o W}";
-    let controls: String = (0..32).map(|k| format!("c{} n{} ", k, k)).collect();
-    let ons = " -on_state {on i {c0 && !c31 || c32}}".repeat(60);
-    put(all, "32 switches of 60 on_state words", p(&format!("{} -control_port {{{}}}{}\n", front, controls, ons)));
-    let long_expression = "c31&".repeat(13_000);
-    let one = format!("{} -control_port {{{}}} -on_state {{on i {{{}}}}}\n", front, controls, long_expression);
+    let ons = " -on_state {on i {c0 && !c1 || c2}}".repeat(8);
+    put(all, "32 switches of eight on_state words", p(&format!("{} -control_port {{c0 n0 c1 n1}}{}\n", front, ons)));
+    let one = format!("{} -control_port {{c31 n31}} -on_state {{on i {{{}}}}}\n", front, "c31&".repeat(13_000));
     put(all, "32 switches with a condition of 52,000 bytes", p(&one));
     let net = "n".repeat(20_000);
     let one = format!("{} -control_port {{c {}}} -on_state {{on i {{{}}}}}\n", front, net, "c ".repeat(10_000));
     put(all, "32 switches whose condition grows to 200,000,000 bytes", p(&one));
-    let offs = format!(" -off_state {{off {{{}}}}}", "x".repeat(700)).repeat(60);
-    put(all, "32 switches of 60 off_state words", p(&format!("{} -control_port {{c n}}{}\n", front, offs)));
+    let offs = format!(" -off_state {{off {{{}}}}}", "x".repeat(4000)).repeat(12);
+    put(all, "32 switches of twelve off_state words", p(&format!("{} -control_port {{c n}}{}\n", front, offs)));
 }
 
 fn tables(all: &mut Vec<Worst>) {
@@ -302,8 +301,8 @@ fn tables(all: &mut Vec<Worst>) {
     put(all, "900 connections", Sheet::new(&p));
     let p: String = (0..900).map(|k| format!("create_supply_net {}\n", &long(k % 32)[30..])).collect();
     put(all, "32 nets created 900 times", Sheet::new(&p));
-    let p: String = (0..32).map(|k| format!("add_port_state {}{}\n", long(k), " -state {on 1}".repeat(63))).collect();
-    put(all, "32 port states of 63 words", Sheet::new(&p));
+    let p: String = (0..32).map(|k| format!("add_port_state {}{}\n", long(k), " -state {on 1}".repeat(15))).collect();
+    put(all, "32 port states of 15 words", Sheet::new(&p));
 }
 
 fn lines(all: &mut Vec<Worst>) {
