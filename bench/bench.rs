@@ -100,7 +100,13 @@ fn time(m: &mut Memory, name: &str, bytes: &[u8], rounds: usize) -> Option<Resul
     let parsed = job::parse(bytes).ok()?;
     let tree = convert::tree(&parsed);
     let over = Some(parsed.over.as_str()).filter(|o| !o.is_empty());
-    let task = reference::Task { top: &parsed.top, over, start: &parsed.start, files: &parsed.files, modules: &tree };
+    let task = reference::Task {
+        top: &parsed.top,
+        over,
+        start: &parsed.start,
+        files: &parsed.files,
+        modules: &tree,
+    };
     m.texts.iter_mut().for_each(|t| t.resize(65_536, 0));
     let mut a = m.call(bytes);
     while a.number == 14 && m.texts[0].len() < 1 << 22 {

@@ -49,7 +49,8 @@ fn block(k: usize) -> String {
 
 /// The intent of a block: domain, switched supply, isolation, retention.
 fn intent(k: usize) -> String {
-    let mut p = format!("create_supply_net VDD_{k}\n") + &supplied(&format!("PD_{k}"), &format!("u_block{k}"), &format!("VDD_{k}"));
+    let mut p = format!("create_supply_net VDD_{k}\n")
+        + &supplied(&format!("PD_{k}"), &format!("u_block{k}"), &format!("VDD_{k}"));
     p += &format!(
         "create_power_switch SW_{k} -domain PD_{k} -input_supply_port {{in VDD}} -output_supply_port {{out VDD_{k}}} \\\n  \
          -control_port {{ctrl sleep_{k}}} -on_state {{on in {{!ctrl}}}} -off_state {{off {{ctrl}}}}\n\
@@ -130,7 +131,8 @@ fn paths(n: usize) -> Vec<u8> {
 
 /// `n` commands of many kinds.
 fn commands(n: usize) -> Vec<u8> {
-    let mut p = "create_supply_net V\n".to_string() + &supplied("PD", "u", "V") + "create_pst T -supplies {V}\n";
+    let mut p =
+        "create_supply_net V\n".to_string() + &supplied("PD", "u", "V") + "create_pst T -supplies {V}\n";
     for k in p.lines().count()..n {
         p += &match k % 8 {
             0 => format!("puts {{step {k} of the intent}}\n"),
@@ -145,12 +147,16 @@ fn commands(n: usize) -> Vec<u8> {
     }
     // at most 256 warnings
     let p = p.replace("set_port_attributes", if n > 500 { "query_port" } else { "set_port_attributes" });
-    job(&[("p.upf", p)], "module=top\nstyle=empty\ninst=0 u c\nmodule=c\nstyle=ansi\nport=in clk\nport=out q\n")
+    job(
+        &[("p.upf", p)],
+        "module=top\nstyle=empty\ninst=0 u c\nmodule=c\nstyle=ansi\nport=in clk\nport=out q\n",
+    )
 }
 
 /// A file of ten commands, loaded again and again.
 fn loaded(times: usize) -> Vec<u8> {
-    let q = "puts \"$W and $W\"\ncreate_supply_net V\nquery_x a -b c {d e}\n".to_string() + &"upf_version 2.1\n".repeat(2).replace("upf_version", "query_v");
+    let q = "puts \"$W and $W\"\ncreate_supply_net V\nquery_x a -b c {d e}\n".to_string()
+        + &"upf_version 2.1\n".repeat(2).replace("upf_version", "query_v");
     let p = "set W w\n".to_string() + &"load_upf q.upf\n".repeat(times);
     job(&[("p.upf", p), ("q.upf", q)], "module=top\nstyle=empty\n")
 }

@@ -220,7 +220,9 @@ fn run(seed: u64, count: u64) -> bool {
         t.see(&mut m, &mut sizes, &format!("{what}, damaged"), &damaged);
     }
     let Tally { jobs, calls, cut_off, wrong, answers } = t;
-    println!("upfc: {jobs} jobs, {calls} calls, {cut_off} cut off, {wrong} differences, by answer {answers:?}");
+    println!(
+        "upfc: {jobs} jobs, {calls} calls, {cut_off} cut off, {wrong} differences, by answer {answers:?}"
+    );
     wrong > 0
 }
 

@@ -87,7 +87,8 @@ fn loads(all: &mut Vec<Worst>) {
     put(all, "a comment of 54,000 bytes loaded 1,000 times", s);
     let s = Sheet::new(&"load_upf q\n".repeat(1000)).file("q", &"\n".repeat(54_000));
     put(all, "54,000 empty lines loaded 1,000 times", s);
-    let s = Sheet::new(&"load_upf q\n".repeat(500)).file("q", &format!("query_x {{{}}}\n", "{}".repeat(29_000)));
+    let s =
+        Sheet::new(&"load_upf q\n".repeat(500)).file("q", &format!("query_x {{{}}}\n", "{}".repeat(29_000)));
     put(all, "a braced word of 58,000 bytes read 500 times", s);
     let s = Sheet::new(&"load_upf q\n".repeat(500)).file("q", &format!("query_x{}\n", " {}".repeat(127)));
     put(all, "128 words read 500 times", s);
@@ -105,7 +106,11 @@ fn loads(all: &mut Vec<Worst>) {
 
 fn words(all: &mut Vec<Worst>) {
     put(all, "256 unknown commands", Sheet::new(&"unknown_command_of_some_length a b c\n".repeat(256)));
-    put(all, "1,024 commands, puts", Sheet::new(&"puts {some words that are written to the log}\n".repeat(1024)));
+    put(
+        all,
+        "1,024 commands, puts",
+        Sheet::new(&"puts {some words that are written to the log}\n".repeat(1024)),
+    );
     let one = format!("create_supply_port P{}\n", " -direction {in}".repeat(63));
     put(all, "options again and again", Sheet::new(&one.repeat(32)));
     let q = format!("set_isolation I -update{}\n", " -elements {a}".repeat(62));
@@ -120,7 +125,11 @@ fn variables(all: &mut Vec<Worst>) {
     }
     p.push_str(&"load_upf q\n".repeat(470));
     let q: String = (0..100).map(|k| format!(" ${}", name(k % 10))).collect();
-    put(all, "variables with long names, known, 47,000 times", Sheet::new(&p).file("q", &format!("query_x{}\n", q)));
+    put(
+        all,
+        "variables with long names, known, 47,000 times",
+        Sheet::new(&p).file("q", &format!("query_x{}\n", q)),
+    );
     let p = format!("set a {}\nload_upf q\n", "b".repeat(160));
     put(all, "16,000 bytes of results", Sheet::new(&p).file("q", &format!("query_x {}\n", "$a".repeat(100))));
 }
@@ -132,7 +141,11 @@ fn entries(size: usize) -> String {
 
 fn lists(all: &mut Vec<Worst>) {
     put(all, "16 lists of 64 entries of 900 bytes", domains(16, &entries(900)));
-    put(all, "32 lists of 32 entries, quoted", domains(32, &format!("\"{}\" ", "\\a/".repeat(500)).repeat(32)));
+    put(
+        all,
+        "32 lists of 32 entries, quoted",
+        domains(32, &format!("\"{}\" ", "\\a/".repeat(500)).repeat(32)),
+    );
     put(all, "32 lists of one entry of 55,000 bytes", domains(32, &"x/".repeat(27_500)));
     put(all, "32 lists of comments", domains(32, &"# c\n".repeat(13_000)));
 }
@@ -161,7 +174,11 @@ fn elements(all: &mut Vec<Worst>) {
     put(all, "32 domains on an element of 15,000 parts", domains(32, &path(15_000)).mods(&ring(30_000)));
     put(all, "32 domains on an element of 28,000 parts", domains(32, &path(28_000)).mods(&ring(1_000)));
     let wrong = (0..64).map(|k| path(220) + "/" + &two(k) + " ").collect::<String>();
-    put(all, "16 domains on 64 elements of 220 parts that lead nowhere", domains(16, &wrong).mods(&ring(30_000)));
+    put(
+        all,
+        "16 domains on 64 elements of 220 parts that lead nowhere",
+        domains(16, &wrong).mods(&ring(30_000)),
+    );
     let q = format!("set_isolation $D -domain D -elements {{{}/q}} -isolation_signal s\n", path(15_000));
     let p: String = (0..32).map(|k| format!("set D d{}; load_upf q\n", k)).collect();
     let p = format!("{}{}", domain("D", "u"), p);
@@ -198,11 +215,17 @@ fn walks(all: &mut Vec<Worst>) {
     m.push_str("module=m40\nstyle=ansi\n");
     put(all, "32 walks 32 deep with names of 64 bytes", domains(32, &long(0)).mods(&m));
     let ring = "module=top\nstyle=empty\ninst=0 u a\nmodule=a\nstyle=empty\ninst=0 u a\n";
-    put(all, "64 elements of 400 parts, each walked 32 deep, 16 domains", domains(16, &("u/".repeat(400) + "u ").repeat(64)).mods(ring));
+    put(
+        all,
+        "64 elements of 400 parts, each walked 32 deep, 16 domains",
+        domains(16, &("u/".repeat(400) + "u ").repeat(64)).mods(ring),
+    );
 }
 
 fn retained(all: &mut Vec<Worst>) {
-    let list = |front: &str, k: usize| (0..32).map(|n| format!("{}/{}/z{} ", front, two(n), two(n + k)[1..].to_string())).collect::<String>();
+    let list = |front: &str, k: usize| {
+        (0..32).map(|n| format!("{}/{}/z{} ", front, two(n), two(n + k)[1..].to_string())).collect::<String>()
+    };
     let mut s = domains(31, "u").mods(&wide(""));
     let mut q = String::new();
     for k in 0..30 {
@@ -211,7 +234,8 @@ fn retained(all: &mut Vec<Worst>) {
     s.files[0].1.extend(b"load_upf r\n");
     put(all, "31 walks of 4,096 modules beside 960 retained entries", s.file("r", &q));
     // the same far below: an element of 500 bytes of scope
-    let deep = wide("").replace("inst=0 u a\n", "inst=0 u m\nmodule=m\nstyle=empty\ninst=0 u m\ninst=0 v a\n");
+    let deep =
+        wide("").replace("inst=0 u a\n", "inst=0 u m\nmodule=m\nstyle=empty\ninst=0 u m\ninst=0 v a\n");
     let scope = "u/".repeat(252) + "v";
     let mut s = domains(16, ".").mods(&deep);
     let p: String = (0..16).map(|k| format!("set D d{}; load_upf q\n", k)).collect();
@@ -222,13 +246,21 @@ fn retained(all: &mut Vec<Worst>) {
             format!("set_retention r{} -domain D -elements {{{}}}\n", k, e)
         })
         .collect();
-    put(all, "16 walks of 4,096 modules below a scope of 505 bytes beside 960 retained entries", s.file("r", &q));
+    put(
+        all,
+        "16 walks of 4,096 modules below a scope of 505 bytes beside 960 retained entries",
+        s.file("r", &q),
+    );
     // an element of 24,000 bytes, and retained entries as long
     let path = "u/".repeat(12_000) + "v";
     let mut s = domains(32, &path).mods(&deep);
     let r = format!("set_retention r -domain D -elements {{{}/aa/zz}}\n", path);
     s.files[0].1.extend("load_upf r\n".repeat(32).bytes());
-    put(all, "32 walks of 4,096 modules below an element of 24,000 bytes beside 32 entries as long", s.file("r", &r));
+    put(
+        all,
+        "32 walks of 4,096 modules below an element of 24,000 bytes beside 32 entries as long",
+        s.file("r", &r),
+    );
 }
 
 fn isolations(all: &mut Vec<Worst>) {
@@ -239,19 +271,34 @@ fn isolations(all: &mut Vec<Worst>) {
     m.push_str("module=a\nstyle=ansi\n");
     (0..64).for_each(|k| m.push_str(&format!("port=out {}\n", long(k))));
     let p = |extra: &str| {
-        let each = |k: usize| format!("set_isolation I{} -domain D -isolation_signal s{} -clamp_value 0{}\n", k, k, extra);
+        let each = |k: usize| {
+            format!("set_isolation I{} -domain D -isolation_signal s{} -clamp_value 0{}\n", k, k, extra)
+        };
         domain("D", "u0 u1 u2 u3") + &(0..32).map(each).collect::<String>()
     };
     put(all, "256 isolated ports, 32 strategies", Sheet::new(&p("")).mods(&m));
     let some: String = (0..8).map(|k| format!("u0/{} ", long(k))).collect();
-    put(all, "256 ports named by 32 strategies", Sheet::new(&p(&format!(" -elements {{{}}}", some))).mods(&m));
+    put(
+        all,
+        "256 ports named by 32 strategies",
+        Sheet::new(&p(&format!(" -elements {{{}}}", some))).mods(&m),
+    );
     let apart: String = (0..32)
         .map(|k| {
             let e: String = (0..8).map(|n| format!("u{}/{} ", k % 4, long(k / 4 * 8 + n))).collect();
-            format!("set_isolation {} -domain D -isolation_signal {} -elements {{{}}}\n", long(k), long(31 - k), e)
+            format!(
+                "set_isolation {} -domain D -isolation_signal {} -elements {{{}}}\n",
+                long(k),
+                long(31 - k),
+                e
+            )
         })
         .collect();
-    put(all, "256 isolated ports, eight for each of 32 strategies", Sheet::new(&(domain("D", "u0 u1") + &apart)).mods(&m));
+    put(
+        all,
+        "256 isolated ports, eight for each of 32 strategies",
+        Sheet::new(&(domain("D", "u0 u1") + &apart)).mods(&m),
+    );
     let no_net = m.replace("conn=star\n", "");
     put(all, "ports without a net, 512 warnings", Sheet::new(&p("")).mods(&no_net));
 }
@@ -264,14 +311,24 @@ fn switches(all: &mut Vec<Worst>) {
     // a switch may have 32 entries of lists: 1,024 in all
     let front = "create_power_switch $D -input_supply_port {i V} -output_supply_port {o W}";
     let ons = " -on_state {on i {c0 && !c1 || c2}}".repeat(8);
-    put(all, "32 switches of eight on_state words", p(&format!("{} -control_port {{c0 n0 c1 n1}}{}\n", front, ons)));
-    let one = format!("{} -control_port {{c31 n31}} -on_state {{on i {{{}}}}}\n", front, "c31&".repeat(13_000));
+    put(
+        all,
+        "32 switches of eight on_state words",
+        p(&format!("{} -control_port {{c0 n0 c1 n1}}{}\n", front, ons)),
+    );
+    let one =
+        format!("{} -control_port {{c31 n31}} -on_state {{on i {{{}}}}}\n", front, "c31&".repeat(13_000));
     put(all, "32 switches with a condition of 52,000 bytes", p(&one));
     let net = "n".repeat(20_000);
-    let one = format!("{} -control_port {{c {}}} -on_state {{on i {{{}}}}}\n", front, net, "c ".repeat(10_000));
+    let one =
+        format!("{} -control_port {{c {}}} -on_state {{on i {{{}}}}}\n", front, net, "c ".repeat(10_000));
     put(all, "32 switches whose condition grows to 200,000,000 bytes", p(&one));
     let offs = format!(" -off_state {{off {{{}}}}}", "x".repeat(4000)).repeat(12);
-    put(all, "32 switches of twelve off_state words", p(&format!("{} -control_port {{c n}}{}\n", front, offs)));
+    put(
+        all,
+        "32 switches of twelve off_state words",
+        p(&format!("{} -control_port {{c n}}{}\n", front, offs)),
+    );
 }
 
 fn tables(all: &mut Vec<Worst>) {
@@ -301,7 +358,8 @@ fn tables(all: &mut Vec<Worst>) {
     put(all, "900 connections", Sheet::new(&p));
     let p: String = (0..900).map(|k| format!("create_supply_net {}\n", &long(k % 32)[30..])).collect();
     put(all, "32 nets created 900 times", Sheet::new(&p));
-    let p: String = (0..32).map(|k| format!("add_port_state {}{}\n", long(k), " -state {on 1}".repeat(15))).collect();
+    let p: String =
+        (0..32).map(|k| format!("add_port_state {}{}\n", long(k), " -state {on 1}".repeat(15))).collect();
     put(all, "32 port states of 15 words", Sheet::new(&p));
 }
 
