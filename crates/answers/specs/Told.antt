@@ -14,7 +14,7 @@ use Rattle.out.specs.Fits.{whole}
 use Rattle.out.specs.Clear.{clearedFrom, cleared-text}
 use Rattle.texts.specs.Setting.{Setting}
 use Rattle.texts.specs.Texts.{glueOf, packageOf, reportOf}
-use Rattle.upf.specs.Answer.{Lent, Answer, texts, refused, fitted, number, place, glue-text, package-text, report-text, log-text, held}
+use Rattle.answers.specs.Answer.{Lent, Answer, texts, refused, fitted, number, place, glue-text, package-text, report-text, log-text, held}
 use Rattle.answers.specs.Answers.{refusedBy, fittedBy}
 use Rattle.answers.specs.Stage.{Stage, set, stop, Written, Staged}
 use Rattle.answers.specs.declared.Answer.{Answer as Code}

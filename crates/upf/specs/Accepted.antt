@@ -20,7 +20,7 @@ use Rattle.texts.specs.Setting.{Setting, settingOf}
 use Rattle.texts.specs.Domains.{retainedEntries, lostPaths}
 use Rattle.texts.specs.Texts.{glueOf, packageOf, reportOf, fits}
 use Rattle.texts.specs.Blocks.{scope-exists}
-use Rattle.upf.specs.Answer.{Lent, Answer, allFit, inScope, belowTop, afterReading, afterParse, roomy, answer}
+use Rattle.answers.specs.Answer.{Lent, Answer, allFit, inScope, belowTop, afterReading, afterParse, roomy, answer}
 
 -- ---- an accepted job
 

@@ -1,5 +1,3 @@
-pub mod Limits
-pub mod Answer
 pub mod Starred
 pub mod Accepted
 pub mod Signals

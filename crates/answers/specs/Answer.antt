@@ -15,7 +15,7 @@ use Rattle.read.specs.Reading.{Reading, reading}
 use Rattle.texts.specs.Scope.{Scope, scopeOf}
 use Rattle.texts.specs.Setting.{Setting}
 use Rattle.texts.specs.Texts.{glueOf, packageOf, reportOf, fits}
-use Rattle.upf.specs.Limits.{least-bytes, least-numbers}
+use Rattle.answers.specs.Limits.{least-bytes, least-numbers}
 
 -- the lengths of what was lent for writing: the work areas for joined files, for all else and for numbers; the four buffers
 pub record Lent : Type 0 where

@@ -1,0 +1,2 @@
+pub mod OneDomain
+pub mod Turns
