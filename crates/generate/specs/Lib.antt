@@ -1,2 +1,0 @@
-pub mod Generates
-pub mod Pieces

@@ -1,1 +1,0 @@
-// The three texts of generation.
