@@ -6,7 +6,7 @@
 
 use std::io::Write;
 
-use crate::check::{expect, Answer, STANDARD};
+use crate::check::{expect, in_time, Answer, Lent, AREAS, STANDARD, TIME_LIMIT};
 use crate::gen::{self, Rng};
 use crate::selftest;
 
@@ -71,4 +71,42 @@ pub fn marked() -> std::io::Result<()> {
         put(&mut out, &job, number, place, &expect(&job, &STANDARD));
     }
     std::io::stdout().write_all(&out)
+}
+
+/// Stands for the number of an answer that is not known.
+const UNKNOWN: u32 = 999_999;
+
+/// Writes one case with its name behind the numbers; the texts are those of buffers of 999,999 bytes.
+fn named(name: &str, job: &[u8], out: &mut impl Write) -> std::io::Result<()> {
+    let bytes = job.to_vec();
+    let lent = Lent { areas: AREAS, buffers: [999_999; 4] };
+    let a = in_time(3 * TIME_LIMIT, move || expect(&bytes, &lent)).filter(|a| !a.cut_off);
+    let a = a.unwrap_or_else(|| Answer::refused((UNKNOWN, 0)));
+    let mut case = Vec::new();
+    put(&mut case, job, a.number, a.place, &a);
+    let line = case.iter().position(|&b| b == b'\n').expect("a line");
+    case.splice(line..line, format!(" {name}").into_bytes());
+    out.write_all(&case)
+}
+
+/// Generated jobs and a damaged copy of each, as named cases, to standard output.
+pub fn stream(seed: u64, count: u64) -> std::io::Result<()> {
+    let mut out = std::io::BufWriter::new(std::io::stdout());
+    for k in 0..count {
+        let mut r = Rng::new(seed.wrapping_add(k));
+        let job = gen::job(&mut r);
+        let name = format!("job {}", seed.wrapping_add(k));
+        named(&name, &job, &mut out)?;
+        named(&(name + ", damaged"), &gen::damage(&mut r, &job), &mut out)?;
+    }
+    out.flush()
+}
+
+/// The jobs that are meant to take long, as named cases, to standard output.
+pub fn worst() -> std::io::Result<()> {
+    let mut out = std::io::stdout();
+    for (name, job) in gen::worst_jobs() {
+        named(&name, &job, &mut out)?;
+    }
+    Ok(())
 }

@@ -13,11 +13,13 @@ mod job;
 mod limits;
 mod walks;
 mod words;
+mod worst;
 
 pub use self::cover::Coverage;
 pub use self::damage::{damage, one_byte_changes};
 pub use self::job::job;
 pub use self::words::{all_texts, text, vars, word_list};
+pub use self::worst::worst_jobs;
 
 /// A job with its name and the answer due: number and place.
 pub type Case = (String, Vec<u8>, u32, u32);

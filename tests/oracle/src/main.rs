@@ -36,6 +36,8 @@ const USAGE: &str = "usage: oracle COMMAND
   bounds DIR         the boundary jobs, likewise
   corpus SEED COUNT  the stored corpus, to standard output
   marked             the jobs of 'Marked runs' and of the traps, likewise
+  stream SEED COUNT  generated and damaged jobs with their answers, for tests/hard
+  worst              jobs that are meant to take long, likewise
   coverage SEED COUNT  what the generated jobs reach
   cross SEED COUNT   checks and reference over generated jobs and texts
   texts LENGTH       words and lists of all short texts
@@ -66,6 +68,8 @@ fn main() {
         ["bounds", dir] => done(batch::write_bounds(dir)),
         ["corpus", seed, count] => done(corpus::write(number(seed), number(count))),
         ["marked"] => done(corpus::marked()),
+        ["stream", seed, count] => done(corpus::stream(number(seed), number(count))),
+        ["worst"] => done(corpus::worst()),
         ["coverage", seed, count] => batch::coverage(number(seed), number(count)),
         ["cross", seed, count] => exit(!batch::cross(number(seed), number(count)) as i32),
         ["texts", length] => exit(!batch::texts(number(length) as usize) as i32),
