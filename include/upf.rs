@@ -1,4 +1,4 @@
-//! The power reader for a program in Rust. Take this file as a module and link `target/staticlib/libupfc.a` (`rt staticlib upfc`).
+//! The power reader for a program in Rust. Take this file as a module and link `target/staticlib/libupf.a` (`rt staticlib upf`).
 //! `include/upf.h` has the numbers, the limits and the rules; what C must take care of, the borrows here see to.
 
 use std::fmt;
@@ -14,7 +14,7 @@ pub struct Answer {
     pub log: usize,
 }
 
-#[link(name = "upfc", kind = "static")]
+#[link(name = "upf", kind = "static")]
 extern "C" {
     fn upf_run(
         job: *const u8,

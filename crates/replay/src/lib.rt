@@ -69,7 +69,8 @@ fn read_front(file: i32, buf: &mut [u8], n: usize) -> bool {
 fn is_due(a: Answer, d: Due) -> bool {
     (a.number == d.number)
         & ((a.place == d.place)
-            & ((a.glue == d.glue) & ((a.pkg == d.pkg) & ((a.report == d.report) & (a.log == d.log)))))
+            & ((a.glue == d.glue)
+                & ((a.pkg == d.pkg) & ((a.report == d.report) & (a.log == d.log)))))
 }
 
 // Whether all numbers are 0.

@@ -13,7 +13,7 @@ use crate::selftest;
 /// Jobs longer than this are stored only where they reach something new.
 const SMALL: usize = 1000;
 const SMALL_TEXTS: usize = 2500;
-/// Boundary jobs that are longer than this with their texts are not stored.
+/// Boundary jobs that are longer than this with their texts are stored only where their number is new.
 const LARGE: usize = 5000;
 
 fn put(out: &mut Vec<u8>, job: &[u8], number: u32, place: u32, a: &Answer) {
@@ -52,13 +52,18 @@ pub fn write(seed: u64, count: u64) -> std::io::Result<()> {
         }
     }
     let mut bounds = 0;
-    for (_, job, number, place) in gen::boundary_jobs() {
-        let a = expect(&job, &STANDARD);
-        if job.len() + a.texts.iter().map(|t| t.len()).sum::<usize>() > LARGE {
-            continue;
+    let mut numbers = [false; 15];
+    for large in [false, true] {
+        for (_, job, number, place) in gen::boundary_jobs() {
+            let a = expect(&job, &STANDARD);
+            let size = job.len() + a.texts.iter().map(|t| t.len()).sum::<usize>();
+            if (size > LARGE) != large || large && numbers[number as usize] {
+                continue;
+            }
+            put(&mut out, &job, number, place, &a);
+            numbers[number as usize] = true;
+            bounds += 1;
         }
-        put(&mut out, &job, number, place, &a);
-        bounds += 1;
     }
     eprintln!("{kept} generated jobs of {k}, {bounds} boundary and malformed jobs, {} bytes", out.len());
     std::io::stdout().write_all(&out)

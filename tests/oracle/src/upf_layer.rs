@@ -1,5 +1,5 @@
 //! The exported function against the Rust and the separate checks: number, place, the four texts, and every lent byte.
-//! Usage: upfc SEED COUNT. Boundary jobs, generated jobs and damaged copies, each with several sizes of what is lent; everything that is lent is full of 0xFF
+//! Usage: upf SEED COUNT. Boundary jobs, generated jobs and damaged copies, each with several sizes of what is lent; everything that is lent is full of 0xFF
 //! before the call. Prints the numbers of jobs, calls and differences; status 1 where there is one. The first jobs that differ are kept below target/oracle.
 
 #[allow(dead_code)]
@@ -221,7 +221,7 @@ fn run(seed: u64, count: u64) -> bool {
     }
     let Tally { jobs, calls, cut_off, wrong, answers } = t;
     println!(
-        "upfc: {jobs} jobs, {calls} calls, {cut_off} cut off, {wrong} differences, by answer {answers:?}"
+        "upf: {jobs} jobs, {calls} calls, {cut_off} cut off, {wrong} differences, by answer {answers:?}"
     );
     wrong > 0
 }
