@@ -20,6 +20,7 @@ use Rattle.names.specs.Name.{nameOf, stepOf}
 use Rattle.names.specs.declared.name.Name.{Name}
 use Rattle.names.specs.declared.name.Step.{Step}
 use Rattle.names.specs.declared.name.Step.the-variants.{Byte, End}
+use Rattle.names.specs.Laws.{shorter}
 use Rattle.nametable.specs.Table.{rowName, namesFrom, tableNames, names-next, names-none}
 use Rattle.paths.specs.Sizes.{name-short}
 use Rattle.refs.specs.Text.{textOf, wholeRef}
@@ -28,10 +29,6 @@ use Rattle.refs.specs.declared.Ref.{Ref}
 use Rattle.model.specs.Records.{Control}
 use Rattle.model.specs.Commands.{controlsOf}
 use Rattle.conditions.specs.Controls.{lastSignal, signalAt, ControlSeen}
-
--- what is left is less
-pub name-less : (mem : Bytes) (x : Name) (p : Step) (b : ℕ) (u : Name) → nameOf mem x ≡ stepOf mem p → p ≡ Byte b u → length (nameOf mem u) < length (nameOf mem x)
-name-less mem x p b u e h = let z : nameOf mem x ≡ b ∷ nameOf mem u = e ∙ rw h in rw z (omega arith)
 
 -- ---- the size of a word
 
@@ -65,7 +62,7 @@ module _ (mem : Bytes) (w : ℕ) (x : Name) (n : ℕ) (inv : Sizes mem w x n) (p
       pub size-step : Sizes mem w u (n + 1)
       size-step = record { keeps = omega (arith, size-more); small = inv .small }
 
-pub ruleset sizes = (needs, name-less, sizes-start, size-end, size-stop, size-fits, size-step)
+pub ruleset sizes = (needs, shorter, sizes-start, size-end, size-stop, size-fits, size-step)
 
 -- ---- a text without its first bytes
 

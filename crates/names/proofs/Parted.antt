@@ -17,7 +17,7 @@ use Rattle.names.specs.Parts.{parts, firstPart, others, behind, unslashe
 use Rattle.names.specs.declared.name.Name.{Name}
 use Rattle.names.specs.declared.name.Step.{Step}
 use Rattle.names.specs.declared.name.Step.the-variants.{Byte, End}
-use Rattle.names.proofs.Streams.{shorter}
+use Rattle.names.specs.Laws.{shorter}
 
 -- a byte that belongs to the first part
 onto-first : (x : ℕ) (ps : List Bytes) → firstPart (onto x ps) ≡ x ∷ firstPart ps

@@ -3,7 +3,6 @@ use Prim.Native.Nat.{ℕ, _+_, _≤_, _<_}
 use mathlib.Core.Path.{_≡_, refl, sym, ap, _∙_}
 use mathlib.Core.Bool.{Bool, true, false, cond}
 use mathlib.Core.List.{List, [], _∷_, _++_}
-use native.Mathlib.Omega.{arith}
 use lib.Dec.{eqb, ltb}
 use lib.ListN.{length, drop, getD, drop-of-length-le}
 use borrow.Author.Needs.{needs}
@@ -14,14 +13,10 @@ use Rattle.text.specs.Lists.{here}
 use Rattle.out.specs.Emit.{Out, emit, emit-append}
 use Rattle.out.specs.Bytewise.{flat, becomes, dotted}
 use Rattle.names.specs.Name.{nameOf, stepOf}
-use Rattle.names.specs.Laws.{dotOf, dotted-step, dotted-none}
+use Rattle.names.specs.Laws.{dotOf, dotted-step, dotted-none, shorter}
 use Rattle.names.specs.declared.name.Name.{Name}
 use Rattle.names.specs.declared.name.Step.{Step}
 use Rattle.names.specs.declared.name.Step.the-variants.{Byte, End}
-
--- it gets shorter
-pub shorter : (mem : Bytes) (x u : Name) (p : Step) (b : ℕ) → nameOf mem x ≡ stepOf mem p → p ≡ Byte b u → length (nameOf mem u) < length (nameOf mem x)
-shorter mem x u p b e h = rw (e, h) (omega arith)
 
 -- ---- whether two are the same
 

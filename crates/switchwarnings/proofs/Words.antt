@@ -109,9 +109,6 @@ pub record Warns (s : Setting) (cs : List Control) (mem : Bytes) (e : Name) (o�
 pub warns-start : (s : Setting) (cs : List Control) (mem : Bytes) (e : Name) (o : Out) (n : ℕ) → length mem < 2 ^ 32 → Warns s cs mem e o n o n e
 warns-start s cs mem e o n h = record { text = refl; count = refl; most = omega (arith, unknowns-few s cs 0 (nameOf mem e), name-short mem e) }
 
-pub name-less : (mem : Bytes) (x : Name) (p : Step) (b : ℕ) (u : Name) → nameOf mem x ≡ stepOf mem p → p ≡ Byte b u → length (nameOf mem u) < length (nameOf mem x)
-name-less mem x p b u e h = let z : nameOf mem x ≡ b ∷ nameOf mem u = e ∙ rw h in rw z (omega arith)
-
 module _ (s : Setting) (cs : List Control) (mem : Bytes) (e : Name) (o₀ : Out) (n₀ : ℕ) (o : Out) (n : ℕ) (x : Name) (inv : Warns s cs mem e o₀ n₀ o n x) where
   pub warns-low : n₀ ≤ 2 ^ 61 → n ≤ 2 ^ 62
   warns-low h = omega (arith, inv .count, inv .most)
