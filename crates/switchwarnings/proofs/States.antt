@@ -35,7 +35,7 @@ use Rattle.store.specs.declared.stored.Stored.{Stored}
 use Rattle.store.specs.declared.state.Switch.{Switch}
 use Rattle.store.specs.declared.state.Switches.{Switches}
 use Rattle.setting.specs.Orders.{sized-next, sized-end}
-use Rattle.switches.specs.Words.{wordsFrom, onsFrom, switchIn, ons-are}
+use Rattle.switches.specs.Words.{onsFrom, switchIn, ons-are, ons-cons, ons-none}
 use Rattle.switches.specs.Texts.{Told, storedName, onRemarks, remarks}
 use Rattle.switches.specs.Asked.{OfNames, OfSwitch, OfSwitches, Controlled}
 use Rattle.switchwarnings.specs.Asked.{Reads}
@@ -133,14 +133,6 @@ pub record OnsTold (f : OnState → List Bytes) (mem : Bytes) (nums : List ℕ) 
 
 pub ons-start : (f : OnState → List Bytes) (mem : Bytes) (nums : List ℕ) (first n : ℕ) (o : Out) (m : ℕ) → m ≤ 2 ^ 59 → OnsTold f mem nums first n o m o m 0
 ons-start f mem nums first n o m h = let e : n - 0 ≡ n = omega arith in let z : first + 0 ≡ first = omega arith in record { remarked = rw (e, z) (record { text = refl; count = refl }); few = omega arith; low = h }
-
-ons-cons : (mem : Bytes) (nums : List ℕ) (k n : ℕ) → onsFrom mem nums k (suc n) ≡ onOf (string mem (wordAt nums k)) ∷ onsFrom mem nums (k + 1) n
-unfolding wordsFrom
-ons-cons mem nums k n = refl
-
-ons-none : (mem : Bytes) (nums : List ℕ) (k : ℕ) → onsFrom mem nums k 0 ≡ []
-unfolding wordsFrom
-ons-none mem nums k = refl
 
 module _ (f : OnState → List Bytes) (mem : Bytes) (nums : List ℕ) (first n : ℕ) (o₀ : Out) (n₀ : ℕ) (o : Out) (m k : ℕ) (inv : OnsTold f mem nums first n o₀ n₀ o m k) where
   pub ons-next : (o′ : Out) (m′ : ℕ) (u : Span) (v : Stored) → Told (2 ^ 35) o m (f (onOf (bytes mem u))) o′ m′ → u ≡ spanOf v → v ≡ wordAt nums (first + k) → k < n → OnsTold f mem nums first n o₀ n₀ o′ m′ (k + 1)
