@@ -1,12 +1,12 @@
 -- The way written name by name; the scope by the override, by a type, by the design top.
 -- Assumes nothing.
 use mathlib.Core.Path.{_≡_, refl, ap, _∙_, sym}
-use Prim.Native.Nat.{ℕ, zero, suc, _+_, _-_, _<_, _≤_}
+use Prim.Native.Nat.{ℕ, suc, _+_, _-_, _<_, _≤_}
 use native.Mathlib.Numerals.{add-one}
 use native.Mathlib.Omega.{arith}
 use mathlib.Core.Bool.{Bool, true, false, not}
 use mathlib.Core.List.{List, [], _∷_, _++_}
-use mathlib.Core.Option.{Option, none, some}
+use mathlib.Core.Option.{Option, some}
 use lib.ListN.{length, take, drop, getD, drop-of-length-le, length-take, length-drop, length-append, length-map}
 use lib.Seq.{drop-cons, take-at, drop-at}
 use borrow.Author.Needs.{needs}
@@ -30,7 +30,7 @@ use Rattle.design.specs.Limits.{most-calls}
 use Rattle.design.specs.Lookup.{moduleAt}
 use Rattle.design.specs.Search.{searchType, callsMade}
 use Rattle.lines.specs.Cursors.{spanned}
-use Rattle.lookup.specs.Rows.{modules, rowIs, ModuleSeen, at-none}
+use Rattle.lookup.specs.Rows.{modules, rowIs, ModuleSeen, at-none, row-none, row-some}
 use Rattle.corrupt.specs.RowMem.{row-mem}
 use Rattle.search.specs.declared.Found.{Found}
 use Rattle.search.specs.Found.{wayFrom, way, Searched}
@@ -92,15 +92,6 @@ pub ruleset pathTexts = (needs, text-way, text-over)
 not-left : (b : Bool) → not b ≡ false → b ≡ true
 not-left true e = refl
 not-left false e = absurd (no-true (sym e))
-
-row-none : (job : Bytes) (index : List ℕ) → rowIs job index 0 ≡ none
-unfolding rowIs
-row-none job index = refl
-
-row-some : (job : Bytes) (index : List ℕ) (q : ℕ) → (q ≡ 0 → ⊥) → rowIs job index q ≡ some (moduleRow job index (q - 1))
-unfolding rowIs
-row-some job index zero h = absurd (h refl)
-row-some job index (suc q) h = let z : suc q - 1 ≡ q = omega arith in rw z
 
 module _ (job : Bytes) (index : List ℕ) (head : Header) (ok : Taken job index head) where
   abbrev d : List Module
