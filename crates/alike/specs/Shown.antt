@@ -13,6 +13,7 @@ use Rattle.out.specs.Bytewise.{dotted}
 use Rattle.spans.specs.Span.{bytes}
 use Rattle.names.specs.Name.{nameOf}
 use Rattle.names.specs.Laws.{dotted-map, dotted-none}
+use Rattle.names.specs.declared.name.Name.{Name}
 use Rattle.design.specs.Paths.{scopePath, childPath, elementPath, dotOf}
 use Rattle.model.specs.Records.{Isolation as Isolationʳ}
 use Rattle.model.specs.Commands.{or-else}
@@ -26,7 +27,7 @@ use Rattle.texts.specs.Setting.{Setting, slashed, slashPath, hier}
 use Rattle.texts.specs.Isolation.{Isolated, Target, lowered, activeOf, keyOf, isolatedBy, alike}
 use Rattle.format.specs.Args.{rooted}
 use Rattle.isolated.specs.Table.{Kept, kept}
-use Rattle.alike.specs.Strategies.{noIsolation, strategyAt, signalName, signalOf, areAlike}
+use Rattle.alike.specs.Strategies.{noIsolation, strategyAt, signalName, signalOf, areAlike, isolationAt}
 
 -- ---- a kept port, below the scope, from the top on; f has the strategies by their numbers
 abbrev pub shownBy : List Bytes → Bytes → Isolationʳ → Kept → Isolated
@@ -57,6 +58,11 @@ pub signal-text : (mem : Bytes) (m : Maybe) → nameOf mem (signalName m) ≡ or
 unfolding nameOf bytes
 signal-text mem Not = refl
 signal-text mem (Given s) = refl
+
+-- the signal of a strategy of the table
+pub signal-read : (mem : Bytes) (t : Isolations) (k : ℕ) (x : Name) → x ≡ signalName (isolationAt t k .signal) → nameOf mem x ≡ signalOf (strategyAt mem t k)
+unfolding isolationOf
+signal-read mem t k x e = rw e (signal-text mem (isolationAt t k .signal))
 
 -- a name below a path
 abbrev below : Bytes → Bytes → Bytes

@@ -18,7 +18,7 @@ use Rattle.texts.specs.Isolation.{lowered, activeOf}
 use Rattle.clamps.specs.Values.{storedName, activeNumber}
 use Rattle.clamps.specs.Laws.{stored-is}
 use Rattle.alike.specs.Strategies.{isolationAt, strategyAt, signalName, signalOf, areAlike}
-use Rattle.alike.specs.Shown.{signal-text}
+use Rattle.alike.specs.Shown.{signal-read}
 use Rattle.checks.specs.Sorted.{areSame, isEarlier}
 
 is-true : (b : Bool) → not b ≡ false → b ≡ true
@@ -34,10 +34,6 @@ module _ (mem : Bytes) (t : Isolations) where
   unfolding isolationOf
   name-text k x e = rw e (stored-is mem (isolationAt t k .name))
 
-  signal-of : (k : ℕ) (x : Name) → x ≡ signalName (isolationAt t k .signal) → nameOf mem x ≡ signalOf (strategyAt mem t k)
-  unfolding isolationOf
-  signal-of k x e = rw e (signal-text mem (isolationAt t k .signal))
-
   module _ (i j : ℕ) where
     -- ---- the same check
     module _ (b : Bool) (e : b ≡ areAlike (strategyAt mem t i) (strategyAt mem t j)) where
@@ -52,11 +48,11 @@ module _ (mem : Bytes) (t : Isolations) where
     -- ---- the earlier one
     module _ (x y : Name) (p : x ≡ signalName (isolationAt t i .signal)) (q : y ≡ signalName (isolationAt t j .signal)) (b : Bool) (e : b ≡ same (dotted (nameOf mem x)) (dotted (nameOf mem y))) where
       signals : same (dotted (signalOf (strategyAt mem t i))) (dotted (signalOf (strategyAt mem t j))) ≡ b
-      signals = ap₂ (λ (u v : Bytes). same (dotted u) (dotted v)) (sym (signal-of i x p)) (sym (signal-of j y q)) ∙ sym e
+      signals = ap₂ (λ (u v : Bytes). same (dotted u) (dotted v)) (sym (signal-read mem t i x p)) (sym (signal-read mem t j y q)) ∙ sym e
 
       pub early-signal : not b ≡ true → (r : Bool) → r ≡ less (dotted (nameOf mem x)) (dotted (nameOf mem y)) → r ≡ isEarlier (strategyAt mem t i) (strategyAt mem t j)
       unfolding isEarlier
-      early-signal h r f = rw (signals ∙ is-false b h) (f ∙ ap₂ (λ (u v : Bytes). less (dotted u) (dotted v)) (signal-of i x p) (signal-of j y q))
+      early-signal h r f = rw (signals ∙ is-false b h) (f ∙ ap₂ (λ (u v : Bytes). less (dotted u) (dotted v)) (signal-read mem t i x p) (signal-read mem t j y q))
 
       module _ (h : not b ≡ false) (n m : ℕ) (f : n ≡ activeNumber (lowered (strategyAt mem t i .sense))) (g : m ≡ activeNumber (lowered (strategyAt mem t j .sense))) where
         abbrev number : Bool → ℕ
