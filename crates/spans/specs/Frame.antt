@@ -21,6 +21,11 @@ whole mem s p e h =
     let l : length (take (s .len) (drop (s .at) mem)) ≤ s .len = rw length-take (omega arith) in
     e ∙ rw h (take-all (s .len) (take (s .len) (drop (s .at) mem)) l)
 
+-- a string is no longer than its span
+pub size-in : (mem : Bytes) (w : Span) → length (bytes mem w) ≤ w .len
+unfolding bytes
+size-in mem w = rw length-take (omega arith)
+
 -- a span within a string is a span of the list that the string lies in
 pub inner : (mem : Bytes) (w s : Span) → s .at + s .len ≤ w .len → bytes mem ((w .at + s .at) ⋯ s .len) ≡ bytes (bytes mem w) s
 unfolding bytes

@@ -16,9 +16,9 @@ use Rattle.spans.specs.declared.span.Span.{Span}
 use Rattle.tcl.specs.Lists.{list}
 use Rattle.names.specs.Name.{named, nameOf}
 use Rattle.names.specs.declared.name.Name.{Name}
+use Rattle.names.specs.Frame.{alone-is}
 use Rattle.nametable.specs.Table.{rowName, namesFrom, tableNames, names-next, names-none}
 use Rattle.listnames.specs.Lists.{nthBelow, Whole, Known, whole-by, supply-net}
-use Rattle.listnames.specs.Inside.{named-alone}
 use Rattle.design.specs.Paths.{elementPath}
 use Rattle.format.specs.Args.{argOf, nameArg, hierArg}
 use Rattle.format.specs.Laws.{name-arg, hier-arg}
@@ -43,7 +43,7 @@ use Rattle.switches.specs.Asked.{Ons, OfNames, OfSwitch, OfSwitches, Con
 -- ---- arguments
 
 pub arg-string : (mem : Bytes) (s : Stored) (r : Arg) (x : Name) → r ≡ nameArg x → x ≡ storedName s → ArgIs mem (string mem s) r
-arg-string mem s r x e ex = record { is = λ job scope top. rw (e, ex) (name-arg job mem scope top (storedName s) ∙ named-alone mem (spanOf s) 0) }
+arg-string mem s r x e ex = record { is = λ job scope top. rw (e, ex) (name-arg job mem scope top (storedName s) ∙ alone-is mem (spanOf s) 0) }
 
 pub arg-net : (mem : Bytes) (scope v : Stored) (r : Arg) (x : Name) (s u : Span) (end : ℕ) → r ≡ nameArg x → Known mem (nthBelow (bytes mem s) 1 (list (bytes mem u))) end x → s ≡ spanOf scope → u ≡ spanOf v → ArgIs mem (nthBelow (string mem scope) 1 (list (string mem v))) r
 arg-net mem scope v r x s u end e k es eu = record { is = λ job sc top. rw e (name-arg job mem sc top x ∙ k .is ∙ rw (es, eu)) }

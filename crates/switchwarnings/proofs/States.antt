@@ -16,9 +16,9 @@ use Rattle.spans.specs.declared.span.Span.{Span}
 use Rattle.tcl.specs.Lists.{list}
 use Rattle.names.specs.Name.{nameOf}
 use Rattle.names.specs.declared.name.Name.{Name}
+use Rattle.names.specs.Frame.{alone-is}
 use Rattle.nametable.specs.Table.{tableNames}
 use Rattle.listnames.specs.Lists.{Whole, Known, whole-by, supply-port}
-use Rattle.listnames.specs.Inside.{named-alone}
 use Rattle.format.specs.Args.{argOf, nameArg}
 use Rattle.format.specs.Laws.{name-arg}
 use Rattle.format.specs.declared.arg.Arg.{Arg}
@@ -49,7 +49,7 @@ port-pieces o x y z = simp emit-fill
 
 pub port-told : (job mem : Bytes) (scope : List Bytes) (top : Bytes) (s : Stored) (port expected : Name) (o o′ : Out) (n : ℕ) (a b c : Arg) (x : Name) → o′ ≡ emit o (fill (ascii "warning: power switch '{0}': on_state uses input port '{1}' (expected '{2}')\n") (argOf job mem scope top a) (argOf job mem scope top b) (argOf job mem scope top c) [] []) → a ≡ nameArg x → x ≡ storedName s → b ≡ nameArg port → c ≡ nameArg expected → Told 1 o n (format3 "power switch '{0}': on_state uses input port '{1}' (expected '{2}')" (string mem s) (nameOf mem port) (nameOf mem expected) ∷ []) o′ (n + 1)
 port-told job mem scope top s port expected o o′ n a b c x e ea ex eb ec =
-    let p : argOf job mem scope top a ≡ string mem s = rw (ea, ex) (name-arg job mem scope top (storedName s) ∙ named-alone mem (spanOf s) 0) in
+    let p : argOf job mem scope top a ≡ string mem s = rw (ea, ex) (name-arg job mem scope top (storedName s) ∙ alone-is mem (spanOf s) 0) in
     let q : argOf job mem scope top b ≡ nameOf mem port = rw eb (name-arg job mem scope top port) in
     let r : argOf job mem scope top c ≡ nameOf mem expected = rw ec (name-arg job mem scope top expected) in
     told-one o o′ n (format3 "power switch '{0}': on_state uses input port '{1}' (expected '{2}')" (string mem s) (nameOf mem port) (nameOf mem expected)) ((rw (p, q, r) at e) ∙ port-pieces o (string mem s) (nameOf mem port) (nameOf mem expected))
