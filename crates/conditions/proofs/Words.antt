@@ -1,5 +1,5 @@
 -- A text read byte by byte, and the control ports of a table: laws as the needs ask them. Assumes nothing.
-use Prim.Native.Nat.{ℕ, zero, suc, _+_, _-_, _*_, _≤_, _<_, _^_}
+use Prim.Native.Nat.{ℕ, suc, _+_, _-_, _*_, _≤_, _<_, _^_}
 use native.Mathlib.Omega.{arith}
 use mathlib.Core.Path.{_≡_, refl, sym, ap, _∙_}
 use mathlib.Core.Bool.{Bool, true, false, cond, _&&_, not}
@@ -28,7 +28,7 @@ use Rattle.refs.specs.Laws.{whole-is}
 use Rattle.refs.specs.declared.Ref.{Ref}
 use Rattle.model.specs.Records.{Control}
 use Rattle.model.specs.Commands.{controlsOf}
-use Rattle.conditions.specs.Controls.{lastSignal, signalAt, ControlSeen}
+use Rattle.conditions.specs.Controls.{lastSignal, signalAt, ControlSeen, controls-few}
 
 -- ---- the size of a word
 
@@ -138,12 +138,6 @@ last-cons c cs port o = refl
 last-none : (port : Bytes) (o : Option Bytes) → lastSignal [] port o ≡ o
 unfolding lastSignal
 last-none port o = refl
-
-controls-few : (mem : Bytes) (table : List ℕ) (i k : ℕ) → k ≤ 1 → controlsOf (namesFrom mem table i k) ≡ []
-unfolding namesFrom
-controls-few mem table i zero h = refl
-controls-few mem table i (suc zero) h = refl
-controls-few mem table i (suc (suc k)) h = absurd (omega arith)
 
 module _ (mem : Bytes) (table : List ℕ) (n : ℕ) (port : Bytes) (found i : ℕ) (few : n ≤ 65536) (inv : Controls mem table n port found i) where
   pub control-index : i + 1 < 2 ^ 64

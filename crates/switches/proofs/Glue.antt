@@ -1,5 +1,5 @@
 -- The glue of switches: laws as the needs ask them. Assumes nothing.
-use Prim.Native.Nat.{ℕ, zero, suc, _+_, _-_, _*_, _≤_, _<_, _^_, max}
+use Prim.Native.Nat.{ℕ, suc, _+_, _-_, _*_, _≤_, _<_, _^_, max}
 use native.Mathlib.Omega.{arith}
 use mathlib.Core.Path.{_≡_, refl, sym, ap, ap₂, _∙_}
 use mathlib.Core.Bool.{false}
@@ -35,7 +35,7 @@ use Rattle.store.specs.declared.state.Switch.{Switch}
 use Rattle.store.specs.declared.state.Switches.{Switches}
 use Rattle.made.specs.Made.{reachOf}
 use Rattle.setting.specs.Orders.{sized-next, sized-end}
-use Rattle.conditions.specs.Controls.{scopeSetting}
+use Rattle.conditions.specs.Controls.{scopeSetting, controls-few}
 use Rattle.switches.specs.Words.{onsFrom, switchIn, ons-are}
 use Rattle.switches.specs.Texts.{ArgIs, storedName, onsText, stateText, signalText, controlText, controlAt}
 use Rattle.switches.specs.Asked.{Ons, OfNames, OfSwitch, OfSwitches, Controlled}
@@ -76,12 +76,6 @@ control-row job mem scope top table i on name o o′ a d s p e ea es ed ep =
     e ∙ ap₂ (λ (u v : Bytes). emit o (signalText u on name v)) x y
 
 -- ---- control ports by turns
-
-controls-few : (mem : Bytes) (table : List ℕ) (i k : ℕ) → k ≤ 1 → controlsOf (namesFrom mem table i k) ≡ []
-unfolding namesFrom
-controls-few mem table i zero h = refl
-controls-few mem table i (suc zero) h = refl
-controls-few mem table i (suc (suc k)) h = absurd (omega arith)
 
 pub controls-next : (mem : Bytes) (table : List ℕ) (n i : ℕ) → i + 1 < n → controlsOf (namesFrom mem table i (n - i)) ≡ controlAt mem table i ∷ controlsOf (namesFrom mem table (i + 2) (n - (i + 2)))
 controls-next mem table n i h =
