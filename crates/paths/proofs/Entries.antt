@@ -12,7 +12,7 @@ use borrow.Author.Tests.{eq-eqb, ne-eqb, eqb-true}
 use Rattle.text.specs.Ascii.{Bytes, byte}
 use Rattle.text.specs.Compare.{same}
 use Rattle.text.specs.Scan.{any}
-use Rattle.text.specs.Sames.{no-true, both, same-eq, same-refl}
+use Rattle.text.specs.Sames.{no-true, both, same-turned}
 use Rattle.out.specs.Bytewise.{dotted as Bytewise·dotted}
 use Rattle.names.specs.Name.{nameOf, stepOf}
 use Rattle.names.specs.Laws.{dotted-map}
@@ -66,18 +66,6 @@ pub dot-other : (b : ℕ) → (b ≡ byte "/" → ⊥) → b ≡ dotOf b
 dot-other b h = sym (rw (ne-eqb b (byte "/") h))
 
 pub ruleset dots = (needs, dot-slash, dot-other)
-
-same-turned : (p q : Bytes) → same p q ≡ same q p
-same-turned p q = go (same p q) refl (same q p) refl
-  where
-    same-of : (p q : Bytes) → p ≡ q → same p q ≡ true
-    same-of p q e = rw e (same-refl q)
-
-    go : (a : Bool) → same p q ≡ a → (b : Bool) → same q p ≡ b → a ≡ b
-    go true e true f = refl
-    go true e false f = absurd (no-true (sym f ∙ same-of q p (sym (same-eq p q e))))
-    go false e true f = absurd (no-true (sym e ∙ same-of p q (sym (same-eq q p f))))
-    go false e false f = refl
 
 -- t is the answer: what is left of the element and the tail are what is left of the entry, or not
 pub record Left (mem tail : Bytes) (t : Bool) (a b : Name) : Type 0 where

@@ -42,6 +42,18 @@ same-eq (x ∷ p) (y ∷ q) h =
     let e : x ≡ y = eqb-true x y (b .0) in
     rw (e, same-eq p q (b .1))
 
+pub same-of : (p q : List ℕ) → p ≡ q → same p q ≡ true
+same-of p q e = rw e (same-refl q)
+
+pub same-turned : (p q : List ℕ) → same p q ≡ same q p
+same-turned p q = go (same p q) refl (same q p) refl
+  where
+    go : (a : Bool) → same p q ≡ a → (b : Bool) → same q p ≡ b → a ≡ b
+    go true e true f = refl
+    go true e false f = absurd (no-true (sym f ∙ same-of q p (sym (same-eq p q e))))
+    go false e true f = absurd (no-true (sym e ∙ same-of p q (sym (same-eq q p f))))
+    go false e false f = refl
+
 -- a front that is the same changes nothing
 pub same-front : (p q u v : List ℕ) → same p q ≡ true → same (p ++ u) (q ++ v) ≡ same u v
 unfolding same
