@@ -9,7 +9,7 @@ use borrow.Author.Needs.{needs}
 use Rattle.text.specs.Ascii.{Bytes, ascii}
 use Rattle.out.specs.Emit.{Out, emit, emit1, emit-append, emit-⊕, _⊕_}
 use Rattle.out.specs.Fill.{fill, arg, pick, turns, writes, emit-fill}
-use Rattle.out.specs.Items.{each, joined, rest, unless, join-next, join-done}
+use Rattle.out.specs.Items.{each, joined, rest, unless, join-next, join-done, each-cons, each-none}
 use Rattle.spans.specs.Span.{_⋯_, bytes}
 use Rattle.spans.specs.Reach.{reach-end}
 use Rattle.spans.specs.declared.span.Span.{Span}
@@ -87,14 +87,6 @@ controls-next mem table n i h =
 
 pub controls-end : (mem : Bytes) (table : List ℕ) (n i : ℕ) → n ≤ i + 1 → controlsOf (namesFrom mem table i (n - i)) ≡ []
 controls-end mem table n i h = controls-few mem table i (n - i) (omega arith)
-
-pub each-cons : {A : Type 0} (f : A → Bytes) (x : A) (xs : List A) → each f (x ∷ xs) ≡ f x ++ each f xs
-unfolding each
-each-cons f x xs = refl
-
-pub each-none : {A : Type 0} (f : A → Bytes) (o : Out) → emit o (each f []) ≡ o
-unfolding each emit
-each-none f o = refl
 
 pub record Turns (f : Control → Bytes) (mem : Bytes) (table : List ℕ) (n : ℕ) (w o : Out) (i : ℕ) : Type 0 where
   pub keeps : emit o (each f (controlsOf (namesFrom mem table i (n - i)))) ≡ w

@@ -10,7 +10,7 @@ use Rattle.text.specs.Ascii.{Bytes, ascii}
 use Rattle.text.specs.Compare.{same}
 use Rattle.out.specs.Emit.{Out, emit, emit1, emit-append}
 use Rattle.out.specs.Fill.{fill, format3, arg, pick, turns, writes, emit-fill}
-use Rattle.out.specs.Items.{each}
+use Rattle.out.specs.Items.{each, each-none}
 use Rattle.spans.specs.Span.{_⋯_, bytes}
 use Rattle.spans.specs.declared.span.Span.{Span}
 use Rattle.tcl.specs.Lists.{list}
@@ -103,10 +103,6 @@ flat-none : {A : Type 0} (f : A → List Bytes) → flatMap f [] ≡ []
 unfolding flatMap
 flat-none f = refl
 
-each-none : (o : Out) → emit o (each warningLine []) ≡ o
-unfolding each emit
-each-none o = refl
-
 module _ {A : Type 0} (f : A → List Bytes) (all : List A) (o₀ : Out) (n₀ : ℕ) (o : Out) (n : ℕ) where
   remarks-next : (left left′ : List A) (x : A) (most : ℕ) (o′ : Out) (n′ : ℕ) → Remarks f all left o₀ n₀ o n → left ≡ x ∷ left′ → Told most o n (f x) o′ n′ → Remarks f all left′ o₀ n₀ o′ n′
   remarks-next left left′ x most o′ n′ inv e t =
@@ -122,7 +118,7 @@ module _ {A : Type 0} (f : A → List Bytes) (all : List A) (o₀ : Out) (n₀ :
   remarks-done left most inv e h =
       let z : flatMap f left ≡ [] = ap (flatMap f) e ∙ flat-none f in
       let c : n + 0 ≡ n₀ + length (flatMap f all) = rw z at (inv .count) in
-      record { text = sym (each-none o) ∙ (rw z at (inv .text)); count = omega (arith, c); few = h }
+      record { text = sym (each-none warningLine o) ∙ (rw z at (inv .text)); count = omega (arith, c); few = h }
 
 -- ---- the on-states of a switch
 

@@ -13,7 +13,7 @@ use Rattle.text.specs.Classes.{isDigit, isVariable}
 use Rattle.text.specs.Scan.{all, before}
 use Rattle.out.specs.Emit.{Out, emit, emit1, emit-append, wrote, kept}
 use Rattle.out.specs.Fill.{fill, format1, arg, pick, turns, writes, emit-fill}
-use Rattle.out.specs.Items.{each}
+use Rattle.out.specs.Items.{each, each-none}
 use Rattle.tcl.specs.Substitution.{no-variable}
 use Rattle.names.specs.Name.{nameOf, stepOf}
 use Rattle.names.specs.declared.name.Name.{Name}
@@ -40,16 +40,12 @@ use Rattle.switches.specs.Texts.{Told}
 
 -- ---- none, one, one after the other
 
-each-none : (o : Out) → emit o (each warningLine []) ≡ o
-unfolding each emit
-each-none o = refl
-
 each-one : (w : Bytes) → each warningLine (w ∷ []) ≡ warningLine w
 unfolding each
 each-one w = append-nil (warningLine w)
 
 pub told-none : (most : ℕ) (o : Out) (n : ℕ) → Told most o n [] o n
-told-none most o n = record { text = sym (each-none o); count = omega arith; few = omega arith }
+told-none most o n = record { text = sym (each-none warningLine o); count = omega arith; few = omega arith }
 
 pub told-one : (o o′ : Out) (n : ℕ) (w : Bytes) → o′ ≡ emit o (warningLine w) → Told 1 o n (w ∷ []) o′ (n + 1)
 told-one o o′ n w e = record { text = e ∙ ap (emit o) (sym (each-one w)); count = refl; few = omega arith }
@@ -118,7 +114,7 @@ module _ (s : Setting) (cs : List Control) (mem : Bytes) (e : Name) (o₀ : Out)
     warns-end h =
         let z : unknowns s cs 0 (nameOf mem x) ≡ [] = ap (unknowns s cs 0) (g ∙ rw h) ∙ unknowns-none s cs 0 [] in
         let c : n + 0 ≡ n₀ + length (unknowns s cs 0 (nameOf mem e)) = rw z at (inv .count) in
-        record { text = sym (each-none o) ∙ (rw z at (inv .text)); count = omega (arith, c); few = omega (arith, c, inv .most) }
+        record { text = sym (each-none warningLine o) ∙ (rw z at (inv .text)); count = omega (arith, c); few = omega (arith, c, inv .most) }
 
     module _ (b : ℕ) (u : Name) (h : p ≡ Byte b u) (t : Bool) (et : t ≡ isVariable b) where
       at-byte : nameOf mem x ≡ b ∷ nameOf mem u
