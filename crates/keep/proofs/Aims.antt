@@ -28,6 +28,7 @@ use Rattle.design.specs.Lists.{isIn}
 use Rattle.actual.specs.declared.Net.{Net}
 use Rattle.actual.specs.declared.Net.the-variants as net
 use Rattle.texts.specs.Texts.{warningLine}
+use Rattle.texts.specs.Laws.{one-warning}
 use Rattle.format.specs.Args.{argOf, nameArg, wrappedArg}
 use Rattle.format.specs.Laws.{name-arg, plain-arg}
 use Rattle.format.specs.declared.arg.Arg.{Arg}
@@ -38,7 +39,7 @@ use Rattle.keep.specs.Gains.{Aim, Gain, stay, notPlain, gainFrom, gainOf
 use Rattle.keep.specs.Held.{heldSpan, heldName, heldPart, part-held}
 use Rattle.keep.specs.Covered.{more, counted, refusedCover, countedCover, warnedCover, Ready, Remarked, KeepSeen, saidBy, withNet, aimOf, Answer}
 use Rattle.keep.specs.Turns.{answer-stay, said-none}
-use Rattle.keep.specs.Warned.{warned-line, one-warning, not-warned}
+use Rattle.keep.specs.Warned.{warned-line, not-warned}
 use Rattle.keep.specs.declared.Cover.{Cover}
 
 -- ---- numbers

@@ -19,13 +19,14 @@ use Rattle.store.specs.declared.stored.Maybe.the-variants.{Not, Given}
 use Rattle.store.specs.declared.state.Isolation.{Isolation}
 use Rattle.texts.specs.Isolation.{lowered}
 use Rattle.texts.specs.Texts.{warningLine}
+use Rattle.texts.specs.Laws.{one-warning}
 use Rattle.clamps.specs.Values.{storedName}
 use Rattle.clamps.specs.Laws.{stored-is}
 use Rattle.format.specs.Args.{literal, argOf, nameArg, fixedArg}
 use Rattle.format.specs.Laws.{name-arg}
 use Rattle.format.specs.declared.arg.Arg.{Arg}
 use Rattle.keep.specs.Covered.{warnedCover, Remarked}
-use Rattle.keep.specs.Warned.{ends, warned-line, one-warning, not-warned}
+use Rattle.keep.specs.Warned.{ends, warned-line, not-warned}
 use Rattle.keep.specs.declared.Cover.{Cover}
 use Rattle.remarks.specs.Lines.{noSignal, unknownDomain, notOutputs, clampUnknown, strategyLine, orArg, Lined}
 

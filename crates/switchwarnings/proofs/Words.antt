@@ -3,7 +3,7 @@ use Prim.Native.Nat.{ℕ, zero, suc, _+_, _*_, _≤_, _<_, _^_}
 use native.Mathlib.Omega.{arith}
 use mathlib.Core.Path.{_≡_, refl, sym, ap, ap₂, _∙_}
 use mathlib.Core.Bool.{Bool, true, false, cond}
-use mathlib.Core.List.{List, [], _∷_, _++_, append-nil}
+use mathlib.Core.List.{List, [], _∷_, _++_}
 use mathlib.Core.Option.{Option, none, some}
 use lib.ListN.{length, take, drop, length-append}
 use borrow.Author.Needs.{needs}
@@ -33,22 +33,18 @@ use Rattle.model.specs.Commands.{controlsOf}
 use Rattle.texts.specs.Setting.{Setting}
 use Rattle.texts.specs.Switches.{signalOf, unlessKnown, unknowns}
 use Rattle.texts.specs.Texts.{warningLine}
-use Rattle.texts.specs.Laws.{each-append}
+use Rattle.texts.specs.Laws.{each-append, one-warning}
 use Rattle.conditions.specs.Controls.{scopeSetting, signalAt, hierOf, ControlSeen, seen-signal}
 use Rattle.conditions.specs.Pieces.{unknowns-none, unknowns-byte, unknowns-word, unknowns-few, word-shorter}
 use Rattle.switches.specs.Texts.{Told}
 
 -- ---- none, one, one after the other
 
-each-one : (w : Bytes) → each warningLine (w ∷ []) ≡ warningLine w
-unfolding each
-each-one w = append-nil (warningLine w)
-
 pub told-none : (most : ℕ) (o : Out) (n : ℕ) → Told most o n [] o n
 told-none most o n = record { text = sym (each-none warningLine o); count = omega arith; few = omega arith }
 
 pub told-one : (o o′ : Out) (n : ℕ) (w : Bytes) → o′ ≡ emit o (warningLine w) → Told 1 o n (w ∷ []) o′ (n + 1)
-told-one o o′ n w e = record { text = e ∙ ap (emit o) (sym (each-one w)); count = refl; few = omega arith }
+told-one o o′ n w e = record { text = e ∙ ap (emit o) (sym (one-warning w)); count = refl; few = omega arith }
 
 pub told-then : (a b c : ℕ) (o o₁ o₂ : Out) (n n₁ n₂ : ℕ) (ws vs : List Bytes) → Told a o n ws o₁ n₁ → Told b o₁ n₁ vs o₂ n₂ → a + b ≤ c → Told c o n (ws ++ vs) o₂ n₂
 told-then a b c o o₁ o₂ n n₁ n₂ ws vs p q h =
