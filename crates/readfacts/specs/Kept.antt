@@ -5,7 +5,7 @@ use native.Mathlib.Omega.{arith}
 use native.Mathlib.Nat.{le-trans}
 use mathlib.Core.Path.{_≡_, refl, sym, ap, _∙_}
 use mathlib.Core.Bool.{Bool, true, false, cond, _&&_, not}
-use mathlib.Core.List.{List, [], _∷_, _++_, map, flatMap}
+use mathlib.Core.List.{List, [], _∷_, _++_, map, flatMap, map-append}
 use mathlib.Core.Option.{Option, none, some, Option·map}
 use lib.Dec.{leb}
 use lib.ListN.{length, length-append, length-map}
@@ -49,10 +49,6 @@ all-front t (x ∷ xs) ys e =
     let a : t x ≡ true = left-true (t x) (all t (xs ++ ys)) e in
     let b : all t (xs ++ ys) ≡ true = right-true (t x) (all t (xs ++ ys)) e in
     rw (a, all-front t xs ys b)
-
-map-two : (xs ys : List Bytes) → entriesOf (xs ++ ys) ≡ entriesOf xs ++ entriesOf ys
-map-two [] ys = refl
-map-two (x ∷ xs) ys = ap (λ (l : List ℕ). length (list x) ∷ l) (map-two xs ys)
 
 -- the entries of an option's value
 module _ (key : String) (ws : List Bytes) where
@@ -198,7 +194,7 @@ module _ (e : ℕ) (m : Model) (f : Few e m) (w : Bytes) (ws : List Bytes) where
   few-switch : Fits (listsOf Command.create-power-switch w ws) → Few e (switch-command m w ws)
   unfolding switch-command
   few-switch h =
-      let a : Fits (optionValue "-control_port" ws) = all-front (λ k. leb k most-entries) (entriesOf (optionValue "-control_port" ws)) (entriesOf (stateValues (switchStates w ws) ++ (optionValue "-input_supply_port" ws ++ optionValue "-output_supply_port" ws))) (rw (map-two (optionValue "-control_port" ws) (stateValues (switchStates w ws) ++ (optionValue "-input_supply_port" ws ++ optionValue "-output_supply_port" ws))) at h) in
+      let a : Fits (optionValue "-control_port" ws) = all-front (λ k. leb k most-entries) (entriesOf (optionValue "-control_port" ws)) (entriesOf (stateValues (switchStates w ws) ++ (optionValue "-input_supply_port" ws ++ optionValue "-output_supply_port" ws))) (rw (map-append (λ (v : Bytes). length (list v)) (optionValue "-control_port" ws) (stateValues (switchStates w ws) ++ (optionValue "-input_supply_port" ws ++ optionValue "-output_supply_port" ws))) at h) in
       let b : length (optionList "-control_port" ws) ≤ 64 = few-option "-control_port" ws a in
       let c : 2 * length (controlsOf (optionList "-control_port" ws)) ≤ length (optionList "-control_port" ws) = controls-half 64 (optionList "-control_port" ws) b in
       record { domains = f .domains; switches = within-snoc (λ (x : Switch). length (x .controls)) _ (f .switches) (omega arith); isolations = f .isolations; tables = f .tables; states = f .states; retained = f .retained }

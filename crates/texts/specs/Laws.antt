@@ -1,12 +1,10 @@
 -- Laws: a test of all members of a list; texts for each of them.
 -- Assumes nothing.
-use Prim.Native.Nat.{suc}
 use mathlib.Core.Path.{_≡_, refl, ap, _∙_}
 use mathlib.Core.Logic.{⊎-elim}
 use mathlib.Core.Bool.{Bool, true, false, cond}
 use mathlib.Core.List.{List, [], _∷_, _++_, map, append-assoc, append-nil}
 use mathlib.Core.List.{List·Memᴰ as Mem, List·Memᴰ·head as here, List·Memᴰ·tail as there, List·Memᴰ·not-nil as not-nil, List·Memᴰ·cases-cons as cases-cons, Memᴰ·cast as cast}
-use lib.ListN.{length}
 use Rattle.text.specs.Ascii.{Bytes}
 use Rattle.text.specs.Scan.{all}
 use Rattle.text.specs.Sames.{both}
@@ -72,10 +70,6 @@ one-warning w = append-nil (warningLine w)
 pub each-at : {A : Type 0} (f : A → Bytes) (x : Bytes) (l front : List A) (d : A) (back : List A) → l ≡ front ++ d ∷ back → x ++ each f l ≡ (x ++ each f front) ++ (f d ++ each f back)
 unfolding each
 each-at f x l front d back e = rw (e, each-append f front (d ∷ back), append-assoc x (each f front) (f d ++ each f back))
-
-pub length-map : {A B : Type 0} (f : A → B) (xs : List A) → length (map f xs) ≡ length xs
-length-map f [] = refl
-length-map f (x ∷ xs) = ap suc (length-map f xs)
 
 -- different members become different ones
 pub map-distinct : (f : Bytes → Bytes) → ((p q : Bytes) → f p ≡ f q → p ≡ q) → (l : List Bytes) → Distinct l → Distinct (map f l)
