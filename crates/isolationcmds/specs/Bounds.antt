@@ -1,14 +1,11 @@
 -- Laws: the strings of a strategy, each within a bound. Assumes nothing.
 use Prim.Native.Nat.{ℕ, _≤_, max}
 use native.Mathlib.Omega.{arith}
-use native.Mathlib.Nat.{le-trans}
+use native.Mathlib.Nat.{le-trans, max-le}
 use mathlib.Core.Path.{_≡_}
 use Rattle.store.specs.Order.{ofMaybe, ofIsolation}
 use Rattle.store.specs.declared.stored.Stored.{Stored}
 use Rattle.store.specs.declared.state.Isolation.{Isolation}
-
-both : (a b : ℕ) {n : ℕ} → a ≤ n → b ≤ n → max a b ≤ n
-both a b p q = omega arith
 
 first : (a b : ℕ) {n : ℕ} → max a b ≤ n → a ≤ n
 first a b h = omega arith
@@ -30,7 +27,7 @@ pub record Bounds (e : Stored → ℕ) (x : Isolation) (n : ℕ) : Type 0 where
 
 ten : (a b c d f g h i j k : ℕ) {n : ℕ} → a ≤ n → b ≤ n → c ≤ n → d ≤ n → f ≤ n → g ≤ n → h ≤ n → i ≤ n → j ≤ n → k ≤ n → max a (max b (max c (max d (max f (max g (max h (max i (max j k)))))))) ≤ n
 ten a b c d f g h i j k p0 p1 p2 p3 p4 p5 p6 p7 p8 p9 =
-    both a _ p0 (both b _ p1 (both c _ p2 (both d _ p3 (both f _ p4 (both g _ p5 (both h _ p6 (both i _ p7 (both j k p8 p9))))))))
+    max-le p0 (max-le p1 (max-le p2 (max-le p3 (max-le p4 (max-le p5 (max-le p6 (max-le p7 (max-le p8 p9))))))))
 
 pub all-bounds : (e : Stored → ℕ) (x : Isolation) (n : ℕ) → Bounds e x n → ofIsolation e x ≤ n
 all-bounds e x n b = ten (e (x .name)) (e (x .domain)) (ofMaybe e (x .applies)) (e (x .scope)) (e (x .elements)) (ofMaybe e (x .clamp)) (ofMaybe e (x .signal)) (ofMaybe e (x .sense)) (ofMaybe e (x .power)) (ofMaybe e (x .ground)) (b .name) (b .domain) (b .applies) (b .scope) (b .elements) (b .clamp) (b .signal) (b .sense) (b .power) (b .ground)
