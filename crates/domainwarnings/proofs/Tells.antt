@@ -34,9 +34,10 @@ use Rattle.store.specs.declared.state.Domain.{Domain}
 use Rattle.store.specs.declared.state.Domains.{Domains}
 use Rattle.made.specs.Made.{reachOf}
 use Rattle.setting.specs.Orders.{holds-few, holds-long, holds-at, holds-next, holds-end}
-use Rattle.storedtexts.specs.Stored.{storedName, stored-is}
 use Rattle.domainlists.specs.Lists.{OfDomain, Names}
 use Rattle.domainwarnings.specs.Missing.{isThere, missingText, missing, remarks, Told, OfElements, OfDomains}
+use Rattle.clamps.specs.Values.{storedName}
+use Rattle.clamps.specs.Laws.{stored-is}
 
 -- ---- one element
 

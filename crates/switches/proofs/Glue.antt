@@ -37,8 +37,9 @@ use Rattle.made.specs.Made.{reachOf}
 use Rattle.setting.specs.Orders.{sized-next, sized-end}
 use Rattle.conditions.specs.Controls.{scopeSetting, controls-few}
 use Rattle.switches.specs.Words.{onsFrom, switchIn, ons-are}
-use Rattle.switches.specs.Texts.{ArgIs, storedName, onsText, stateText, signalText, controlText, controlAt}
+use Rattle.switches.specs.Texts.{ArgIs, onsText, stateText, signalText, controlText, controlAt}
 use Rattle.switches.specs.Asked.{Ons, OfNames, OfSwitch, OfSwitches, Controlled}
+use Rattle.clamps.specs.Values.{storedName}
 
 -- ---- arguments
 

@@ -36,10 +36,11 @@ use Rattle.store.specs.declared.state.Switch.{Switch}
 use Rattle.store.specs.declared.state.Switches.{Switches}
 use Rattle.setting.specs.Orders.{sized-next, sized-end}
 use Rattle.switches.specs.Words.{onsFrom, switchIn, ons-are, ons-cons, ons-none}
-use Rattle.switches.specs.Texts.{Told, storedName, onRemarks, remarks}
+use Rattle.switches.specs.Texts.{Told, onRemarks, remarks}
 use Rattle.switches.specs.Asked.{OfNames, OfSwitch, OfSwitches, Controlled}
 use Rattle.switchwarnings.specs.Asked.{Reads}
 use Rattle.switchwarnings.proofs.Words.{told-none, told-one, told-then}
+use Rattle.clamps.specs.Values.{storedName}
 
 -- ---- another port than the input's
 
