@@ -11,6 +11,7 @@ use lib.ListN.{length}
 use borrow.Author.Tests.{ltb-true, ltb-false}
 use Rattle.text.specs.Ascii.{Bytes, ascii}
 use Rattle.text.specs.Compare.{same}
+use Rattle.text.specs.Sames.{differ}
 use Rattle.spans.specs.Span.{_⋯_, bytes, foundOf, pairs}
 use Rattle.spans.specs.Reach.{spanEnd, lastOf, reach, Held, held-by}
 use Rattle.spans.specs.declared.span.Span.{Span}
@@ -255,11 +256,6 @@ no-bytes : (t : Bytes) → length t ≡ 0 → t ≡ []
 no-bytes [] e = refl
 no-bytes (x ∷ t) e = absurd (omega arith)
 
-same-none : (t : Bytes) → (length t ≡ 0 → ⊥) → same t [] ≡ false
-unfolding same
-same-none [] h = absurd (h refl)
-same-none (x ∷ t) h = refl
-
 module _ (mem : Bytes) (x : Isolation) (name domain : Stored) (p q : Span) (b : Bool) (e : p ≡ spanOf (x .name)) (g : q ≡ spanOf name) (h : b ≡ same (bytes mem p) (bytes mem q)) where
   named : same (string mem (x .name)) (string mem name) ≡ b
   named = sym (h ∙ rw (e, g))
@@ -278,5 +274,5 @@ module _ (mem : Bytes) (x : Isolation) (name domain : Stored) (p q : Span) (b : 
     pub strategy-of : (k ≡ 0 → ⊥) → (i j : Span) (r : Bool) → i ≡ spanOf (x .domain) → j ≡ spanOf domain → r ≡ same (bytes mem i) (bytes mem j) → r ≡ isStrategyAt mem name domain x
     unfolding isolationOf
     strategy-of z i j r ei ej u =
-        let o : same (string mem domain) [] ≡ false = same-none (string mem domain) (λ l. z (w ∙ ap (λ (s : Span). length (bytes mem s)) y ∙ l)) in
+        let o : same (string mem domain) [] ≡ false = sym (differ (string mem domain) [] (λ l. z (w ∙ ap (λ (s : Span). length (bytes mem s)) y ∙ l))) in
         u ∙ rw (ei, ej, named, t, o)
