@@ -6,11 +6,12 @@ use mathlib.Core.List.{List, [], _∷_, _++_}
 use Prim.Native.Nat.{ℕ, suc, _+_, _≤_, _<_}
 use native.Mathlib.Omega.{arith}
 use lib.ListN.{length, drop, getD, drop-of-length-le}
-use lib.Dec.{eqb, ltb}
+use lib.Dec.{eqb, ltb, leb}
 use borrow.Author.Needs.{needs}
-use borrow.Author.Tests.{eq-eqb, ne-eqb, eqb-true}
+use borrow.Author.Tests.{eq-eqb, ne-eqb, eqb-true, leb-true}
 use Rattle.text.specs.Compare.{same, less}
 use Rattle.text.specs.Lists.{here}
+use Rattle.text.specs.Classes.{within}
 
 -- ---- truth
 
@@ -24,6 +25,10 @@ no-true e = let z : _≡_ {A = ℕ} 0 1 = ap (λ (b : Bool). cond b 1 0) e in ab
 pub both : (x y : Bool) → x && y ≡ true → (x ≡ true) × (y ≡ true)
 both true y e = (refl, e)
 both false y e = absurd (no-true e)
+
+-- what is within two bounds is no less than the first
+pub within-low : (lo hi k : ℕ) → within lo hi k ≡ true → lo ≤ k
+within-low lo hi k t = leb-true lo k (both (leb lo k) (leb k hi) t .0)
 
 -- ---- the same
 
