@@ -9,12 +9,13 @@ use lib.ListN.{length, getD, take}
 use Rattle.text.specs.Ascii.{Bytes, ascii, byte}
 use Rattle.text.specs.Compare.{same, less}
 use Rattle.text.specs.Sames.{same-refl, same-front, less-front}
+use Rattle.text.specs.Classes.{dotOf}
 use Rattle.out.specs.Bytewise.{dotted}
 use Rattle.spans.specs.Span.{bytes}
 use Rattle.names.specs.Name.{nameOf}
 use Rattle.names.specs.Laws.{dotted-map, dotted-none}
 use Rattle.names.specs.declared.name.Name.{Name}
-use Rattle.design.specs.Paths.{scopePath, childPath, elementPath, dotOf}
+use Rattle.design.specs.Paths.{scopePath, childPath, elementPath}
 use Rattle.model.specs.Records.{Isolation as Isolationʳ}
 use Rattle.model.specs.Commands.{or-else}
 use Rattle.store.specs.Strings.{maybeOf}

@@ -13,6 +13,7 @@ use borrow.Author.Needs.{needs}
 use borrow.Author.Tests.{eq-eqb, ne-eqb}
 use Rattle.text.specs.Ascii.{Bytes, byte}
 use Rattle.text.specs.Sames.{no-true}
+use Rattle.text.specs.Classes.{dotOf}
 use Rattle.out.specs.Emit.{_▸_, emit}
 use Rattle.jobindex.specs.Index.{num}
 use Rattle.jobindex.specs.Rows.{rows-length, rows-here}
@@ -20,7 +21,7 @@ use Rattle.names.specs.Name.{nameOf}
 use Rattle.names.specs.declared.name.Name.{Name}
 use Rattle.design.specs.Lists.{isIn, addAll}
 use Rattle.design.specs.Laws.{addAll-append}
-use Rattle.design.specs.Paths.{childPath, dotOf, dotted}
+use Rattle.design.specs.Paths.{childPath, dotted}
 use Rattle.walk.specs.Walk.{sumOver, retainedPaths}
 use Rattle.paths.specs.Pieces.{stem, stem-child}
 use Rattle.listing.specs.declared.Walk.{Walk}

@@ -16,11 +16,12 @@ use Rattle.text.specs.Compare.{same}
 use Rattle.text.specs.Lists.{here}
 use Rattle.text.specs.Scan.{any}
 use Rattle.text.specs.Sames.{no-true}
+use Rattle.text.specs.Classes.{dotOf}
 use Rattle.out.specs.Emit.{Out, _▸_, emit1, emit}
 use Rattle.names.specs.Name.{nameOf}
 use Rattle.names.specs.declared.name.Name.{Name}
 use Rattle.design.specs.Lists.{isIn, addNew}
-use Rattle.design.specs.Paths.{dotOf, dotted}
+use Rattle.design.specs.Paths.{dotted}
 use Rattle.jobindex.specs.Index.{section}
 use Rattle.paths.specs.Pieces.{Sized}
 use Rattle.pathnumber.specs.Number.{number, number-on}

@@ -10,10 +10,11 @@ use borrow.Author.Tests.{eq-eqb, ne-eqb}
 use Rattle.text.specs.Ascii.{Bytes, byte}
 use Rattle.text.specs.Compare.{same, less}
 use Rattle.text.specs.Lists.{here}
+use Rattle.text.specs.Classes.{dotOf}
 use Rattle.out.specs.Emit.{Out, emit, emit-append}
 use Rattle.out.specs.Bytewise.{flat, becomes, dotted}
 use Rattle.names.specs.Name.{nameOf, stepOf}
-use Rattle.names.specs.Laws.{dotOf, dotted-step, dotted-none, shorter}
+use Rattle.names.specs.Laws.{dotted-step, dotted-none, shorter}
 use Rattle.names.specs.declared.name.Name.{Name}
 use Rattle.names.specs.declared.name.Step.{Step}
 use Rattle.names.specs.declared.name.Step.the-variants.{Byte, End}

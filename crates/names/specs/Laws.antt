@@ -6,16 +6,13 @@ use mathlib.Core.List.{List, [], _∷_, _++_, map}
 use lib.Dec.{eqb}
 use lib.ListN.{length}
 use Rattle.text.specs.Ascii.{Bytes, byte}
+use Rattle.text.specs.Classes.{dotOf}
 use Rattle.out.specs.Bytewise.{flat, dottedByte, dotted}
 use native.Mathlib.Omega.{arith}
 use Rattle.names.specs.Name.{nameOf, stepOf}
 use Rattle.names.specs.declared.name.Name.{Name}
 use Rattle.names.specs.declared.name.Step.{Step}
 use Rattle.names.specs.declared.name.Step.the-variants.{Byte}
-
--- `/` as `.`
-abbrev pub dotOf : ℕ → ℕ
-dotOf b = cond (eqb b (byte "/")) (byte ".") b
 
 pub dotted-step : (b : ℕ) (p : Bytes) → dotted (b ∷ p) ≡ dotOf b ∷ dotted p
 unfolding flat dottedByte

@@ -8,11 +8,12 @@ use borrow.Author.Needs.{needs}
 use borrow.Author.Tests.{eq-eqb, ne-eqb}
 use Rattle.text.specs.Ascii.{Bytes, byte}
 use Rattle.text.specs.Lists.{here}
+use Rattle.text.specs.Classes.{dotOf}
 use Rattle.names.specs.Name.{nameOf, stepOf}
 use Rattle.names.specs.declared.name.Name.{Name}
 use Rattle.names.specs.declared.name.Step.{Step}
 use Rattle.names.specs.declared.name.Step.the-variants.{Byte, End}
-use Rattle.design.specs.Paths.{dotOf, dotted}
+use Rattle.design.specs.Paths.{dotted}
 use Rattle.pathnumber.specs.Number.{after, number}
 
 -- ---- a text

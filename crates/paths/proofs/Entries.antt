@@ -13,6 +13,7 @@ use Rattle.text.specs.Ascii.{Bytes, byte}
 use Rattle.text.specs.Compare.{same}
 use Rattle.text.specs.Scan.{any}
 use Rattle.text.specs.Sames.{no-true, both, same-turned}
+use Rattle.text.specs.Classes.{dotOf}
 use Rattle.out.specs.Bytewise.{dotted as Bytewise·dotted}
 use Rattle.names.specs.Name.{nameOf, stepOf}
 use Rattle.names.specs.Laws.{dotted-map}
@@ -21,7 +22,7 @@ use Rattle.names.specs.declared.name.Step.{Step}
 use Rattle.names.specs.declared.name.Step.the-variants.{Byte, End}
 use Rattle.nametable.specs.Table.{rowName, namesFrom, tableNames, names-next, names-none}
 use Rattle.design.specs.Lists.{isIn, those}
-use Rattle.design.specs.Paths.{dotOf, dotted}
+use Rattle.design.specs.Paths.{dotted}
 use Rattle.walk.specs.Walk.{retainedPaths}
 use Rattle.paths.specs.Pieces.{entriesBelow}
 use Rattle.paths.specs.Sizes.{name-short}

@@ -12,12 +12,13 @@ use borrow.Author.Tests.{not-true, not-false}
 use Rattle.text.specs.Ascii.{Bytes}
 use Rattle.text.specs.Compare.{same}
 use Rattle.text.specs.Sames.{differ}
+use Rattle.text.specs.Classes.{dotOf}
 use Rattle.out.specs.Emit.{Out, _▸_, emit, emit-append}
 use Rattle.out.specs.Bytewise.{dotted as Bytewise·dotted}
 use Rattle.names.specs.Name.{nameOf}
 use Rattle.names.specs.Laws.{dotted-map}
 use Rattle.names.specs.declared.name.Name.{Name}
-use Rattle.design.specs.Paths.{dotOf, dotted}
+use Rattle.design.specs.Paths.{dotted}
 use Rattle.paths.specs.Pieces.{Sized}
 
 -- the same by a front and what is behind it
