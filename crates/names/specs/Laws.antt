@@ -1,6 +1,6 @@
 -- Laws: a text with `/` as `.`, byte by byte, and what is left of a name. Assumes nothing.
 use Prim.Native.Nat.{ℕ, _<_}
-use mathlib.Core.Path.{_≡_, refl, ap}
+use mathlib.Core.Path.{_≡_, refl, ap, sym}
 use mathlib.Core.Bool.{Bool, true, false, cond}
 use mathlib.Core.List.{List, [], _∷_, _++_, map}
 use lib.Dec.{eqb}
@@ -13,6 +13,13 @@ use Rattle.names.specs.Name.{nameOf, stepOf}
 use Rattle.names.specs.declared.name.Name.{Name}
 use Rattle.names.specs.declared.name.Step.{Step}
 use Rattle.names.specs.declared.name.Step.the-variants.{Byte}
+use borrow.Author.Tests.{eq-eqb, ne-eqb}
+
+pub dot-slash : (b : ℕ) → b ≡ byte "/" → byte "." ≡ dotOf b
+dot-slash b h = sym (rw (eq-eqb b (byte "/") h))
+
+pub dot-other : (b : ℕ) → (b ≡ byte "/" → ⊥) → b ≡ dotOf b
+dot-other b h = sym (rw (ne-eqb b (byte "/") h))
 
 pub dotted-step : (b : ℕ) (p : Bytes) → dotted (b ∷ p) ≡ dotOf b ∷ dotted p
 unfolding flat dottedByte

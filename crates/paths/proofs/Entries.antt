@@ -9,14 +9,14 @@ use lib.Dec.{eqb}
 use lib.ListN.{length, take, drop, length-append, length-map, length-take}
 use borrow.Author.Needs.{needs}
 use borrow.Author.Tests.{eq-eqb, ne-eqb, eqb-true}
-use Rattle.text.specs.Ascii.{Bytes, byte}
+use Rattle.text.specs.Ascii.{Bytes}
 use Rattle.text.specs.Compare.{same}
 use Rattle.text.specs.Scan.{any}
 use Rattle.text.specs.Sames.{no-true, both, same-turned}
 use Rattle.text.specs.Classes.{dotOf}
 use Rattle.out.specs.Bytewise.{dotted as Bytewise·dotted}
 use Rattle.names.specs.Name.{nameOf, stepOf}
-use Rattle.names.specs.Laws.{dotted-map}
+use Rattle.names.specs.Laws.{dotted-map, dot-slash, dot-other}
 use Rattle.names.specs.declared.name.Name.{Name}
 use Rattle.names.specs.declared.name.Step.{Step}
 use Rattle.names.specs.declared.name.Step.the-variants.{Byte, End}
@@ -59,12 +59,6 @@ module _ (files area : Bytes) where
 pub ruleset counts = (needs, count-start, count-end, count-fits, count-on, count-less)
 
 -- ---- an entry compared with an element and a tail
-
-pub dot-slash : (b : ℕ) → b ≡ byte "/" → byte "." ≡ dotOf b
-dot-slash b h = sym (rw (eq-eqb b (byte "/") h))
-
-pub dot-other : (b : ℕ) → (b ≡ byte "/" → ⊥) → b ≡ dotOf b
-dot-other b h = sym (rw (ne-eqb b (byte "/") h))
 
 pub ruleset dots = (needs, dot-slash, dot-other)
 
