@@ -10,10 +10,10 @@ use mathlib.Core.Option.{Option, some}
 use lib.ListN.{length, take, drop, getD, drop-of-length-le, length-take, length-drop, length-append, length-map}
 use lib.Seq.{drop-cons, take-at, drop-at}
 use borrow.Author.Needs.{needs}
-use borrow.Author.Tests.{ltb-true, ltb-false, le-leb, lt-leb}
+use borrow.Author.Tests.{ltb-true, ltb-false, le-leb, lt-leb, not-false, not-true}
 use Rattle.text.specs.Ascii.{Bytes, ascii}
 use Rattle.text.specs.Compare.{same}
-use Rattle.text.specs.Sames.{no-true, differ, same-refl}
+use Rattle.text.specs.Sames.{differ, same-refl}
 use Rattle.out.specs.Emit.{Out, _▸_, emit}
 use Rattle.out.specs.Fits.{emit-fits}
 use Rattle.out.specs.Items.{joined, rest, unless, join-next, join-done}
@@ -25,7 +25,6 @@ use Rattle.jobindex.specs.Index.{moduleRow, jobOf}
 use Rattle.jobindex.specs.declared.Header.{Header}
 use Rattle.jobindex.specs.declared.Span.{Span}
 use Rattle.design.specs.AcceptedNames.{AllNamed, accepted-names}
-use Rattle.design.specs.Laws.{not-is-true}
 use Rattle.design.specs.Limits.{most-calls}
 use Rattle.design.specs.Lookup.{moduleAt}
 use Rattle.design.specs.Search.{searchType, callsMade}
@@ -89,10 +88,6 @@ module _ (job : Bytes) (head : Header) (way : Bytes) (r : ScopeAt) (t : Bytes) w
 pub ruleset pathTexts = (needs, text-way, text-over)
 
 -- ---- answers
-not-left : (b : Bool) → not b ≡ false → b ≡ true
-not-left true e = refl
-not-left false e = absurd (no-true (sym e))
-
 module _ (job : Bytes) (index : List ℕ) (head : Header) (ok : Taken job index head) where
   abbrev d : List Module
   d = modules job index (head .modules)
@@ -156,11 +151,11 @@ module _ (job : Bytes) (index : List ℕ) (head : Header) (ok : Taken job index 
           rw (le-leb (callsMade d m kind) most-calls (omega arith), s .way-is h)
 
       pub type-none : (r : ScopeAt) → r ≡ refusedBy 11 → not (f .found) ≡ true → Told job index head typed r
-      type-none r e g = told typed 11 r e (λ way. rw (path-is, not-is-true (f .found) g))
+      type-none r e g = told typed 11 r e (λ way. rw (path-is, not-true (f .found) g))
 
       module _ (u : not (f .found) ≡ false) (q : ℕ) (seen : ModuleSeen job index (head .modules) (moduleAt d m (wayFrom job 0 f)) q) where
         g : f .found ≡ true
-        g = not-left (f .found) u
+        g = not-false (f .found) u
 
         typed-is : typed ≡ existing (wayFrom job 0 f) (rowIs job index q)
         typed-is = rw (path-is, g, seen .says)
