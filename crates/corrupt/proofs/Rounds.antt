@@ -23,6 +23,7 @@ use Rattle.design.specs.Lists.{isIn, addAll}
 use Rattle.design.specs.Laws.{addAll-append}
 use Rattle.design.specs.Paths.{childPath, dotted}
 use Rattle.walk.specs.Walk.{sumOver, retainedPaths}
+use Rattle.walk.specs.Retained.{length-dotted}
 use Rattle.paths.specs.Pieces.{stem, stem-child}
 use Rattle.listing.specs.declared.Walk.{Walk}
 use Rattle.listing.specs.Listing.{pathsOf, Within, Ready, Answer}
@@ -70,10 +71,6 @@ stem-by (x ∷ p) n h = rw (ne-eqb n 0 (λ z. omega (arith, h, z)))
 map-same : (f g : Bytes → Bytes) (l : List Bytes) → ((n : Bytes) → f n ≡ g n) → map f l ≡ map g l
 map-same f g [] h = refl
 map-same f g (x ∷ l) h = ap₂ _∷_ (h x) (map-same f g l h)
-
-length-dotted : (l : Bytes) → length (dotted l) ≡ length l
-length-dotted [] = refl
-length-dotted (x ∷ l) = ap suc (length-dotted l)
 
 module _ (mem : Bytes) (e : Name) (elen t : ℕ) (tail tail′ : Bytes) (u : ℕ) (st : Stemmed elen t tail tail′ u) (el : elen ≡ length (nameOf mem e)) (l : t ≤ length tail) where
   abbrev at-path : Bytes

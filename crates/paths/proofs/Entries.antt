@@ -24,9 +24,9 @@ use Rattle.nametable.specs.Table.{rowName, namesFrom, tableNames, names-next, n
 use Rattle.design.specs.Lists.{isIn, those}
 use Rattle.design.specs.Paths.{dotted}
 use Rattle.walk.specs.Walk.{retainedPaths}
+use Rattle.walk.specs.Retained.{length-dotted}
 use Rattle.paths.specs.Pieces.{entriesBelow}
 use Rattle.paths.specs.Sizes.{name-short}
-use Rattle.paths.proofs.Pieces.{length-dotted}
 
 -- ---- how long a name is
 
