@@ -13,7 +13,7 @@ use Rattle.text.specs.Ascii.{Bytes, ascii}
 use Rattle.text.specs.Compare.{same}
 use Rattle.text.specs.Sames.{differ}
 use Rattle.spans.specs.Span.{_⋯_, bytes, foundOf, pairs}
-use Rattle.spans.specs.Reach.{spanEnd, lastOf, reach, Held, held-by}
+use Rattle.spans.specs.Reach.{spanEnd, lastOf, reach, Held, held-by, none-reach}
 use Rattle.spans.specs.declared.span.Span.{Span}
 use Rattle.spans.specs.declared.span.Found.{Found}
 use Rattle.spans.specs.declared.span.Found.the-variants.{At, None}
@@ -28,7 +28,7 @@ use Rattle.store.specs.Order.{ofMaybe, ofIsolation}
 use Rattle.store.specs.declared.stored.Stored.{Stored}
 use Rattle.store.specs.declared.stored.Maybe.{Maybe}
 use Rattle.store.specs.declared.state.Isolation.{Isolation}
-use Rattle.made.specs.Asked.{list-found, or-found, maybe-found, found-by, maybe-by, none-reach}
+use Rattle.made.specs.Asked.{list-found, or-found, maybe-found, found-by, maybe-by}
 use Rattle.lists.specs.Values.{Whole}
 use Rattle.isolationcmds.specs.Strategies.{newStrategy, renewed, elementsAnew, anew, isStrategyAt, IsolationIs, RenewedIs, AnewIs, ControlledIs}
 use Rattle.isolationcmds.specs.Bounds.{Bounds, all-bounds, bounds-of}

@@ -10,7 +10,7 @@ use Rattle.text.specs.Ascii.{Bytes}
 use Rattle.text.specs.Compare.{same}
 use Rattle.text.specs.Sames.{differ}
 use Rattle.spans.specs.Span.{bytes, pairs}
-use Rattle.spans.specs.Reach.{lastOf, reach}
+use Rattle.spans.specs.Reach.{lastOf, reach, none-reach}
 use Rattle.spans.specs.declared.span.Span.{Span}
 use Rattle.tcl.specs.Arguments.{nameOf}
 use Rattle.args.specs.View.{wordsFrom, Reads}
@@ -28,7 +28,6 @@ use Rattle.made.specs.declared.Made.{Made}
 use Rattle.made.specs.Made.{fineMade, reachOf, Ready, Did}
 use Rattle.made.specs.Dids.{did-nothing}
 use Rattle.made.specs.Done.{did-state}
-use Rattle.made.specs.Asked.{none-reach}
 
 -- a string of no bytes
 is-none : (t : Bytes) → length t ≡ 0 → same t [] ≡ true

@@ -9,7 +9,7 @@ use lib.ListN.{length, take, drop, length-append, length-map}
 use lib.Seq.{take-at, drop-at, take-all, drop-append-add}
 use Rattle.text.specs.Ascii.{Bytes, ascii}
 use Rattle.spans.specs.Span.{_⋯_, bytes, pairAt, pairs, strings}
-use Rattle.spans.specs.Reach.{lastOf, reach}
+use Rattle.spans.specs.Reach.{lastOf, reach, none-reach}
 use Rattle.spans.specs.declared.span.Span.{Span}
 use Rattle.spans.specs.declared.span.Found.{Found}
 use Rattle.tcl.specs.Arguments.{optionOf, nameOf, states}
@@ -36,7 +36,7 @@ use Rattle.made.specs.declared.Made.{Made}
 use Rattle.made.specs.Made.{fineMade, fullMade, reachOf, Ready, Did}
 use Rattle.made.specs.Dids.{one-over, did-full}
 use Rattle.made.specs.Done.{did-state}
-use Rattle.made.specs.Asked.{list-found, maybe-found, found-by, maybe-by, none-reach}
+use Rattle.made.specs.Asked.{list-found, maybe-found, found-by, maybe-by}
 use Rattle.lists.specs.States.{strings-length, line-states}
 use Rattle.statecmds.specs.Words.{wordsPut, worded, words-set, words-long, words-then, grown-view, grown-shaped, grown-bounded}
 use Rattle.statecmds.specs.Chosen.{chosen, ons-are, offs-are, both-kinds, ports-are, states-half, behind-name}
