@@ -1,17 +1,11 @@
 -- Laws: the strings of a strategy, each within a bound. Assumes nothing.
 use Prim.Native.Nat.{ℕ, _≤_, max}
-use native.Mathlib.Omega.{arith}
 use native.Mathlib.Nat.{le-trans, max-le}
 use mathlib.Core.Path.{_≡_}
 use Rattle.store.specs.Order.{ofMaybe, ofIsolation}
 use Rattle.store.specs.declared.stored.Stored.{Stored}
 use Rattle.store.specs.declared.state.Isolation.{Isolation}
-
-first : (a b : ℕ) {n : ℕ} → max a b ≤ n → a ≤ n
-first a b h = omega arith
-
-rest : (a b : ℕ) {n : ℕ} → max a b ≤ n → b ≤ n
-rest a b h = omega arith
+use Rattle.store.specs.Frame.{max-first, max-rest}
 
 pub record Bounds (e : Stored → ℕ) (x : Isolation) (n : ℕ) : Type 0 where
   pub name : e (x .name) ≤ n
@@ -34,23 +28,23 @@ all-bounds e x n b = ten (e (x .name)) (e (x .domain)) (ofMaybe e (x .applies)) 
 
 pub bounds-of : (e : Stored → ℕ) (x : Isolation) (n : ℕ) → ofIsolation e x ≤ n → Bounds e x n
 bounds-of e x n h =
-    let h1 = rest (e (x .name)) _ h in
-    let h2 = rest (e (x .domain)) _ h1 in
-    let h3 = rest (ofMaybe e (x .applies)) _ h2 in
-    let h4 = rest (e (x .scope)) _ h3 in
-    let h5 = rest (e (x .elements)) _ h4 in
-    let h6 = rest (ofMaybe e (x .clamp)) _ h5 in
-    let h7 = rest (ofMaybe e (x .signal)) _ h6 in
-    let h8 = rest (ofMaybe e (x .sense)) _ h7 in
+    let h1 = max-rest (e (x .name)) _ h in
+    let h2 = max-rest (e (x .domain)) _ h1 in
+    let h3 = max-rest (ofMaybe e (x .applies)) _ h2 in
+    let h4 = max-rest (e (x .scope)) _ h3 in
+    let h5 = max-rest (e (x .elements)) _ h4 in
+    let h6 = max-rest (ofMaybe e (x .clamp)) _ h5 in
+    let h7 = max-rest (ofMaybe e (x .signal)) _ h6 in
+    let h8 = max-rest (ofMaybe e (x .sense)) _ h7 in
     record {
-      name = first (e (x .name)) _ h;
-      domain = first (e (x .domain)) _ h1;
-      applies = first (ofMaybe e (x .applies)) _ h2;
-      scope = first (e (x .scope)) _ h3;
-      elements = first (e (x .elements)) _ h4;
-      clamp = first (ofMaybe e (x .clamp)) _ h5;
-      signal = first (ofMaybe e (x .signal)) _ h6;
-      sense = first (ofMaybe e (x .sense)) _ h7;
-      power = first (ofMaybe e (x .power)) _ h8;
-      ground = rest (ofMaybe e (x .power)) _ h8;
+      name = max-first (e (x .name)) _ h;
+      domain = max-first (e (x .domain)) _ h1;
+      applies = max-first (ofMaybe e (x .applies)) _ h2;
+      scope = max-first (e (x .scope)) _ h3;
+      elements = max-first (e (x .elements)) _ h4;
+      clamp = max-first (ofMaybe e (x .clamp)) _ h5;
+      signal = max-first (ofMaybe e (x .signal)) _ h6;
+      sense = max-first (ofMaybe e (x .sense)) _ h7;
+      power = max-first (ofMaybe e (x .power)) _ h8;
+      ground = max-rest (ofMaybe e (x .power)) _ h8;
     }
