@@ -12,6 +12,7 @@ use borrow.Author.Tests.{ltb-true, ltb-false}
 use Rattle.text.specs.Ascii.{Bytes, ascii}
 use Rattle.text.specs.Compare.{same}
 use Rattle.text.specs.Sames.{differ}
+use Rattle.text.specs.Lists.{no-bytes}
 use Rattle.spans.specs.Span.{_⋯_, bytes, foundOf, pairs}
 use Rattle.spans.specs.Reach.{spanEnd, lastOf, reach, Held, held-by, none-reach}
 use Rattle.spans.specs.declared.span.Span.{Span}
@@ -252,10 +253,6 @@ module _ (files area : Bytes) (words : List ℕ) (n : ℕ) (scope : Stored) (x :
         }
 
 -- ---- which strategy is meant
-no-bytes : (t : Bytes) → length t ≡ 0 → t ≡ []
-no-bytes [] e = refl
-no-bytes (x ∷ t) e = absurd (omega arith)
-
 module _ (mem : Bytes) (x : Isolation) (name domain : Stored) (p q : Span) (b : Bool) (e : p ≡ spanOf (x .name)) (g : q ≡ spanOf name) (h : b ≡ same (bytes mem p) (bytes mem q)) where
   named : same (string mem (x .name)) (string mem name) ≡ b
   named = sym (h ∙ rw (e, g))

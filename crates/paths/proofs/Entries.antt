@@ -14,6 +14,7 @@ use Rattle.text.specs.Compare.{same}
 use Rattle.text.specs.Scan.{any}
 use Rattle.text.specs.Sames.{no-true, both, same-turned}
 use Rattle.text.specs.Classes.{dotOf}
+use Rattle.text.specs.Lists.{no-bytes}
 use Rattle.out.specs.Bytewise.{dotted as Bytewise·dotted}
 use Rattle.names.specs.Name.{nameOf, stepOf}
 use Rattle.names.specs.Laws.{dotted-map, dot-slash, dot-other}
@@ -128,10 +129,6 @@ pub record Among (mem path : Bytes) (table : List ℕ) (n : ℕ) (t : Bool) (k :
   pub keeps : isIn path (map dotted (namesFrom mem table k (n - k))) ≡ t
   pub few : n ≤ 65536
 
-empty-list : (l : Bytes) → length l ≡ 0 → l ≡ []
-empty-list [] h = refl
-empty-list (x ∷ l) h = absurd (omega arith)
-
 module _ (mem : Bytes) (table : List ℕ) (n : ℕ) (below : Bool) (e : Name) (elen : ℕ) (tail : Bytes) (l : elen ≡ length (nameOf mem e)) where
   abbrev path : Bytes
   path = dotted (nameOf mem e) ++ tail
@@ -140,7 +137,7 @@ module _ (mem : Bytes) (table : List ℕ) (n : ℕ) (below : Bool) (e : Name) (e
   among-empty h =
       let b = both below (eqb elen 0 && eqb (length tail) 0) h in
       let c = both (eqb elen 0) (eqb (length tail) 0) (b .1) in
-      let z : path ≡ [] = empty-list path (omega (arith, length-append (dotted (nameOf mem e)) tail, length-dotted (nameOf mem e), l, eqb-true elen 0 (c .0), eqb-true (length tail) 0 (c .1))) in
+      let z : path ≡ [] = no-bytes path (omega (arith, length-append (dotted (nameOf mem e)) tail, length-dotted (nameOf mem e), l, eqb-true elen 0 (c .0), eqb-true (length tail) 0 (c .1))) in
       sym (rw (z, b .0) (filled-out (tableNames mem table n)))
 
   pub among-start : n ≤ 65536 → below && (eqb elen 0 && eqb (length tail) 0) ≡ false → Among mem path table n (isIn path (retainedPaths [] (entriesBelow below (tableNames mem table n)))) 0
