@@ -15,7 +15,7 @@ use Rattle.text.specs.Scan.{any}
 use Rattle.text.specs.Sames.{no-true}
 use Rattle.joblines.specs.Job.{Port, Conn, star, implicit, named, pos, Module}
 use Rattle.joblines.specs.Lines.{when}
-use Rattle.joblines.specs.Sections.{linesIn, gather, portsIn, connsIn}
+use Rattle.joblines.specs.Sections.{portsIn, connsIn}
 use Rattle.jobindex.specs.Index.{num, rowAt, section, moduleRow}
 use Rattle.jobindex.specs.declared.Span.{Span}
 use Rattle.fields.specs.declared.Dir.{Dir as Dir·code}
@@ -23,7 +23,7 @@ use Rattle.design.specs.Lists.{onSome}
 use Rattle.design.specs.Connections.{plain, isFirst, saysOf, isStar, decided}
 use Rattle.design.specs.Ports.{portOrder}
 use Rattle.lines.specs.Cursors.{spanned, Stepped, ConnSeen, PortSeen}
-use Rattle.lines.specs.Steps.{section-none}
+use Rattle.lines.specs.Steps.{no-ports}
 use Rattle.lines.specs.declared.ConnAt.{ConnAt}
 use Rattle.lines.specs.declared.ConnAt.the-variants as conn
 use Rattle.lines.specs.declared.PortAt.{PortAt}
@@ -123,10 +123,6 @@ connIs job (conn.Star next) = star
 connIs job (conn.Implicit p next) = implicit (spanned job p)
 connIs job (conn.Named p n next) = named (spanned job p) (spanned job n)
 connIs job (conn.Pos n next) = pos (spanned job n)
-
-no-ports : (job : Bytes) (a : ℕ) → portsIn (section job a a) ≡ []
-unfolding linesIn gather
-no-ports job a = rw (section-none job a a (omega arith))
 
 abbrev order : Bytes → ℕ → ℕ → List Bytes
 order job p pe = map (λ (x : Port). x .name) (portsIn (section job p pe))

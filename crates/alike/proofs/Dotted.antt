@@ -1,26 +1,20 @@
 -- Loops over what is left of two names, with `/` as `.`: laws as the needs ask them. Assumes nothing.
-use Prim.Native.Nat.{ℕ, _<_}
+use Prim.Native.Nat.{ℕ}
 use mathlib.Core.Path.{_≡_, refl, sym, ap, _∙_}
 use mathlib.Core.Bool.{Bool, true, false, cond}
 use mathlib.Core.List.{List, [], _∷_, _++_}
-use native.Mathlib.Omega.{arith}
 use lib.Dec.{eqb, ltb}
-use lib.ListN.{length}
 use borrow.Author.Needs.{needs}
 use borrow.Author.Tests.{eq-eqb, ne-eqb}
 use Rattle.text.specs.Ascii.{Bytes, byte}
 use Rattle.text.specs.Compare.{same, less}
 use Rattle.out.specs.Bytewise.{dotted}
 use Rattle.names.specs.Name.{nameOf, stepOf}
-use Rattle.names.specs.Laws.{dotted-step, dotted-none}
+use Rattle.names.specs.Laws.{dotted-step, dotted-none, shorter}
 use Rattle.names.specs.declared.name.Name.{Name}
 use Rattle.names.specs.declared.name.Step.{Step}
 use Rattle.names.specs.declared.name.Step.the-variants.{Byte, End}
 use Rattle.refs.specs.Text.{dotOf}
-
--- it gets shorter
-pub shorter : (mem : Bytes) (x u : Name) (p : Step) (b : ℕ) → nameOf mem x ≡ stepOf mem p → p ≡ Byte b u → length (nameOf mem u) < length (nameOf mem x)
-shorter mem x u p b e h = rw (e, h) (omega arith)
 
 -- what is left, with dots
 abbrev stepDots : Bytes → Step → Bytes

@@ -24,7 +24,7 @@ use Rattle.store.specs.declared.state.Isolations.{Isolations}
 use Rattle.texts.specs.Isolation.{lowered, activeOf}
 use Rattle.clamps.specs.Values.{storedName, activeNumber}
 use Rattle.alike.specs.Strategies.{isolationAt, strategyAt, signalName, signalOf, areAlike}
-use Rattle.alike.specs.Shown.{signal-text}
+use Rattle.alike.specs.Shown.{signal-read}
 
 pub name-of : (x y : Isolation) (n : Name) → n ≡ storedName (x .name) → x ≡ y → n ≡ storedName (y .name)
 name-of x y n e f = e ∙ rw f
@@ -80,11 +80,7 @@ module _ (mem : Bytes) (t : Isolations) (i j n m : ℕ) (e : n ≡ activeNumber 
   pub not-alike : (n ≡ m → ⊥) → false ≡ areAlike (strategyAt mem t i) (strategyAt mem t j)
   not-alike h = unalike (strategyAt mem t i) (strategyAt mem t j) n m e f h
 
-  text-of : (k : ℕ) (x : Name) → x ≡ signalName (isolationAt t k .signal) → nameOf mem x ≡ signalOf (strategyAt mem t k)
-  unfolding isolationOf
-  text-of k x g = rw g (signal-text mem (isolationAt t k .signal))
-
   pub signals-alike : n ≡ m → (x y : Name) (r : Bool) → r ≡ same (dotted (nameOf mem x)) (dotted (nameOf mem y)) → x ≡ signalName (isolationAt t i .signal) → y ≡ signalName (isolationAt t j .signal) → r ≡ areAlike (strategyAt mem t i) (strategyAt mem t j)
-  signals-alike h x y r g p q = alike-by (strategyAt mem t i) (strategyAt mem t j) n m e f h r (g ∙ rw (text-of i x p, text-of j y q))
+  signals-alike h x y r g p q = alike-by (strategyAt mem t i) (strategyAt mem t j) n m e f h r (g ∙ rw (signal-read mem t i x p, signal-read mem t j y q))
 
 pub ruleset alikes = (needs, not-alike, signals-alike)

@@ -9,11 +9,13 @@ use lib.ListN.{length, getD, take}
 use Rattle.text.specs.Ascii.{Bytes, ascii, byte}
 use Rattle.text.specs.Compare.{same, less}
 use Rattle.text.specs.Sames.{same-refl, same-front, less-front}
+use Rattle.text.specs.Classes.{dotOf}
 use Rattle.out.specs.Bytewise.{dotted}
 use Rattle.spans.specs.Span.{bytes}
 use Rattle.names.specs.Name.{nameOf}
 use Rattle.names.specs.Laws.{dotted-map, dotted-none}
-use Rattle.design.specs.Paths.{scopePath, childPath, elementPath, dotOf}
+use Rattle.names.specs.declared.name.Name.{Name}
+use Rattle.design.specs.Paths.{scopePath, childPath, elementPath}
 use Rattle.model.specs.Records.{Isolation as Isolationʳ}
 use Rattle.model.specs.Commands.{or-else}
 use Rattle.store.specs.Strings.{maybeOf}
@@ -26,7 +28,7 @@ use Rattle.texts.specs.Setting.{Setting, slashed, slashPath, hier}
 use Rattle.texts.specs.Isolation.{Isolated, Target, lowered, activeOf, keyOf, isolatedBy, alike}
 use Rattle.format.specs.Args.{rooted}
 use Rattle.isolated.specs.Table.{Kept, kept}
-use Rattle.alike.specs.Strategies.{noIsolation, strategyAt, signalName, signalOf, areAlike}
+use Rattle.alike.specs.Strategies.{noIsolation, strategyAt, signalName, signalOf, areAlike, isolationAt}
 
 -- ---- a kept port, below the scope, from the top on; f has the strategies by their numbers
 abbrev pub shownBy : List Bytes → Bytes → Isolationʳ → Kept → Isolated
@@ -57,6 +59,11 @@ pub signal-text : (mem : Bytes) (m : Maybe) → nameOf mem (signalName m) ≡ or
 unfolding nameOf bytes
 signal-text mem Not = refl
 signal-text mem (Given s) = refl
+
+-- the signal of a strategy of the table
+pub signal-read : (mem : Bytes) (t : Isolations) (k : ℕ) (x : Name) → x ≡ signalName (isolationAt t k .signal) → nameOf mem x ≡ signalOf (strategyAt mem t k)
+unfolding isolationOf
+signal-read mem t k x e = rw e (signal-text mem (isolationAt t k .signal))
 
 -- a name below a path
 abbrev below : Bytes → Bytes → Bytes

@@ -6,6 +6,7 @@ use mathlib.Core.Bool.{Bool, true, false, cond, not, _&&_}
 use mathlib.Core.List.{List, [], _∷_, _++_}
 use lib.Dec.{eqb, ltb}
 use borrow.Author.Needs.{needs}
+use borrow.Author.Tests.{not-true, not-false}
 use Rattle.text.specs.Ascii.{Bytes, ascii}
 use Rattle.text.specs.Compare.{same, less}
 use Rattle.out.specs.Bytewise.{dotted}
@@ -18,45 +19,33 @@ use Rattle.texts.specs.Isolation.{lowered, activeOf}
 use Rattle.clamps.specs.Values.{storedName, activeNumber}
 use Rattle.clamps.specs.Laws.{stored-is}
 use Rattle.alike.specs.Strategies.{isolationAt, strategyAt, signalName, signalOf, areAlike}
-use Rattle.alike.specs.Shown.{signal-text}
+use Rattle.alike.specs.Shown.{signal-read}
 use Rattle.checks.specs.Sorted.{areSame, isEarlier}
-
-is-true : (b : Bool) → not b ≡ false → b ≡ true
-is-true true e = refl
-is-true false e = sym e
-
-is-false : (b : Bool) → not b ≡ true → b ≡ false
-is-false true e = sym e
-is-false false e = refl
 
 module _ (mem : Bytes) (t : Isolations) where
   name-text : (k : ℕ) (x : Name) → x ≡ storedName (isolationAt t k .name) → nameOf mem x ≡ strategyAt mem t k .name
   unfolding isolationOf
   name-text k x e = rw e (stored-is mem (isolationAt t k .name))
 
-  signal-of : (k : ℕ) (x : Name) → x ≡ signalName (isolationAt t k .signal) → nameOf mem x ≡ signalOf (strategyAt mem t k)
-  unfolding isolationOf
-  signal-of k x e = rw e (signal-text mem (isolationAt t k .signal))
-
   module _ (i j : ℕ) where
     -- ---- the same check
     module _ (b : Bool) (e : b ≡ areAlike (strategyAt mem t i) (strategyAt mem t j)) where
       pub not-same : not b ≡ true → false ≡ areSame (strategyAt mem t i) (strategyAt mem t j)
       unfolding areSame
-      not-same h = rw (sym e ∙ is-false b h)
+      not-same h = rw (sym e ∙ not-true b h)
 
       pub same-named : not b ≡ false → (x y : Name) (r : Bool) → r ≡ same (nameOf mem x) (nameOf mem y) → x ≡ storedName (isolationAt t i .name) → y ≡ storedName (isolationAt t j .name) → r ≡ areSame (strategyAt mem t i) (strategyAt mem t j)
       unfolding areSame
-      same-named h x y r f p q = rw (sym e ∙ is-true b h) (f ∙ rw (name-text i x p, name-text j y q))
+      same-named h x y r f p q = rw (sym e ∙ not-false b h) (f ∙ rw (name-text i x p, name-text j y q))
 
     -- ---- the earlier one
     module _ (x y : Name) (p : x ≡ signalName (isolationAt t i .signal)) (q : y ≡ signalName (isolationAt t j .signal)) (b : Bool) (e : b ≡ same (dotted (nameOf mem x)) (dotted (nameOf mem y))) where
       signals : same (dotted (signalOf (strategyAt mem t i))) (dotted (signalOf (strategyAt mem t j))) ≡ b
-      signals = ap₂ (λ (u v : Bytes). same (dotted u) (dotted v)) (sym (signal-of i x p)) (sym (signal-of j y q)) ∙ sym e
+      signals = ap₂ (λ (u v : Bytes). same (dotted u) (dotted v)) (sym (signal-read mem t i x p)) (sym (signal-read mem t j y q)) ∙ sym e
 
       pub early-signal : not b ≡ true → (r : Bool) → r ≡ less (dotted (nameOf mem x)) (dotted (nameOf mem y)) → r ≡ isEarlier (strategyAt mem t i) (strategyAt mem t j)
       unfolding isEarlier
-      early-signal h r f = rw (signals ∙ is-false b h) (f ∙ ap₂ (λ (u v : Bytes). less (dotted u) (dotted v)) (signal-of i x p) (signal-of j y q))
+      early-signal h r f = rw (signals ∙ not-true b h) (f ∙ ap₂ (λ (u v : Bytes). less (dotted u) (dotted v)) (signal-read mem t i x p) (signal-read mem t j y q))
 
       module _ (h : not b ≡ false) (n m : ℕ) (f : n ≡ activeNumber (lowered (strategyAt mem t i .sense))) (g : m ≡ activeNumber (lowered (strategyAt mem t j .sense))) where
         abbrev number : Bool → ℕ
@@ -84,12 +73,12 @@ module _ (mem : Bytes) (t : Isolations) where
 
         pub early-active : (n ≡ m → ⊥) → ltb n m ≡ isEarlier (strategyAt mem t i) (strategyAt mem t j)
         unfolding isEarlier activeNumber
-        early-active k = rw (f, g, signals ∙ is-true b h) (differ (low i) (low j) (less (strategyAt mem t i .name) (strategyAt mem t j .name)) (λ z. k (f ∙ z ∙ sym g)))
+        early-active k = rw (f, g, signals ∙ not-false b h) (differ (low i) (low j) (less (strategyAt mem t i .name) (strategyAt mem t j .name)) (λ z. k (f ∙ z ∙ sym g)))
 
         pub early-name : n ≡ m → (u v : Name) (r : Bool) → r ≡ less (nameOf mem u) (nameOf mem v) → u ≡ storedName (isolationAt t i .name) → v ≡ storedName (isolationAt t j .name) → r ≡ isEarlier (strategyAt mem t i) (strategyAt mem t j)
         unfolding isEarlier activeNumber
         early-name k u v r z a d =
-            z ∙ ap₂ less (name-text i u a) (name-text j v d) ∙ rw (signals ∙ is-true b h) (agree (low i) (low j) (less (strategyAt mem t i .name) (strategyAt mem t j .name)) (less (literal (low i)) (literal (low j))) (sym f ∙ k ∙ g))
+            z ∙ ap₂ less (name-text i u a) (name-text j v d) ∙ rw (signals ∙ not-false b h) (agree (low i) (low j) (less (strategyAt mem t i .name) (strategyAt mem t j .name)) (less (literal (low i)) (literal (low j))) (sym f ∙ k ∙ g))
 
 pub ruleset sames = (needs, not-same, same-named)
 

@@ -18,6 +18,7 @@ use Rattle.names.specs.Name.{named, nameOf, stepOf}
 use Rattle.names.specs.declared.name.Name.{Name}
 use Rattle.names.specs.declared.name.Step.{Step}
 use Rattle.names.specs.declared.name.Step.the-variants.{Byte, End}
+use Rattle.names.specs.Laws.{shorter}
 use Rattle.model.specs.Commands.{or-else}
 use Rattle.store.specs.Strings.{string, maybeOf, spanOf}
 use Rattle.store.specs.declared.stored.Stored.{Stored}
@@ -45,11 +46,6 @@ pub lower-other : (b : ℕ) → leb (byte "A") b && leb b (byte "Z") ≡ false �
 lower-other b h = sym (rw h)
 
 pub ruleset lowers = (needs, lower-fits, lower-letter, lower-other)
-
--- ---- it gets shorter
-
-pub shorter : (mem : Bytes) (x u : Name) (p : Step) (b : ℕ) → nameOf mem x ≡ stepOf mem p → p ≡ Byte b u → length (nameOf mem u) < length (nameOf mem x)
-shorter mem x u p b e h = rw (e, h) (omega arith)
 
 -- ---- whether one is s
 

@@ -7,11 +7,12 @@ use native.Mathlib.Omega.{arith}
 use lib.ListN.{drop, drop-of-length-le, getD, length, length-append}
 use lib.Seq.{drop-drop}
 use lib.Dec.{eqb}
-use borrow.Author.Tests.{eqb-true, lt-leb}
+use borrow.Author.Tests.{lt-leb}
 use Rattle.tcl.specs.Words.{Kind, Word, inside, kindOf, quoteSize, sizeOf, wordsOf}
 use Rattle.commands.specs.Reading.{most-words, parted, too-many}
 use Rattle.tcl.specs.Commands.{done, doneBy, keptBy, none-yet, reading}
-use Rattle.text.specs.Classes.{endsPlain, isSpace, within}
+use Rattle.tcl.specs.Machines.{word-kind}
+use Rattle.text.specs.Classes.{endsPlain, isSpace}
 use Rattle.text.specs.Ascii.{byte}
 use Rattle.commands.specs.Stored.{writtenAt}
 use Rattle.text.specs.Lists.{here}
@@ -75,28 +76,6 @@ module _ (x : ℕ) where
           semi false e = e
 
 -- ---- the word that is written at a place
-
--- a byte that ends no plain word begins a word
-word-kind : (x : ℕ) → endsPlain x ≡ false → kindOf false x ≡ cond (eqb x (byte "{")) Kind.brace (cond (eqb x (byte "\"")) Kind.quote (cond (eqb x (byte "[")) Kind.bracket Kind.other))
-unfolding kindOf
-word-kind x h =
-    go (within 9 13 x) (eqb x 32) (eqb x (byte ";")) (eqb x (byte "\n")) (λ e. space x e) h
-  where
-    space : (x : ℕ) → eqb x (byte "\n") ≡ true → within 9 13 x ≡ true
-    space x e = let g : x ≡ 10 = eqb-true x 10 e in rw g
-
-    hash : (t : Bool) → cond (t && false) Kind.comment (cond (eqb x (byte "{")) Kind.brace (cond (eqb x (byte "\"")) Kind.quote (cond (eqb x (byte "[")) Kind.bracket Kind.other))) ≡ cond (eqb x (byte "{")) Kind.brace (cond (eqb x (byte "\"")) Kind.quote (cond (eqb x (byte "[")) Kind.bracket Kind.other))
-    hash true = refl
-    hash false = refl
-
-    go : (a b c d : Bool) → (d ≡ true → a ≡ true) → (a || b) || c ≡ false
-        → cond (d || c) Kind.ends (cond (a || b) Kind.blank (cond (eqb x (byte "#") && false) Kind.comment (cond (eqb x (byte "{")) Kind.brace (cond (eqb x (byte "\"")) Kind.quote (cond (eqb x (byte "[")) Kind.bracket Kind.other)))))
-        ≡ cond (eqb x (byte "{")) Kind.brace (cond (eqb x (byte "\"")) Kind.quote (cond (eqb x (byte "[")) Kind.bracket Kind.other))
-    go true b c d e g = absurd (no-true (sym g))
-    go false true c d e g = absurd (no-true (sym g))
-    go false false true d e g = absurd (no-true (sym g))
-    go false false false true e g = absurd (no-true (e refl))
-    go false false false false e g = hash (eqb x (byte "#"))
 
 -- it is a word: neither a command's end nor white space nor a comment
 abbrev pub isWord : Kind → Bool

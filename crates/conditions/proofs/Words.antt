@@ -1,5 +1,5 @@
 -- A text read byte by byte, and the control ports of a table: laws as the needs ask them. Assumes nothing.
-use Prim.Native.Nat.{ℕ, zero, suc, _+_, _-_, _*_, _≤_, _<_, _^_}
+use Prim.Native.Nat.{ℕ, suc, _+_, _-_, _*_, _≤_, _<_, _^_}
 use native.Mathlib.Omega.{arith}
 use mathlib.Core.Path.{_≡_, refl, sym, ap, _∙_}
 use mathlib.Core.Bool.{Bool, true, false, cond, _&&_, not}
@@ -20,6 +20,7 @@ use Rattle.names.specs.Name.{nameOf, stepOf}
 use Rattle.names.specs.declared.name.Name.{Name}
 use Rattle.names.specs.declared.name.Step.{Step}
 use Rattle.names.specs.declared.name.Step.the-variants.{Byte, End}
+use Rattle.names.specs.Laws.{shorter}
 use Rattle.nametable.specs.Table.{rowName, namesFrom, tableNames, names-next, names-none}
 use Rattle.paths.specs.Sizes.{name-short}
 use Rattle.refs.specs.Text.{textOf, wholeRef}
@@ -27,11 +28,7 @@ use Rattle.refs.specs.Laws.{whole-is}
 use Rattle.refs.specs.declared.Ref.{Ref}
 use Rattle.model.specs.Records.{Control}
 use Rattle.model.specs.Commands.{controlsOf}
-use Rattle.conditions.specs.Controls.{lastSignal, signalAt, ControlSeen}
-
--- what is left is less
-pub name-less : (mem : Bytes) (x : Name) (p : Step) (b : ℕ) (u : Name) → nameOf mem x ≡ stepOf mem p → p ≡ Byte b u → length (nameOf mem u) < length (nameOf mem x)
-name-less mem x p b u e h = let z : nameOf mem x ≡ b ∷ nameOf mem u = e ∙ rw h in rw z (omega arith)
+use Rattle.conditions.specs.Controls.{lastSignal, signalAt, ControlSeen, controls-few}
 
 -- ---- the size of a word
 
@@ -65,7 +62,7 @@ module _ (mem : Bytes) (w : ℕ) (x : Name) (n : ℕ) (inv : Sizes mem w x n) (p
       pub size-step : Sizes mem w u (n + 1)
       size-step = record { keeps = omega (arith, size-more); small = inv .small }
 
-pub ruleset sizes = (needs, name-less, sizes-start, size-end, size-stop, size-fits, size-step)
+pub ruleset sizes = (needs, shorter, sizes-start, size-end, size-stop, size-fits, size-step)
 
 -- ---- a text without its first bytes
 
@@ -141,12 +138,6 @@ last-cons c cs port o = refl
 last-none : (port : Bytes) (o : Option Bytes) → lastSignal [] port o ≡ o
 unfolding lastSignal
 last-none port o = refl
-
-controls-few : (mem : Bytes) (table : List ℕ) (i k : ℕ) → k ≤ 1 → controlsOf (namesFrom mem table i k) ≡ []
-unfolding namesFrom
-controls-few mem table i zero h = refl
-controls-few mem table i (suc zero) h = refl
-controls-few mem table i (suc (suc k)) h = absurd (omega arith)
 
 module _ (mem : Bytes) (table : List ℕ) (n : ℕ) (port : Bytes) (found i : ℕ) (few : n ≤ 65536) (inv : Controls mem table n port found i) where
   pub control-index : i + 1 < 2 ^ 64

@@ -11,11 +11,12 @@ use Rattle.text.specs.Compare.{same}
 use Rattle.tcl.specs.Rewrite.{rewrite}
 use Rattle.joblines.specs.Lines.{no-module}
 use Rattle.names.specs.Name.{nameOf}
-use Rattle.nametable.specs.Table.{rowName, tableNames}
+use Rattle.nametable.specs.Table.{rowName, tableNames, namesFrom}
 use Rattle.model.specs.Records.{Control, no-records}
 use Rattle.model.specs.Commands.{controlsOf}
 use Rattle.texts.specs.Setting.{Setting, hier}
 use Rattle.texts.specs.Switches.{signalOf, wordMore, wordAt, wordText, pieceText, condition, unlessKnown, unknowns}
+use native.Mathlib.Omega.{arith}
 
 -- a setting that has the scope's names alone
 abbrev pub scopeSetting : List Bytes → Setting
@@ -78,3 +79,10 @@ unknowns-same s cs k [] = refl
 unknowns-same s cs zero (b ∷ t) =
     ap₂ (λ (o : Option Bytes) (l : List Bytes). cond (isVariable b) (unlessKnown o (wordAt (b ∷ t))) [] ++ l) (signal-same s cs (wordAt (b ∷ t)) none) (unknowns-same s cs (wordMore (b ∷ t)) t)
 unknowns-same s cs (suc k) (b ∷ t) = unknowns-same s cs k t
+
+-- less than a port and a signal is no control port
+pub controls-few : (mem : Bytes) (table : List ℕ) (i k : ℕ) → k ≤ 1 → controlsOf (namesFrom mem table i k) ≡ []
+unfolding namesFrom
+controls-few mem table i zero h = refl
+controls-few mem table i (suc zero) h = refl
+controls-few mem table i (suc (suc k)) h = absurd (omega arith)

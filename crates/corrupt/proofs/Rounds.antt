@@ -13,6 +13,7 @@ use borrow.Author.Needs.{needs}
 use borrow.Author.Tests.{eq-eqb, ne-eqb}
 use Rattle.text.specs.Ascii.{Bytes, byte}
 use Rattle.text.specs.Sames.{no-true}
+use Rattle.text.specs.Classes.{dotOf}
 use Rattle.out.specs.Emit.{_▸_, emit}
 use Rattle.jobindex.specs.Index.{num}
 use Rattle.jobindex.specs.Rows.{rows-length, rows-here}
@@ -20,8 +21,9 @@ use Rattle.names.specs.Name.{nameOf}
 use Rattle.names.specs.declared.name.Name.{Name}
 use Rattle.design.specs.Lists.{isIn, addAll}
 use Rattle.design.specs.Laws.{addAll-append}
-use Rattle.design.specs.Paths.{childPath, dotOf, dotted}
+use Rattle.design.specs.Paths.{childPath, dotted}
 use Rattle.walk.specs.Walk.{sumOver, retainedPaths}
+use Rattle.walk.specs.Retained.{length-dotted}
 use Rattle.paths.specs.Pieces.{stem, stem-child}
 use Rattle.listing.specs.declared.Walk.{Walk}
 use Rattle.listing.specs.Listing.{pathsOf, Within, Ready, Answer}
@@ -69,10 +71,6 @@ stem-by (x ∷ p) n h = rw (ne-eqb n 0 (λ z. omega (arith, h, z)))
 map-same : (f g : Bytes → Bytes) (l : List Bytes) → ((n : Bytes) → f n ≡ g n) → map f l ≡ map g l
 map-same f g [] h = refl
 map-same f g (x ∷ l) h = ap₂ _∷_ (h x) (map-same f g l h)
-
-length-dotted : (l : Bytes) → length (dotted l) ≡ length l
-length-dotted [] = refl
-length-dotted (x ∷ l) = ap suc (length-dotted l)
 
 module _ (mem : Bytes) (e : Name) (elen t : ℕ) (tail tail′ : Bytes) (u : ℕ) (st : Stemmed elen t tail tail′ u) (el : elen ≡ length (nameOf mem e)) (l : t ≤ length tail) where
   abbrev at-path : Bytes

@@ -74,7 +74,7 @@ when-true : {A : Type 0} (b : Bool) (x : A) {a : A} → when b x ≡ some a → 
 when-true true x e = (refl, cc)
 when-true false x e = let z : _≡_ {A = ℕ} 0 1 = cc in absurd (omega arith)
 
-no-some : {A : Type 0} {a : A} → _≡_ {A = Option A} none (some a) → ⊥
+pub no-some : {A : Type 0} {a : A} → _≡_ {A = Option A} none (some a) → ⊥
 no-some e = let z : _≡_ {A = ℕ} 0 1 = cc in absurd (omega arith)
 
 port-named : (s : Style) (fs : List Bytes) {p : Port} → portOf s fs ≡ some p → isName (p .name) ≡ true

@@ -3,7 +3,7 @@
 use Prim.Native.Nat.{ℕ, _≤_, _<_}
 use mathlib.Core.Path.{_≡_, refl, sym, ap, subst, _∙_}
 use mathlib.Core.Logic.{_⊎_, inl, inr, ⊎-elim, ⊎-map}
-use mathlib.Core.Bool.{Bool, true, false, cond, not, _||_}
+use mathlib.Core.Bool.{Bool, true, false, cond, _||_}
 use mathlib.Core.Option.{Option, none, some}
 use mathlib.Core.List.{List, [], _∷_, _++_, map, flatMap}
 use mathlib.Core.List.{List·Memᴰ as Mem, List·Memᴰ·head as here, List·Memᴰ·tail as there, List·Memᴰ·not-nil as not-nil, List·Memᴰ·cases-cons as cases-cons}
@@ -25,10 +25,6 @@ which false = inr refl
 
 pub not-both : {b : Bool} → b ≡ true → b ≡ false → ⊥
 not-both t f = no-true (sym f ∙ t)
-
-pub not-is-true : (b : Bool) → not b ≡ true → b ≡ false
-not-is-true true e = absurd (no-true e)
-not-is-true false e = refl
 
 pub le-or-lt : (a b : ℕ) → (a ≤ b) ⊎ (b < a)
 le-or-lt a b = ⊎-map (leb-true a b) (leb-false a b) (which (leb a b))

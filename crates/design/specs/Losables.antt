@@ -14,12 +14,13 @@ use Rattle.joblines.specs.Job.{Port, Decl, Inst, Module}
 use Rattle.design.specs.Lists.{onSome, those, isIn}
 use Rattle.design.specs.Lookup.{moduleNamed, instanceNamed, moduleAt}
 use Rattle.design.specs.Ports.{taken, directed, headerPorts, bodyPort, bodyPorts, isOutput, outputs, outputPorts, inputPorts, isSignal, signals, losable}
-use Rattle.design.specs.Laws.{not-is-true, isIn-out, out-isIn, map-mem, mem-flat, flat-mem, those-mem, mem-those, first-mem, some-of, addAll-new, addAll-inv}
+use Rattle.design.specs.Laws.{isIn-out, out-isIn, map-mem, mem-flat, flat-mem, those-mem, mem-those, first-mem, some-of, addAll-new, addAll-inv}
+use borrow.Author.Tests.{not-true}
 
 -- "Losable in a module: output ports, and `net` and `data` names with D 0; never a name that is also a non-output port."
 pub losable-iff : (m : Module) (n : Bytes) → Mem n (losable m) ↔ ((Mem n (outputPorts m) ⊎ Mem n (signals (m .decls))) × (Mem n (inputPorts m) → ⊥))
 losable-iff m n = (
-  λ h. let r = those-mem kept all h in (append-cases (outputPorts m) (r .0), isIn-out n (inputPorts m) (not-is-true (isIn n (inputPorts m)) (r .1))),
+  λ h. let r = those-mem kept all h in (append-cases (outputPorts m) (r .0), isIn-out n (inputPorts m) (not-true (isIn n (inputPorts m)) (r .1))),
   λ h. mem-those kept all (⊎-elim (λ o. on-left (signals (m .decls)) o) (λ s. on-right (outputPorts m) s) (h .0)) (ap not (out-isIn n (inputPorts m) (h .1))),
 )
   where

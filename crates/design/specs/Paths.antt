@@ -1,12 +1,11 @@
 -- Paths as they are written (document 01, "The walk and the glue"): of a module, of an element and of a retained entry below the scope.
 -- Assumes nothing.
-use Prim.Native.Nat.{ℕ}
-use mathlib.Core.Bool.{cond, not}
+use mathlib.Core.Bool.{not}
 use mathlib.Core.List.{List, [], _∷_, _++_, map, flatMap}
-use lib.Dec.{eqb}
 use Rattle.text.specs.Ascii.{Bytes, byte}
 use Rattle.text.specs.Compare.{same}
 use Rattle.text.specs.Scan.{splitAt}
+use Rattle.text.specs.Classes.{dotOf}
 use Rattle.design.specs.Lists.{those}
 
 -- "parted by dots; what is empty altogether adds no dot": a name below a path
@@ -20,9 +19,6 @@ scopePath [] = []
 scopePath (n ∷ ns) = n ++ flatMap (λ (m : Bytes). byte "." ∷ m) ns
 
 -- "the element with `/` as `.`"
-abbrev pub dotOf : ℕ → ℕ
-dotOf b = cond (eqb b (byte "/")) (byte ".") b
-
 abbrev pub dotted : Bytes → Bytes
 dotted e = map dotOf e
 

@@ -8,7 +8,7 @@ use mathlib.Core.Option.{Option, none, some}
 use lib.ListN.{length}
 use Rattle.text.specs.Ascii.{Bytes, ascii}
 use Rattle.spans.specs.Span.{_⋯_, pairs}
-use Rattle.spans.specs.Reach.{lastOf, reach}
+use Rattle.spans.specs.Reach.{lastOf, reach, none-reach}
 use Rattle.spans.specs.declared.span.Span.{Span}
 use Rattle.spans.specs.declared.span.Found.{Found}
 use Rattle.tcl.specs.Arguments.{optionOf, hasFlag, nameOf}
@@ -33,7 +33,7 @@ use Rattle.store.specs.declared.state.State.{State}
 use Rattle.made.specs.declared.Made.{Made}
 use Rattle.made.specs.Made.{fineMade, fullMade, reachOf, Ready, Kept, Did}
 use Rattle.made.specs.Dids.{kept-all, one-fits, one-over, did-fine, did-full}
-use Rattle.made.specs.Asked.{list-found, found-by, none-reach}
+use Rattle.made.specs.Asked.{list-found, found-by}
 
 -- the domain that the words name, in a scope
 unfoldable pub newDomain : Bytes → List Bytes → Domainʳ

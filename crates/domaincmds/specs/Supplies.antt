@@ -11,7 +11,7 @@ use Rattle.text.specs.Ascii.{Bytes, ascii}
 use Rattle.text.specs.Compare.{same}
 use Rattle.out.specs.Fill.{format1}
 use Rattle.spans.specs.Span.{pairs}
-use Rattle.spans.specs.Reach.{lastOf, reach}
+use Rattle.spans.specs.Reach.{lastOf, reach, none-reach}
 use Rattle.spans.specs.declared.span.Span.{Span}
 use Rattle.spans.specs.declared.span.Found.{Found}
 use Rattle.tcl.specs.Arguments.{optionOf, nameOf}
@@ -34,7 +34,7 @@ use Rattle.made.specs.declared.Made.{Made}
 use Rattle.made.specs.Made.{fineMade, warnedMade, reachOf, Ready, Did}
 use Rattle.made.specs.Dids.{did-warn}
 use Rattle.made.specs.Done.{did-state, below-found}
-use Rattle.made.specs.Asked.{below-by, none-reach}
+use Rattle.made.specs.Asked.{below-by}
 use Rattle.made.specs.Firsts.{first-map}
 
 -- whether a stored domain has the name

@@ -13,9 +13,10 @@ use Rattle.model.specs.Records.{Isolation as Isolationʳ}
 use Rattle.store.specs.Strings.{string}
 use Rattle.store.specs.declared.stored.Stored.{Stored}
 use Rattle.store.specs.declared.state.Isolations.{Isolations}
-use Rattle.storedtexts.specs.Stored.{storedName, stored-is}
 use Rattle.checks.specs.Sorted.{Sorts, Found, Known, checkText}
 use Rattle.domainglue.specs.Glue.{glueText, OfGlue}
+use Rattle.clamps.specs.Values.{storedName}
+use Rattle.clamps.specs.Laws.{stored-is}
 
 pub glue-sorts : (mem : Bytes) (t : Isolations) (ports : List ℕ) (n : ℕ) (found : List ℕ) → OfGlue mem t ports n → 256 ≤ length found → Sorts mem t ports n found
 glue-sorts mem t ports n found g h = record { ruled = g .ruled; sized = g .sized; room = h }

@@ -15,9 +15,9 @@ use Rattle.tcl.specs.Lists.{list}
 use Rattle.names.specs.Scoped.{scoped}
 use Rattle.names.specs.Name.{named, nameOf}
 use Rattle.names.specs.declared.name.Name.{Name}
+use Rattle.names.specs.Frame.{alone-is}
 use Rattle.nametable.specs.Table.{rowPut, tableNames, Stores, put-names, names-none}
 use Rattle.listnames.specs.Lists.{Rooms, Listed}
-use Rattle.listnames.specs.Inside.{named-alone}
 use Rattle.design.specs.Lists.{those}
 use Rattle.store.specs.Strings.{string, spanOf}
 use Rattle.store.specs.View.{listBelow, domainOf}
@@ -103,7 +103,7 @@ module _ (files area : Bytes) (d : Domain) (table : List ℕ) (g : OfDomain file
       unfolding domainOf
       domain-whole table₂ e =
           let x = named (0 ⋯ 0) false (spanOf (d .scope)) 0 in
-          let z : nameOf (files ++ area) x ≡ string (files ++ area) (d .scope) = named-alone (files ++ area) (spanOf (d .scope)) 0 in
+          let z : nameOf (files ++ area) x ≡ string (files ++ area) (d .scope) = alone-is (files ++ area) (spanOf (d .scope)) 0 in
           let m = listBelow (files ++ area) (d .scope) (d .elements) in
           let k : length (m ++ (string (files ++ area) (d .scope) ∷ [])) ≡ n + 1 = length-append m (string (files ++ area) (d .scope) ∷ []) ∙ omega (arith, many, length-map (list (string (files ++ area) (d .elements))) (scoped (string (files ++ area) (d .scope)))) in
           rw h (record {

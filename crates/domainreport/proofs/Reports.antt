@@ -19,11 +19,12 @@ use Rattle.store.specs.Strings.{spanOf, string, belowOf}
 use Rattle.store.specs.declared.stored.Stored.{Stored}
 use Rattle.store.specs.declared.stored.Below.{Below}
 use Rattle.store.specs.declared.state.Retentions.{Retentions}
-use Rattle.storedtexts.specs.Stored.{storedName, stored-is}
 use Rattle.domainlists.specs.Lists.{allEntries, ownEntries, OfRetentions, Names}
 use Rattle.domainlists.specs.Own.{own-less}
 use Rattle.domainline.specs.Lines.{poweredText, unpoweredText}
 use Rattle.domainreport.specs.Reports.{OfReport}
+use Rattle.clamps.specs.Values.{storedName}
+use Rattle.clamps.specs.Laws.{stored-is}
 
 pub below-is : (mem : Bytes) (b : Below) (p q : Span) (r : Name) → Makes mem p q 0 r → p ≡ spanOf (b .scope) → q ≡ spanOf (b .word) → nameOf mem r ≡ belowOf mem b
 below-is mem b p q r m ep eq = m .is ∙ rw (ep, eq)

@@ -3,7 +3,7 @@ use Prim.Native.Nat.{ℕ, zero, suc, _+_, _-_, _*_, _≤_, _<_, _^_}
 use mathlib.Core.Path.{_≡_, refl, sym, ap, _∙_}
 use mathlib.Core.Bool.{Bool, true, false, cond, not}
 use mathlib.Core.Option.{Option, none, some}
-use mathlib.Core.List.{List, [], _∷_, _++_, map, flatMap, append-nil, append-assoc}
+use mathlib.Core.List.{List, [], _∷_, _++_, map, flatMap, append-nil}
 use native.Mathlib.Omega.{arith}
 use lib.ListN.{length, take, drop, getD, length-append}
 use borrow.Author.Needs.{needs}
@@ -21,6 +21,7 @@ use Rattle.design.specs.Lists.{onSome, those}
 use Rattle.design.specs.Lookup.{moduleAt}
 use Rattle.design.specs.Paths.{filledParts}
 use Rattle.texts.specs.Texts.{warningLine}
+use Rattle.texts.specs.Laws.{each-append}
 use Rattle.store.specs.Strings.{string}
 use Rattle.store.specs.View.{domainOf}
 use Rattle.store.specs.Order.{ofDomain}
@@ -33,9 +34,10 @@ use Rattle.store.specs.declared.state.Domain.{Domain}
 use Rattle.store.specs.declared.state.Domains.{Domains}
 use Rattle.made.specs.Made.{reachOf}
 use Rattle.setting.specs.Orders.{holds-few, holds-long, holds-at, holds-next, holds-end}
-use Rattle.storedtexts.specs.Stored.{storedName, stored-is}
 use Rattle.domainlists.specs.Lists.{OfDomain, Names}
 use Rattle.domainwarnings.specs.Missing.{isThere, missingText, missing, remarks, Told, OfElements, OfDomains}
+use Rattle.clamps.specs.Values.{storedName}
+use Rattle.clamps.specs.Laws.{stored-is}
 
 -- ---- one element
 
@@ -87,15 +89,10 @@ pub record Left (w : Out) (total : ℕ) (ws : List Bytes) (o : Out) (n : ℕ) : 
   pub text : emit o (each warningLine ws) ≡ w
   pub count : n + length ws ≡ total
 
-each-append : (xs ys : List Bytes) → each warningLine (xs ++ ys) ≡ each warningLine xs ++ each warningLine ys
-unfolding each
-each-append [] ys = refl
-each-append (x ∷ xs) ys = rw (each-append xs ys, append-assoc)
-
 left-step : (w : Out) (total : ℕ) (xs ws : List Bytes) (most : ℕ) (o : Out) (n : ℕ) (o′ : Out) (n′ : ℕ) → Left w total (xs ++ ws) o n → Told most o n xs o′ n′ → Left w total ws o′ n′
 left-step w total xs ws most o n o′ n′ inv t =
     record {
-      text = rw (t .text) (sym (emit-append o (each warningLine xs) (each warningLine ws)) ∙ (ap (emit o) (sym (each-append xs ws)) ∙ inv .text));
+      text = rw (t .text) (sym (emit-append o (each warningLine xs) (each warningLine ws)) ∙ (ap (emit o) (sym (each-append warningLine xs ws)) ∙ inv .text));
       count = omega (arith, inv .count, t .count, length-append xs ws);
     }
 

@@ -1,13 +1,13 @@
 -- The first byte of an entry and what is left of it: laws as the needs ask them. Assumes nothing.
 use Prim.Native.Nat.{ℕ, _+_, _≤_, _<_}
-use mathlib.Core.Path.{_≡_, refl, sym, ap, _∙_}
+use mathlib.Core.Path.{_≡_, refl, ap, _∙_}
 use mathlib.Core.Bool.{Bool, true, false, cond, not, _&&_}
 use mathlib.Core.List.{[], _∷_}
 use native.Mathlib.Omega.{arith}
 use lib.Dec.{eqb}
 use lib.ListN.{length, drop, getD}
 use borrow.Author.Needs.{needs}
-use borrow.Author.Tests.{eq-eqb, ne-eqb}
+use borrow.Author.Tests.{eq-eqb, ne-eqb, not-true, not-false}
 use Rattle.text.specs.Ascii.{Bytes, byte}
 use Rattle.spans.specs.Span.{bytes, gotOf}
 use Rattle.spans.specs.declared.span.Span.{Span}
@@ -139,14 +139,6 @@ module _ (quoted : Bool) (w : Bytes) where
     entry-next : (c : ℕ) (x : Bytes) → quoted ≡ true → b ≡ byte "\\" → join u ≡ c ∷ join x → entryBytes quoted w ≡ c ∷ entryBytes quoted x
     entry-next c x z h g = rw (z, e, g) (keep-next b c (join x) h)
 
-not-false : (t : Bool) → not t ≡ true → t ≡ false
-not-false true e = sym e
-not-false false e = refl
-
-not-true : (t : Bool) → not t ≡ false → t ≡ true
-not-true true e = refl
-not-true false e = sym e
-
 module _ (mem : Bytes) (quoted : Bool) (w : Bytes) (p : Got) (f : join w ≡ joinGot mem p) where
   pub got-none : p ≡ No → entryBytes quoted w ≡ []
   got-none h = entry-none quoted w (rw h at f)
@@ -156,17 +148,17 @@ module _ (mem : Bytes) (quoted : Bool) (w : Bytes) (p : Got) (f : join w ≡ joi
     head = rw h at f
 
     pub got-raw : not quoted ≡ true → entryBytes quoted w ≡ b ∷ entryBytes quoted (bytes mem t)
-    got-raw z = entry-raw quoted w b (bytes mem t) head (not-false quoted z)
+    got-raw z = entry-raw quoted w b (bytes mem t) head (not-true quoted z)
 
     pub got-plain : not quoted ≡ false → (b ≡ byte "\\" → ⊥) → entryBytes quoted w ≡ b ∷ entryBytes quoted (bytes mem t)
-    got-plain z g = entry-plain quoted w b (bytes mem t) head (not-true quoted z) g
+    got-plain z g = entry-plain quoted w b (bytes mem t) head (not-false quoted z) g
 
     module _ (q : Got) (k : join (bytes mem t) ≡ joinGot mem q) (z : not quoted ≡ false) where
       pub got-last : q ≡ No → entryBytes quoted w ≡ b ∷ entryBytes quoted (bytes mem t)
-      got-last g = entry-last quoted w b (bytes mem t) head (not-true quoted z) (rw g at k)
+      got-last g = entry-last quoted w b (bytes mem t) head (not-false quoted z) (rw g at k)
 
       pub got-next : (c : ℕ) (u : Span) → q ≡ Yes c u → b ≡ byte "\\" → entryBytes quoted w ≡ c ∷ entryBytes quoted (bytes mem u)
-      got-next c u g l = entry-next quoted w b (bytes mem t) head c (bytes mem u) (not-true quoted z) l (rw g at k)
+      got-next c u g l = entry-next quoted w b (bytes mem t) head c (bytes mem u) (not-false quoted z) l (rw g at k)
 
 pub ruleset gots = (needs, got-none, got-raw, got-plain, got-last, got-next)
 
@@ -178,15 +170,15 @@ module _ (raw : Bytes) (i : ℕ) (quoted : Bool) where
 
   module _ (n b : ℕ) (e : n ≡ joint (drop i raw)) (g : b ≡ joinedBy n (getD raw i 0)) (h : i < length raw) where
     pub next-raw : not quoted ≡ true → entryBytes quoted (drop i raw) ≡ b ∷ entryBytes quoted (drop (i + 1 + n) raw)
-    next-raw z = entry-raw quoted (drop i raw) b (drop (i + 1 + n) raw) (join-here raw i n b e g h) (not-false quoted z)
+    next-raw z = entry-raw quoted (drop i raw) b (drop (i + 1 + n) raw) (join-here raw i n b e g h) (not-true quoted z)
 
     pub next-plain : not quoted ≡ false → (b ≡ byte "\\" → ⊥) → entryBytes quoted (drop i raw) ≡ b ∷ entryBytes quoted (drop (i + 1 + n) raw)
-    next-plain z l = entry-plain quoted (drop i raw) b (drop (i + 1 + n) raw) (join-here raw i n b e g h) (not-true quoted z) l
+    next-plain z l = entry-plain quoted (drop i raw) b (drop (i + 1 + n) raw) (join-here raw i n b e g h) (not-false quoted z) l
 
     pub next-last : not quoted ≡ false → length raw ≤ i + 1 + n → entryBytes quoted (drop i raw) ≡ b ∷ entryBytes quoted (drop (i + 1 + n) raw)
-    next-last z l = entry-last quoted (drop i raw) b (drop (i + 1 + n) raw) (join-here raw i n b e g h) (not-true quoted z) (join-end raw (i + 1 + n) l)
+    next-last z l = entry-last quoted (drop i raw) b (drop (i + 1 + n) raw) (join-here raw i n b e g h) (not-false quoted z) (join-end raw (i + 1 + n) l)
 
     pub next-next : (m c : ℕ) → m ≡ joint (drop (i + 1 + n) raw) → c ≡ joinedBy m (getD raw (i + 1 + n) 0) → not quoted ≡ false → b ≡ byte "\\" → i + 1 + n < length raw → entryBytes quoted (drop i raw) ≡ c ∷ entryBytes quoted (drop (i + 1 + n + 1 + m) raw)
-    next-next m c d k z y l = entry-next quoted (drop i raw) b (drop (i + 1 + n) raw) (join-here raw i n b e g h) c (drop (i + 1 + n + 1 + m) raw) (not-true quoted z) y (join-here raw (i + 1 + n) m c d k l)
+    next-next m c d k z y l = entry-next quoted (drop i raw) b (drop (i + 1 + n) raw) (join-here raw i n b e g h) c (drop (i + 1 + n + 1 + m) raw) (not-false quoted z) y (join-here raw (i + 1 + n) m c d k l)
 
 pub ruleset nexts = (needs, next-none, next-raw, next-plain, next-last, next-next)

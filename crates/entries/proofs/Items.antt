@@ -21,6 +21,7 @@ use Rattle.tcl.specs.Join.{joint, joinedBy, join}
 use Rattle.tcl.specs.Words.{Word, braced, quoted, bracketed, plain, Kind, kindOf, sizeOf, wordsOf, span, inside, quoteSize}
 use Rattle.tcl.specs.Substitution.{known, lookup, pieceMore, pieceName, image, substitute, unescape, value, values}
 use Rattle.tcl.specs.Lists.{list}
+use Rattle.tcl.specs.Machines.{word-kind}
 use Rattle.entries.specs.Entry.{entryBytes, firstAfter, wordsLeft, entriesLeft}
 use Rattle.entries.specs.Together.{list-is}
 use Rattle.entries.specs.Loops.{list-short, one-more, entry-less}
@@ -39,30 +40,6 @@ unknown (x ∷ n) = refl
 
 as-written : (w : Bytes) → substitute [] w ≡ w
 as-written w = rewrite-same pieceMore (image []) (λ s. rw (unknown (pieceName s))) 0 w
-
--- ---- what begins with a byte that ends no plain word
-
-word-kind : (x : ℕ) → endsPlain x ≡ false → kindOf false x ≡ cond (eqb x (byte "{")) Kind.brace (cond (eqb x (byte "\"")) Kind.quote (cond (eqb x (byte "[")) Kind.bracket Kind.other))
-unfolding kindOf
-word-kind x h =
-    go (within 9 13 x) (eqb x 32) (eqb x (byte ";")) (eqb x (byte "\n")) (λ e. space x e) h
-  where
-    -- LF is white space
-    space : (x : ℕ) → eqb x (byte "\n") ≡ true → within 9 13 x ≡ true
-    space x e = let g : x ≡ 10 = eqb-true x 10 e in rw g
-
-    go : (a b c d : Bool) → (d ≡ true → a ≡ true) → (a || b) || c ≡ false
-        → cond (d || c) Kind.ends (cond (a || b) Kind.blank (cond (eqb x (byte "#") && false) Kind.comment (cond (eqb x (byte "{")) Kind.brace (cond (eqb x (byte "\"")) Kind.quote (cond (eqb x (byte "[")) Kind.bracket Kind.other)))))
-        ≡ cond (eqb x (byte "{")) Kind.brace (cond (eqb x (byte "\"")) Kind.quote (cond (eqb x (byte "[")) Kind.bracket Kind.other))
-    go true b c d e g = absurd (no-true (sym g))
-    go false true c d e g = absurd (no-true (sym g))
-    go false false true d e g = absurd (no-true (sym g))
-    go false false false true e g = absurd (no-true (e refl))
-    go false false false false e g = hash (eqb x (byte "#"))
-      where
-        hash : (t : Bool) → cond (t && false) Kind.comment (cond (eqb x (byte "{")) Kind.brace (cond (eqb x (byte "\"")) Kind.quote (cond (eqb x (byte "[")) Kind.bracket Kind.other))) ≡ cond (eqb x (byte "{")) Kind.brace (cond (eqb x (byte "\"")) Kind.quote (cond (eqb x (byte "[")) Kind.bracket Kind.other))
-        hash true = refl
-        hash false = refl
 
 -- ---- a step of the reading
 

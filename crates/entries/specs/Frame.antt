@@ -4,18 +4,14 @@ use mathlib.Core.Path.{_≡_, ap}
 use mathlib.Core.Bool.{Bool}
 use mathlib.Core.List.{List}
 use native.Mathlib.Omega.{arith}
-use lib.ListN.{length, take, length-take}
+use lib.ListN.{take}
 use Rattle.text.specs.Ascii.{Bytes}
 use Rattle.spans.specs.Span.{_⋯_, bytes}
-use Rattle.spans.specs.Frame.{inner, bytes-same}
+use Rattle.spans.specs.Frame.{inner, bytes-same, size-in}
 use Rattle.spans.specs.declared.span.Span.{Span}
 use Rattle.entries.specs.Entry.{entryBytes}
 use Rattle.entries.specs.View.{Finds}
 use Rattle.entries.specs.declared.item.Item.the-variants.{Entry}
-
-size-in : (mem : Bytes) (w : Span) → length (bytes mem w) ≤ w .len
-unfolding bytes
-size-in mem w = rw length-take (omega arith)
 
 -- an entry that lies within the value, which is the string w: the same bytes stand in the list that the value lies in
 module _ (mem : Bytes) (w : Span) (t : List Bytes) (s : Span) (q : Bool) (n : ℕ) (f : Finds (bytes mem w) t (Entry s q n)) where

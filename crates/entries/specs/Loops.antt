@@ -12,9 +12,9 @@ use Rattle.tcl.specs.Join.{join}
 use Rattle.tcl.specs.Words.{Kind, kindOf, sizeOf, wordsOf}
 use Rattle.tcl.specs.Substitution.{value}
 use Rattle.tcl.specs.Lists.{list}
+use Rattle.tcl.specs.Rewrites.{join-short}
 use Rattle.entries.specs.Entry.{entryBytes, firstAfter, wordsLeft, entriesLeft}
 use Rattle.entries.specs.Together.{list-is}
-use Rattle.entries.specs.Raw.{join-short}
 use Rattle.entries.specs.View.{Finds}
 use Rattle.entries.specs.declared.item.Item.{Item}
 use Rattle.entries.specs.declared.item.Item.the-variants.{Entry, None}
@@ -40,7 +40,7 @@ few (suc k) f (x ∷ xs) = let h : length (wordsLeft k f xs) ≤ length xs = few
 
 -- a value has at most as many entries as bytes
 pub list-short : (v : Bytes) → length (list v) ≤ length v
-list-short v = rw (list-is v) (omega (arith, length-map (wordsLeft 0 true (join v)) (value []), few 0 true (join v), join-short 0 v))
+list-short v = rw (list-is v) (omega (arith, length-map (wordsLeft 0 true (join v)) (value []), few 0 true (join v), join-short v))
 
 -- an answer read: the entry and what is left, one less; or nothing
 module _ (v : Bytes) (t : List Bytes) (r : Item) (h : Finds v t r) where

@@ -121,10 +121,3 @@ raw-more (suc k) s =
     let d : drop (raw k (drop (suc (joint s)) s)) (drop (suc (joint s)) s) ≡ drop (suc (joint s) + raw k (drop (suc (joint s)) s)) s = drop-drop (raw k (drop (suc (joint s)) s)) (suc (joint s)) s in
     let q : suc (joint s) + raw k (drop (suc (joint s)) s) ≡ suc (joint s + raw k (drop (suc (joint s)) s)) = omega arith in
     rw (raw-more k (drop (suc (joint s)) s), d, q) (omega arith)
-
--- joining never lengthens
-pub join-short : (k : ℕ) (s : Bytes) → length (rewrite joint joined k s) ≤ length s
-unfolding rewrite
-join-short k [] = omega arith
-join-short zero (x ∷ xs) = let h : length (rewrite joint joined (joint (x ∷ xs)) xs) ≤ length xs = join-short (joint (x ∷ xs)) xs in omega arith
-join-short (suc k) (x ∷ xs) = let h : length (rewrite joint joined k xs) ≤ length xs = join-short k xs in omega arith

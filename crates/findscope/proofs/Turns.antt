@@ -1,19 +1,19 @@
 -- The way written name by name; the scope by the override, by a type, by the design top.
 -- Assumes nothing.
 use mathlib.Core.Path.{_≡_, refl, ap, _∙_, sym}
-use Prim.Native.Nat.{ℕ, zero, suc, _+_, _-_, _<_, _≤_}
+use Prim.Native.Nat.{ℕ, suc, _+_, _-_, _<_, _≤_}
 use native.Mathlib.Numerals.{add-one}
 use native.Mathlib.Omega.{arith}
 use mathlib.Core.Bool.{Bool, true, false, not}
 use mathlib.Core.List.{List, [], _∷_, _++_}
-use mathlib.Core.Option.{Option, none, some}
+use mathlib.Core.Option.{Option, some}
 use lib.ListN.{length, take, drop, getD, drop-of-length-le, length-take, length-drop, length-append, length-map}
 use lib.Seq.{drop-cons, take-at, drop-at}
 use borrow.Author.Needs.{needs}
-use borrow.Author.Tests.{ltb-true, ltb-false, le-leb, lt-leb}
+use borrow.Author.Tests.{ltb-true, ltb-false, le-leb, lt-leb, not-false, not-true}
 use Rattle.text.specs.Ascii.{Bytes, ascii}
 use Rattle.text.specs.Compare.{same}
-use Rattle.text.specs.Sames.{no-true, differ, same-refl}
+use Rattle.text.specs.Sames.{differ, same-refl}
 use Rattle.out.specs.Emit.{Out, _▸_, emit}
 use Rattle.out.specs.Fits.{emit-fits}
 use Rattle.out.specs.Items.{joined, rest, unless, join-next, join-done}
@@ -25,12 +25,11 @@ use Rattle.jobindex.specs.Index.{moduleRow, jobOf}
 use Rattle.jobindex.specs.declared.Header.{Header}
 use Rattle.jobindex.specs.declared.Span.{Span}
 use Rattle.design.specs.AcceptedNames.{AllNamed, accepted-names}
-use Rattle.design.specs.Laws.{not-is-true}
 use Rattle.design.specs.Limits.{most-calls}
 use Rattle.design.specs.Lookup.{moduleAt}
 use Rattle.design.specs.Search.{searchType, callsMade}
 use Rattle.lines.specs.Cursors.{spanned}
-use Rattle.lookup.specs.Rows.{modules, rowIs, ModuleSeen, at-none}
+use Rattle.lookup.specs.Rows.{modules, rowIs, ModuleSeen, at-none, row-none, row-some}
 use Rattle.corrupt.specs.RowMem.{row-mem}
 use Rattle.search.specs.declared.Found.{Found}
 use Rattle.search.specs.Found.{wayFrom, way, Searched}
@@ -89,19 +88,6 @@ module _ (job : Bytes) (head : Header) (way : Bytes) (r : ScopeAt) (t : Bytes) w
 pub ruleset pathTexts = (needs, text-way, text-over)
 
 -- ---- answers
-not-left : (b : Bool) → not b ≡ false → b ≡ true
-not-left true e = refl
-not-left false e = absurd (no-true (sym e))
-
-row-none : (job : Bytes) (index : List ℕ) → rowIs job index 0 ≡ none
-unfolding rowIs
-row-none job index = refl
-
-row-some : (job : Bytes) (index : List ℕ) (q : ℕ) → (q ≡ 0 → ⊥) → rowIs job index q ≡ some (moduleRow job index (q - 1))
-unfolding rowIs
-row-some job index zero h = absurd (h refl)
-row-some job index (suc q) h = let z : suc q - 1 ≡ q = omega arith in rw z
-
 module _ (job : Bytes) (index : List ℕ) (head : Header) (ok : Taken job index head) where
   abbrev d : List Module
   d = modules job index (head .modules)
@@ -165,11 +151,11 @@ module _ (job : Bytes) (index : List ℕ) (head : Header) (ok : Taken job index 
           rw (le-leb (callsMade d m kind) most-calls (omega arith), s .way-is h)
 
       pub type-none : (r : ScopeAt) → r ≡ refusedBy 11 → not (f .found) ≡ true → Told job index head typed r
-      type-none r e g = told typed 11 r e (λ way. rw (path-is, not-is-true (f .found) g))
+      type-none r e g = told typed 11 r e (λ way. rw (path-is, not-true (f .found) g))
 
       module _ (u : not (f .found) ≡ false) (q : ℕ) (seen : ModuleSeen job index (head .modules) (moduleAt d m (wayFrom job 0 f)) q) where
         g : f .found ≡ true
-        g = not-left (f .found) u
+        g = not-false (f .found) u
 
         typed-is : typed ≡ existing (wayFrom job 0 f) (rowIs job index q)
         typed-is = rw (path-is, g, seen .says)

@@ -19,7 +19,7 @@ use Rattle.out.specs.Items.{behind, joined}
 use Rattle.fields.specs.Fields.{isName}
 use Rattle.fields.specs.Names.{name-bytes, name-some, name-short}
 use Rattle.joblines.specs.Job.{Inst, Module}
-use Rattle.design.specs.AcceptedNames.{Named, AllNamed}
+use Rattle.design.specs.AcceptedNames.{Named, AllNamed, no-some}
 use Rattle.design.specs.Laws.{first-mem}
 use Rattle.design.specs.Lists.{onSome}
 use Rattle.design.specs.Lookup.{moduleNamed}
@@ -28,9 +28,6 @@ use Rattle.texts.specs.Scope.{overrideParts}
 use Rattle.scope.specs.Parts.{separates, no-parts, parts-skip, parts-word}
 
 -- ---- the names of a way
-
-no-some : {A : Type 0} {a : A} → _≡_ {A = Option A} none (some a) → ⊥
-no-some e = let z : _≡_ {A = ℕ} 0 1 = cc in absurd (omega arith)
 
 -- every one is a NAME
 abbrev pub AllNames : List Bytes → Type 0

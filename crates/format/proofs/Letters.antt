@@ -1,23 +1,18 @@
 -- The letters of a template, as the writers ask them: o′ is what the one call of a way left. Assumes nothing.
-use Prim.Native.Nat.{ℕ, _-_, _≤_}
+use Prim.Native.Nat.{ℕ, _-_}
 use mathlib.Core.Path.{_≡_, refl, sym, ap, _∙_}
 use mathlib.Core.Bool.{Bool, true, false, cond}
 use mathlib.Core.List.{List, [], _∷_, _++_}
-use lib.Dec.{eqb, leb}
+use lib.Dec.{eqb}
 use borrow.Author.Needs.{needs}
-use borrow.Author.Tests.{leb-true}
 use Rattle.text.specs.Ascii.{Bytes}
 use Rattle.text.specs.Classes.{within}
-use Rattle.text.specs.Sames.{both}
 use Rattle.out.specs.Emit.{Out, emit}
 use Rattle.out.specs.Bytewise.{flat, becomes, mangle, dotted, svStr, flat-same}
 use Rattle.out.specs.Fill.{pick, arg, fill}
 use Rattle.format.specs.Args.{argOf, letters, pickArg, fixedArg}
 use Rattle.format.specs.Laws.{empty-arg}
 use Rattle.format.specs.declared.arg.Arg.{Arg}
-
-pub low : (lo hi k : ℕ) → within lo hi k ≡ true → lo ≤ k
-low lo hi k t = leb-true lo k (both (leb lo k) (leb k hi) t .0)
 
 module _ (job mem : Bytes) (scope : List Bytes) (top : Bytes) (a b c d e : Arg) where
   pick-arg : (k : ℕ) → argOf job mem scope top (pickArg k a b c d e) ≡ pick k (argOf job mem scope top a) (argOf job mem scope top b) (argOf job mem scope top c) (argOf job mem scope top d) (argOf job mem scope top e)

@@ -1,12 +1,12 @@
--- Laws: the invariant when a command begins, when its entries are counted, and behind a load. Assumes nothing.
+-- Laws: the invariant when a command begins, when its entries are counted, and behind a load; the records in the whole area. Assumes nothing.
 use Prim.Native.Nat.{ℕ, _+_, _-_, _*_, _≤_, _<_, _^_}
 use native.Mathlib.Omega.{arith}
 use mathlib.Core.Path.{_≡_, refl, sym, ap, _∙_}
 use mathlib.Core.List.{List, [], _∷_, _++_}
 use lib.ListN.{length, take, drop, length-take, length-append}
-use lib.Seq.{take-take, length-take-le}
+use lib.Seq.{take-take, length-take-le, take-all}
 use Rattle.text.specs.Ascii.{Bytes}
-use Rattle.spans.specs.Frame.{known-grows}
+use Rattle.spans.specs.Frame.{known-grows, known-front}
 use Rattle.model.specs.Records.{Model}
 use Rattle.store.specs.View.{Store, modelOf}
 use Rattle.store.specs.Order.{Shaped, Bounded, endOf}
@@ -133,3 +133,15 @@ lent-two o m a₀ a₁ a₂ n₀ n₁ n₂ h v w =
       low = w .low ∙ v .low;
       high = w .high ∙ v .high;
     }
+
+-- ---- the records in the whole area
+module _ (files area nums : List ℕ) (s : State) (v : Held files area nums 0 s) where
+  pub end-low : s .fill .end ≤ length area
+  end-low = omega (arith, v .end, v .substituted, v .scopes, v .lends .area-long)
+
+  -- what lies behind the memory that is used changes no record
+  pub whole-model : (log : Bytes) → modelOf (files ++ area) (storeOf nums s) s log ≡ modelAt files area nums s log
+  whole-model log =
+      let n = length files + s .fill .end in
+      let k : take n (memOf files area s) ≡ memOf files area s = take-all n (memOf files area s) (omega (arith, length-append files (take (s .fill .end) area), length-take (s .fill .end) area)) in
+      model-same n (memOf files area s) (files ++ area) (known-front files area (s .fill .end) ∙ sym k) (storeOf nums s) s log (bounded-ends (length files) n (storeOf nums s) s (v .bounded))

@@ -6,12 +6,11 @@ use mathlib.Core.Path.{_≡_, refl, sym, ap, _∙_}
 use mathlib.Core.Bool.{Bool, true, false}
 use mathlib.Core.List.{List, [], _++_}
 use lib.Dec.{eqb}
-use lib.ListN.{length, take, getD, length-append, length-take}
-use lib.Seq.{getD-take, take-all}
+use lib.ListN.{length, take, getD, length-append}
+use lib.Seq.{getD-take}
 use borrow.Author.Tests.{eqb-true}
 use Rattle.text.specs.Ascii.{Bytes}
 use Rattle.text.specs.Sames.{no-true}
-use Rattle.spans.specs.Frame.{known-front}
 use Rattle.spans.specs.Reach.{held-by}
 use Rattle.joblines.specs.Job.{Job}
 use Rattle.joblines.specs.Parse.{accepted, refused, parse}
@@ -20,7 +19,6 @@ use Rattle.jobindex.specs.Rows.{files-same, modules-same}
 use Rattle.jobindex.specs.declared.Header.{Header}
 use Rattle.read.specs.Reading.{reading}
 use Rattle.read.specs.Reading.Reading.{done}
-use Rattle.store.specs.Frame.{model-same}
 use Rattle.store.specs.Order.{ofMaybe}
 use Rattle.store.specs.Rows.{storeOf}
 use Rattle.store.specs.Strings.{spanOf}
@@ -31,8 +29,9 @@ use Rattle.store.specs.declared.stored.Maybe.the-variants.{Not, Given}
 use Rattle.made.specs.Made.{reachOf}
 use Rattle.readfacts.specs.Few.{Few}
 use Rattle.readfacts.specs.Kept.{reading-few, few-more}
-use Rattle.held.specs.Held.{memOf, modelAt, countedOf, readingOf, logOf as logRead, Held}
-use Rattle.held.specs.Grows.{bounded-more, bounded-ends}
+use Rattle.held.specs.Held.{modelAt, countedOf, readingOf, logOf as logRead, Held}
+use Rattle.held.specs.Grows.{bounded-more}
+use Rattle.held.specs.Laws.{end-low, whole-model}
 use Rattle.job.specs.Reader.{JobRead}
 use Rattle.job.specs.declared.Answer.{Answer}
 use Rattle.job.specs.declared.Answer.the-variants as answer
@@ -81,15 +80,6 @@ reading-is job nums head v = rw (v .start-is)
 
 -- ---- the records in the whole area
 module _ (files area nums : List ℕ) (s : State) (v : Held files area nums 0 s) where
-  ends-by : s .fill .end ≤ length area
-  ends-by = omega (arith, v .end, v .substituted, v .scopes, v .lends .area-long)
-
-  pub model-whole : (log : Bytes) → modelOf (files ++ area) (storeOf nums s) s log ≡ modelAt files area nums s log
-  model-whole log =
-      let n = length files + s .fill .end in
-      let k : take n (memOf files area s) ≡ memOf files area s = take-all n (memOf files area s) (omega (arith, length-append files (take (s .fill .end) area), length-take (s .fill .end) area)) in
-      model-same n (memOf files area s) (files ++ area) (known-front files area (s .fill .end) ∙ sym k) (storeOf nums s) s log (bounded-ends (length files) n (storeOf nums s) s (v .bounded))
-
   few-log : (log log′ : Bytes) (e : ℕ) → Few e (modelOf (files ++ area) (storeOf nums s) s log) → Few e (modelOf (files ++ area) (storeOf nums s) s log′)
   unfolding modelOf
   few-log log log′ e f = record { domains = f .domains; switches = f .switches; isolations = f .isolations; tables = f .tables; states = f .states; retained = f .retained }
@@ -97,13 +87,13 @@ module _ (files area nums : List ℕ) (s : State) (v : Held files area nums 0 s)
   pub held-orders : (j : Job) (log : Bytes) → reading j ≡ done (countedOf s) (modelAt files area nums s log) → Orders files area nums s
   held-orders j log e =
       let f : Few (s .count .entries) (modelAt files area nums s log) = reading-few j (countedOf s) (modelAt files area nums s log) e in
-      let g : Few 1024 (modelOf (files ++ area) (storeOf nums s) s log) = rw (model-whole log) (few-more (s .count .entries) 1024 (modelAt files area nums s log) (v .entries) f) in
+      let g : Few 1024 (modelOf (files ++ area) (storeOf nums s) s log) = rw (whole-model files area nums s v log) (few-more (s .count .entries) 1024 (modelAt files area nums s log) (v .entries) f) in
       record {
         small = omega (arith, v .lends .small, length-append files area);
         rows = omega (arith, v .rows, v .commands);
         words = omega (arith, v .words, v .shaped .switches .count, v .shaped .portstates .count);
         shaped = v .shaped;
-        bounded = bounded-more (reachOf (length files)) (length files + s .fill .end) (length (files ++ area)) (storeOf nums s) s (omega (arith, length-append files area, ends-by)) (v .bounded);
+        bounded = bounded-more (reachOf (length files)) (length files + s .fill .end) (length (files ++ area)) (storeOf nums s) s (omega (arith, length-append files area, end-low files area nums s v)) (v .bounded);
         few = few-log log [] 1024 g;
       }
 
@@ -112,7 +102,7 @@ module _ (files area nums : List ℕ) (s : State) (v : Held files area nums 0 s)
     where
       go : (t : Maybe) → ofMaybe (reachOf (length files)) t ≤ length files + s .fill .end → Whole (length files) t
       go Not h = tt
-      go (Given x) h = held-by (length files) (length files + s .fill .end) (spanOf x) (omega (arith, ends-by, v .lends .small)) h
+      go (Given x) h = held-by (length files) (length files + s .fill .end) (spanOf x) (omega (arith, end-low files area nums s v, v .lends .small)) h
 
 -- ---- a job that was refused
 pub stopped-read : (job files area : Bytes) (nums : List ℕ) (log₀ log : Bytes) (x n : ℕ) (r : Records) → refused x n ≡ parse job → Stops x n r → RecordsRead job files area nums log₀ log r
@@ -149,7 +139,7 @@ module _ (job : Bytes) (nums nums′ : List ℕ) (head : Header) (p : accepted (
     done-is = sym come ∙ rw z
 
     reads-is : intentOf job ≡ reads j (modelOf (files ++ area) (storeOf nums′ s) s text)
-    reads-is = intent-is ∙ (ap (afterReading j) done-is ∙ ap (reads j) (sym (model-whole files area nums′ s (w .held z) text)))
+    reads-is = intent-is ∙ (ap (afterReading j) done-is ∙ ap (reads j) (sym (whole-model files area nums′ s (w .held z) text)))
 
     log-is : logOf (intentOf job) ≡ text
     unfolding modelOf

@@ -1,20 +1,11 @@
 -- Laws: the strings of a strategy, each within a bound. Assumes nothing.
 use Prim.Native.Nat.{ℕ, _≤_, max}
-use native.Mathlib.Omega.{arith}
-use native.Mathlib.Nat.{le-trans}
+use native.Mathlib.Nat.{le-trans, max-le}
 use mathlib.Core.Path.{_≡_}
 use Rattle.store.specs.Order.{ofMaybe, ofIsolation}
 use Rattle.store.specs.declared.stored.Stored.{Stored}
 use Rattle.store.specs.declared.state.Isolation.{Isolation}
-
-both : (a b : ℕ) {n : ℕ} → a ≤ n → b ≤ n → max a b ≤ n
-both a b p q = omega arith
-
-first : (a b : ℕ) {n : ℕ} → max a b ≤ n → a ≤ n
-first a b h = omega arith
-
-rest : (a b : ℕ) {n : ℕ} → max a b ≤ n → b ≤ n
-rest a b h = omega arith
+use Rattle.store.specs.Frame.{max-first, max-rest}
 
 pub record Bounds (e : Stored → ℕ) (x : Isolation) (n : ℕ) : Type 0 where
   pub name : e (x .name) ≤ n
@@ -30,30 +21,30 @@ pub record Bounds (e : Stored → ℕ) (x : Isolation) (n : ℕ) : Type 0 where
 
 ten : (a b c d f g h i j k : ℕ) {n : ℕ} → a ≤ n → b ≤ n → c ≤ n → d ≤ n → f ≤ n → g ≤ n → h ≤ n → i ≤ n → j ≤ n → k ≤ n → max a (max b (max c (max d (max f (max g (max h (max i (max j k)))))))) ≤ n
 ten a b c d f g h i j k p0 p1 p2 p3 p4 p5 p6 p7 p8 p9 =
-    both a _ p0 (both b _ p1 (both c _ p2 (both d _ p3 (both f _ p4 (both g _ p5 (both h _ p6 (both i _ p7 (both j k p8 p9))))))))
+    max-le p0 (max-le p1 (max-le p2 (max-le p3 (max-le p4 (max-le p5 (max-le p6 (max-le p7 (max-le p8 p9))))))))
 
 pub all-bounds : (e : Stored → ℕ) (x : Isolation) (n : ℕ) → Bounds e x n → ofIsolation e x ≤ n
 all-bounds e x n b = ten (e (x .name)) (e (x .domain)) (ofMaybe e (x .applies)) (e (x .scope)) (e (x .elements)) (ofMaybe e (x .clamp)) (ofMaybe e (x .signal)) (ofMaybe e (x .sense)) (ofMaybe e (x .power)) (ofMaybe e (x .ground)) (b .name) (b .domain) (b .applies) (b .scope) (b .elements) (b .clamp) (b .signal) (b .sense) (b .power) (b .ground)
 
 pub bounds-of : (e : Stored → ℕ) (x : Isolation) (n : ℕ) → ofIsolation e x ≤ n → Bounds e x n
 bounds-of e x n h =
-    let h1 = rest (e (x .name)) _ h in
-    let h2 = rest (e (x .domain)) _ h1 in
-    let h3 = rest (ofMaybe e (x .applies)) _ h2 in
-    let h4 = rest (e (x .scope)) _ h3 in
-    let h5 = rest (e (x .elements)) _ h4 in
-    let h6 = rest (ofMaybe e (x .clamp)) _ h5 in
-    let h7 = rest (ofMaybe e (x .signal)) _ h6 in
-    let h8 = rest (ofMaybe e (x .sense)) _ h7 in
+    let h1 = max-rest (e (x .name)) _ h in
+    let h2 = max-rest (e (x .domain)) _ h1 in
+    let h3 = max-rest (ofMaybe e (x .applies)) _ h2 in
+    let h4 = max-rest (e (x .scope)) _ h3 in
+    let h5 = max-rest (e (x .elements)) _ h4 in
+    let h6 = max-rest (ofMaybe e (x .clamp)) _ h5 in
+    let h7 = max-rest (ofMaybe e (x .signal)) _ h6 in
+    let h8 = max-rest (ofMaybe e (x .sense)) _ h7 in
     record {
-      name = first (e (x .name)) _ h;
-      domain = first (e (x .domain)) _ h1;
-      applies = first (ofMaybe e (x .applies)) _ h2;
-      scope = first (e (x .scope)) _ h3;
-      elements = first (e (x .elements)) _ h4;
-      clamp = first (ofMaybe e (x .clamp)) _ h5;
-      signal = first (ofMaybe e (x .signal)) _ h6;
-      sense = first (ofMaybe e (x .sense)) _ h7;
-      power = first (ofMaybe e (x .power)) _ h8;
-      ground = rest (ofMaybe e (x .power)) _ h8;
+      name = max-first (e (x .name)) _ h;
+      domain = max-first (e (x .domain)) _ h1;
+      applies = max-first (ofMaybe e (x .applies)) _ h2;
+      scope = max-first (e (x .scope)) _ h3;
+      elements = max-first (e (x .elements)) _ h4;
+      clamp = max-first (ofMaybe e (x .clamp)) _ h5;
+      signal = max-first (ofMaybe e (x .signal)) _ h6;
+      sense = max-first (ofMaybe e (x .sense)) _ h7;
+      power = max-first (ofMaybe e (x .power)) _ h8;
+      ground = max-rest (ofMaybe e (x .power)) _ h8;
     }

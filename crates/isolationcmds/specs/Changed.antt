@@ -8,7 +8,7 @@ use mathlib.Core.Option.{Option, none, some}
 use lib.ListN.{length, getD, set, take}
 use Rattle.text.specs.Ascii.{Bytes, ascii}
 use Rattle.spans.specs.Span.{pairs}
-use Rattle.spans.specs.Reach.{lastOf, reach}
+use Rattle.spans.specs.Reach.{lastOf, reach, none-reach}
 use Rattle.spans.specs.declared.span.Span.{Span}
 use Rattle.spans.specs.declared.span.Found.{Found}
 use Rattle.tcl.specs.Arguments.{optionOf, nameOf, hasFlag}
@@ -29,7 +29,7 @@ use Rattle.made.specs.declared.Made.{Made}
 use Rattle.made.specs.Made.{fineMade, warnedMade, reachOf, Ready, Did}
 use Rattle.made.specs.Dids.{did-warn}
 use Rattle.made.specs.Done.{did-state}
-use Rattle.made.specs.Asked.{or-found, none-reach}
+use Rattle.made.specs.Asked.{or-found}
 use Rattle.made.specs.Firsts.{first-map}
 use Rattle.lists.specs.Values.{Whole}
 use Rattle.isolationcmds.specs.Strategies.{renewed, anew, isStrategyAt, AnewIs, ControlledIs}

@@ -5,7 +5,7 @@ use mathlib.Core.Path.{_≡_, refl, sym, ap, _∙_}
 use mathlib.Core.List.{List, [], _∷_, _++_}
 use lib.ListN.{length}
 use Rattle.text.specs.Ascii.{Bytes}
-use Rattle.spans.specs.Reach.{reach}
+use Rattle.spans.specs.Reach.{reach, none-reach}
 use Rattle.args.specs.View.{wordsFrom}
 use Rattle.model.specs.Records.{Model, Isolation as Isolationʳ, with-isolations}
 use Rattle.model.specs.Commands.{newIsolation, added}
@@ -23,7 +23,6 @@ use Rattle.made.specs.declared.Made.{Made}
 use Rattle.made.specs.Made.{fineMade, fullMade, reachOf, Ready, Did}
 use Rattle.made.specs.Dids.{one-over, did-full}
 use Rattle.made.specs.Done.{did-state}
-use Rattle.made.specs.Asked.{none-reach}
 use Rattle.isolationcmds.specs.Strategies.{newStrategy, IsolationIs}
 
 module _ (long : ℕ) (mem : Bytes) (words : List ℕ) (n : ℕ) (st : Store) (log : Bytes) (s : State) (v : Ready long mem words n st s) where

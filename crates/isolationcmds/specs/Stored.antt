@@ -11,8 +11,10 @@ use lib.ListN.{length}
 use borrow.Author.Tests.{ltb-true, ltb-false}
 use Rattle.text.specs.Ascii.{Bytes, ascii}
 use Rattle.text.specs.Compare.{same}
+use Rattle.text.specs.Sames.{differ}
+use Rattle.text.specs.Lists.{no-bytes}
 use Rattle.spans.specs.Span.{_⋯_, bytes, foundOf, pairs}
-use Rattle.spans.specs.Reach.{spanEnd, lastOf, reach, Held, held-by}
+use Rattle.spans.specs.Reach.{spanEnd, lastOf, reach, Held, held-by, none-reach}
 use Rattle.spans.specs.declared.span.Span.{Span}
 use Rattle.spans.specs.declared.span.Found.{Found}
 use Rattle.spans.specs.declared.span.Found.the-variants.{At, None}
@@ -27,7 +29,7 @@ use Rattle.store.specs.Order.{ofMaybe, ofIsolation}
 use Rattle.store.specs.declared.stored.Stored.{Stored}
 use Rattle.store.specs.declared.stored.Maybe.{Maybe}
 use Rattle.store.specs.declared.state.Isolation.{Isolation}
-use Rattle.made.specs.Asked.{list-found, or-found, maybe-found, found-by, maybe-by, none-reach}
+use Rattle.made.specs.Asked.{list-found, or-found, maybe-found, found-by, maybe-by}
 use Rattle.lists.specs.Values.{Whole}
 use Rattle.isolationcmds.specs.Strategies.{newStrategy, renewed, elementsAnew, anew, isStrategyAt, IsolationIs, RenewedIs, AnewIs, ControlledIs}
 use Rattle.isolationcmds.specs.Bounds.{Bounds, all-bounds, bounds-of}
@@ -251,15 +253,6 @@ module _ (files area : Bytes) (words : List ℕ) (n : ℕ) (scope : Stored) (x :
         }
 
 -- ---- which strategy is meant
-no-bytes : (t : Bytes) → length t ≡ 0 → t ≡ []
-no-bytes [] e = refl
-no-bytes (x ∷ t) e = absurd (omega arith)
-
-same-none : (t : Bytes) → (length t ≡ 0 → ⊥) → same t [] ≡ false
-unfolding same
-same-none [] h = absurd (h refl)
-same-none (x ∷ t) h = refl
-
 module _ (mem : Bytes) (x : Isolation) (name domain : Stored) (p q : Span) (b : Bool) (e : p ≡ spanOf (x .name)) (g : q ≡ spanOf name) (h : b ≡ same (bytes mem p) (bytes mem q)) where
   named : same (string mem (x .name)) (string mem name) ≡ b
   named = sym (h ∙ rw (e, g))
@@ -278,5 +271,5 @@ module _ (mem : Bytes) (x : Isolation) (name domain : Stored) (p q : Span) (b : 
     pub strategy-of : (k ≡ 0 → ⊥) → (i j : Span) (r : Bool) → i ≡ spanOf (x .domain) → j ≡ spanOf domain → r ≡ same (bytes mem i) (bytes mem j) → r ≡ isStrategyAt mem name domain x
     unfolding isolationOf
     strategy-of z i j r ei ej u =
-        let o : same (string mem domain) [] ≡ false = same-none (string mem domain) (λ l. z (w ∙ ap (λ (s : Span). length (bytes mem s)) y ∙ l)) in
+        let o : same (string mem domain) [] ≡ false = sym (differ (string mem domain) [] (λ l. z (w ∙ ap (λ (s : Span). length (bytes mem s)) y ∙ l))) in
         u ∙ rw (ei, ej, named, t, o)

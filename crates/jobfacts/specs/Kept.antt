@@ -4,9 +4,9 @@ use mathlib.Core.Path.{_≡_, refl, ap, _∙_, sym}
 use Prim.Native.Nat.{ℕ, suc, _+_, _<_}
 use native.Mathlib.Omega.{arith}
 use mathlib.Core.Bool.{Bool, true, false, cond, not, _&&_, _||_}
-use mathlib.Core.List.{List, [], _∷_, _++_, map}
+use mathlib.Core.List.{List, [], _∷_, _++_, map, map-append}
 use mathlib.Core.Option.{Option, none, some, Option·map}
-use lib.ListN.{length, take, drop, length-append}
+use lib.ListN.{length, take, drop, length-append, length-map}
 use lib.Dec.{ltb}
 use borrow.Author.Tests.{ltb-true, not-true}
 use Rattle.text.specs.Ascii.{Bytes, ascii}
@@ -25,17 +25,6 @@ use Rattle.jobfacts.specs.WellFormed.{All, distinct, GoodPort, GoodDecl,
 all-more : {A : Type 0} (P : A → Type 0) (xs : List A) (x : A) → All P xs → P x → All P (xs ++ (x ∷ []))
 all-more P [] x a p = (p, tt)
 all-more P (y ∷ xs) x a p = (a .0, all-more P xs x (a .1) p)
-
-more-length : {A : Type 0} (xs : List A) (x : A) → length (xs ++ (x ∷ [])) ≡ length xs + 1
-more-length xs x = length-append xs (x ∷ [])
-
-map-more : {A B : Type 0} (f : A → B) (xs : List A) (x : A) → map f (xs ++ (x ∷ [])) ≡ map f xs ++ (f x ∷ [])
-map-more f [] x = refl
-map-more f (y ∷ xs) x = ap (λ l. f y ∷ l) (map-more f xs x)
-
-map-length : {A B : Type 0} (f : A → B) (xs : List A) → length (map f xs) ≡ length xs
-map-length f [] = refl
-map-length f (x ∷ xs) = ap suc (map-length f xs)
 
 same-swap : (x y : Bytes) → same y x ≡ false → same x y ≡ false
 same-swap x y h = go (same x y) refl
@@ -216,7 +205,7 @@ module _ (j j′ : Job) (line rest rest′ : Bytes) (d′ : Due) (g : GoodLists 
       let t = read-good (startsWith (ascii "file=") line) (when (isPath (drop 5 line)) (drop 5 line)) (ltb (length paths) 32) (λ p. not (any (λ q. same q p) paths)) (w .0) (w .1 .0) in
       let v = when-is (isPath (drop 5 line)) (drop 5 line) (w .0) (t .form) in
       goes-as (due-bytes (w .0)) d′ j j′ rest rest′ (w .1 .1)
-      (g, (ap isPath (sym (v .1)) ∙ v .0, (omega (arith, ltb-true (length paths) 32 (t .few), map-length (λ (f : File). f .path) (j .files)), not-true (any (λ q. same q (w .0)) paths) (t .fresh))))
+      (g, (ap isPath (sym (v .1)) ∙ v .0, (omega (arith, ltb-true (length paths) 32 (t .few), length-map (j .files) (λ (f : File). f .path)), not-true (any (λ q. same q (w .0)) paths) (t .fresh))))
 
   pub module-kept : moduleLine j line rest ≡ some (on d′ j′ rest′) → Goes d′ j′
   unfolding moduleLine moduleRead
@@ -226,7 +215,7 @@ module _ (j j′ : Job) (line rest rest′ : Bytes) (d′ : Due) (g : GoodLists 
       let t = read-good (startsWith (ascii "module=") line) (when (isName (drop 7 line)) (drop 7 line)) (ltb (length names) 128) (λ n. not (any (λ m. same m n) names)) (w .0) (w .1 .0) in
       let v = when-is (isName (drop 7 line)) (drop 7 line) (w .0) (t .form) in
       goes-as (due-style (w .0)) d′ j j′ rest rest′ (w .1 .1)
-      (g, (ap isName (sym (v .1)) ∙ v .0, (omega (arith, ltb-true (length names) 128 (t .few), map-length (λ (m : Module). m .name) (j .modules)), not-true (any (λ q. same q (w .0)) names) (t .fresh))))
+      (g, (ap isName (sym (v .1)) ∙ v .0, (omega (arith, ltb-true (length names) 128 (t .few), length-map (j .modules) (λ (m : Module). m .name)), not-true (any (λ q. same q (w .0)) names) (t .fresh))))
 
   pub end-kept : endLine j line rest ≡ some (on d′ j′ rest′) → Goes d′ j′
   unfolding endLine
@@ -240,8 +229,8 @@ module _ (j j′ : Job) (line rest rest′ : Bytes) (d′ : Due) (g : GoodLists 
       goes-as due-more d′ (withFiles j (j .files ++ (f ∷ []))) j′ (drop (w .0 + 1) rest) rest′ (w .1 .1) (
         record {
           files = all-more GoodFile (j .files) f (g .files) (q .0);
-          files-few = omega (arith, more-length (j .files) f, q .1 .0);
-          files-distinct = rw (map-more (λ (f : File). f .path) (j .files) f) (distinct-more (map (λ (f : File). f .path) (j .files)) p (g .files-distinct) (q .1 .1));
+          files-few = omega (arith, length-append (j .files) (f ∷ []), q .1 .0);
+          files-distinct = rw (map-append (λ (f : File). f .path) (j .files) (f ∷ [])) (distinct-more (map (λ (f : File). f .path) (j .files)) p (g .files-distinct) (q .1 .1));
           modules = g .modules;
           modules-few = g .modules-few;
           modules-distinct = g .modules-distinct;
@@ -260,8 +249,8 @@ module _ (j j′ : Job) (line rest rest′ : Bytes) (d′ : Due) (g : GoodLists 
           files-few = g .files-few;
           files-distinct = g .files-distinct;
           modules = all-more GoodModule (j .modules) m (g .modules) (record { name = q .0; ports = tt; ports-few = omega arith; decls = tt; decls-few = omega arith; insts = tt; insts-few = omega arith; insts-distinct = refl });
-          modules-few = omega (arith, more-length (j .modules) m, q .1 .0);
-          modules-distinct = rw (map-more (λ (m : Module). m .name) (j .modules) m) (distinct-more (map (λ (m : Module). m .name) (j .modules)) n (g .modules-distinct) (q .1 .1));
+          modules-few = omega (arith, length-append (j .modules) (m ∷ []), q .1 .0);
+          modules-distinct = rw (map-append (λ (m : Module). m .name) (j .modules) (m ∷ [])) (distinct-more (map (λ (m : Module). m .name) (j .modules)) n (g .modules-distinct) (q .1 .1));
         },
         tt,
       )
@@ -287,7 +276,7 @@ module _ (j j′ : Job) (line rest rest′ : Bytes) (d′ : Due) (g : GoodLists 
         last-kept (addPort (w .0)) (λ m. refl) (λ m e q. record {
           name = q .name;
           ports = all-more GoodPort (m .ports) (w .0) (q .ports) (port-name (thisModule j .style) (fields (drop 5 line)) (w .0) (t .form));
-          ports-few = omega (arith, more-length (m .ports) (w .0), ltb-true (length (thisModule j .ports)) 64 (t .few), ap (λ (m : Module). length (m .ports)) e);
+          ports-few = omega (arith, length-append (m .ports) (w .0 ∷ []), ltb-true (length (thisModule j .ports)) 64 (t .few), ap (λ (m : Module). length (m .ports)) e);
           decls = q .decls;
           decls-few = q .decls-few;
           insts = q .insts;
@@ -308,7 +297,7 @@ module _ (j j′ : Job) (line rest rest′ : Bytes) (d′ : Due) (g : GoodLists 
           ports = q .ports;
           ports-few = q .ports-few;
           decls = all-more GoodDecl (m .decls) (w .0) (q .decls) (decl-name (fields (drop 5 line)) (w .0) (t .form));
-          decls-few = omega (arith, more-length (m .decls) (w .0), ltb-true (length (thisModule j .decls)) 128 (t .few), ap (λ (m : Module). length (m .decls)) e);
+          decls-few = omega (arith, length-append (m .decls) (w .0 ∷ []), ltb-true (length (thisModule j .decls)) 128 (t .few), ap (λ (m : Module). length (m .decls)) e);
           insts = q .insts;
           insts-few = q .insts-few;
           insts-distinct = q .insts-distinct;
@@ -332,8 +321,8 @@ module _ (j j′ : Job) (line rest rest′ : Bytes) (d′ : Due) (g : GoodLists 
           decls = q .decls;
           decls-few = q .decls-few;
           insts = all-more GoodInst (m .insts) (w .0) (q .insts) (record { name = n .0; type = n .1; conns = rw c tt; conns-few = omega (arith, ap length c) });
-          insts-few = omega (arith, more-length (m .insts) (w .0), ltb-true (length names) 64 (t .few), map-length (λ (k : Inst). k .name) (thisModule j .insts), ap (λ (m : Module). length (m .insts)) e);
-          insts-distinct = rw (map-more (λ (k : Inst). k .name) (m .insts) (w .0)) (distinct-more (map (λ (k : Inst). k .name) (m .insts)) (w .0 .name) (q .insts-distinct) (rw e (not-true (any (λ n. same n (w .0 .name)) names) (t .fresh))));
+          insts-few = omega (arith, length-append (m .insts) (w .0 ∷ []), ltb-true (length names) 64 (t .few), length-map (thisModule j .insts) (λ (k : Inst). k .name), ap (λ (m : Module). length (m .insts)) e);
+          insts-distinct = rw (map-append (λ (k : Inst). k .name) (m .insts) (w .0 ∷ [])) (distinct-more (map (λ (k : Inst). k .name) (m .insts)) (w .0 .name) (q .insts-distinct) (rw e (not-true (any (λ n. same n (w .0 .name)) names) (t .fresh))));
         }),
         tt,
       )
@@ -355,7 +344,7 @@ module _ (j j′ : Job) (line rest rest′ : Bytes) (d′ : Due) (g : GoodLists 
             name = gi .name;
             type = gi .type;
             conns = all-more GoodConn (i .conns) (w .0) (gi .conns) gc;
-            conns-few = omega (arith, more-length (i .conns) (w .0), ltb-true (length (thisInst j .conns)) 64 (t .few), ap (λ (i : Inst). length (i .conns)) ei, ap (λ (m : Module). length (lastOr no-inst (m .insts) .conns)) e);
+            conns-few = omega (arith, length-append (i .conns) (w .0 ∷ []), ltb-true (length (thisInst j .conns)) 64 (t .few), ap (λ (i : Inst). length (i .conns)) ei, ap (λ (m : Module). length (lastOr no-inst (m .insts) .conns)) e);
           });
           insts-few = omega (arith, on-last-length (addConn (w .0)) (m .insts), q .insts-few);
           insts-distinct = rw (on-last-map (λ (i : Inst). i .name) (addConn (w .0)) (λ i. refl) (m .insts)) (q .insts-distinct);

@@ -6,7 +6,7 @@ use native.Mathlib.Numerals.{add-one}
 use native.Mathlib.Nat.{add-zero}
 use native.Mathlib.Omega.{arith}
 use mathlib.Core.Bool.{Bool, true, false, cond, _||_, or-false, or-true}
-use mathlib.Core.List.{List, [], _∷_, _++_, map}
+use mathlib.Core.List.{List, [], _∷_, _++_, map, map-append}
 use lib.ListN.{length, drop, set, length-append, length-set, drop-of-length-le}
 use lib.Dec.{ltb, eqb}
 use lib.Seq.{getD-set-same, getD-set-other, drop-set-lt, drop-append-le, drop-at}
@@ -34,10 +34,6 @@ pub rows-same : {A : Type 0} (f g : ℕ → A) (n : ℕ) → ((k : ℕ) → k < 
 unfolding rows
 rows-same f g zero h = refl
 rows-same f g (suc n) h = rw (rows-same f g n (λ k l. h k (omega arith)), h n (omega arith))
-
-map-append : {A B : Type 0} (g : A → B) (xs ys : List A) → map g (xs ++ ys) ≡ map g xs ++ map g ys
-map-append g [] ys = refl
-map-append g (x ∷ xs) ys = ap (λ l. g x ∷ l) (map-append g xs ys)
 
 pub rows-map : {A B : Type 0} (f : ℕ → A) (g : A → B) (n : ℕ) → map g (rows f n) ≡ rows (λ k. g (f k)) n
 unfolding rows

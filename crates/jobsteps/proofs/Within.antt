@@ -1,11 +1,11 @@
 -- Steps within a module: `port=`, `decl=`, `inst=`, `conn=`, and the module's end. l is the line that was lent, k what it was seen to be.
 -- Assumes nothing.
 use mathlib.Core.Path.{_≡_, refl, ap, _∙_, sym}
-use Prim.Native.Nat.{ℕ, suc, _+_, _-_, _^_, _<_, _≤_}
+use Prim.Native.Nat.{ℕ, _+_, _-_, _^_, _<_, _≤_}
 use native.Mathlib.Omega.{arith}
-use mathlib.Core.List.{List, [], _∷_, _++_, map}
+use mathlib.Core.List.{List, [], _∷_, _++_, map, map-append}
 use mathlib.Core.Option.{Option, none, some, Option·map}
-use lib.ListN.{length, take, drop, length-append, length-drop}
+use lib.ListN.{length, take, drop, length-append, length-drop, length-map}
 use lib.Seq.{take-take, drop-drop}
 use Rattle.text.specs.Ascii.{Bytes}
 use Rattle.text.specs.Lists.{drop-take}
@@ -32,9 +32,6 @@ use Rattle.jobsteps.specs.State.{lineOf, Outside, Inside, PortsDue, Decl
 use Rattle.jobsteps.proofs.Cutting.{from-end, line-length, section-none, section-whole, lines-grow, whole-grow}
 use Rattle.jobsteps.proofs.Heads.{refused-is}
 use Rattle.jobsteps.proofs.Between.{kind-other, kind-refused, kind-good, stepped-else}
-
-more-length : {A : Type 0} (xs : List A) (x : A) → length (xs ++ (x ∷ [])) ≡ length xs + 1
-more-length xs x = length-append xs (x ∷ [])
 
 -- a section from a place up to it lists nothing
 no-decls : (job : Bytes) (n : ℕ) → declsIn (section job n n) ≡ []
@@ -114,7 +111,7 @@ module _ (job index : List ℕ) (from end : ℕ) (head : Header) (o : Open) (l :
             ports-whole = whole-grow job from end (pre .line) (o .ports) ports-le ports-to;
             decls-whole = section-whole job (end + 1);
             insts-whole = section-whole job (end + 1);
-            ports-count = rw (ports-grow, more-length, ← w .ports-count);
+            ports-count = rw (ports-grow, length-append, ← w .ports-count);
             decls-count = w .decls-count ∙ ap length (sym decls-still);
             insts-few = w .insts-few;
             insts-names = w .insts-names ∙ ap (map (λ (i : Inst). i .name)) (sym insts-still);
@@ -185,7 +182,7 @@ module _ (job index : List ℕ) (from end : ℕ) (head : Header) (o : Open) (l :
             decls-whole = whole-grow job from end (pre .line) (o .decls) decls-le decls-to;
             insts-whole = section-whole job (end + 1);
             ports-count = w .ports-count;
-            decls-count = rw (decls-grow, more-length, ← w .decls-count);
+            decls-count = rw (decls-grow, length-append, ← w .decls-count);
             insts-few = w .insts-few;
             insts-names = w .insts-names ∙ ap (map (λ (i : Inst). i .name)) (sym insts-still′);
             conns-count = w .conns-count ∙ ap (λ is. length (lastOr no-inst is .conns)) (sym insts-still′);
@@ -228,12 +225,8 @@ module _ (job index : List ℕ) (from end : ℕ) (head : Header) (o : Open) (l :
 
     last-more : (c : Conn) (z : Inst) (is : List Inst) → 1 ≤ length is → length (lastOr z (onLast (addConn c) is) .conns) ≡ length (lastOr z is .conns) + 1
     last-more c z [] h = absurd (omega arith)
-    last-more c z (i ∷ []) h = more-length (i .conns) c
+    last-more c z (i ∷ []) h = length-append (i .conns) (c ∷ [])
     last-more c z (i ∷ n ∷ is) h = last-more c i (n ∷ is) (omega arith)
-
-    map-length : (is : List Inst) → length (map (λ (i : Inst). i .name) is) ≡ length is
-    map-length [] = refl
-    map-length (i ∷ is) = ap suc (map-length is)
 
     module _ (c : Conn) (hn : instHere line ≡ none) (hc : connHere line ≡ some c) where
       abbrev conned : Open
@@ -248,7 +241,7 @@ module _ (job index : List ℕ) (from end : ℕ) (head : Header) (o : Open) (l :
       conn-module = rw (insts-grow, pre .stands .within .ends)
 
       some-insts : 1 ≤ length (instsIn (section job (o .insts) from))
-      some-insts = omega (arith, pre .stands .some-inst, rows-length (instAt job index) (o .ninsts), ap length (pre .stands .within .insts-names), map-length (instsIn (section job (o .insts) from)))
+      some-insts = omega (arith, pre .stands .some-inst, rows-length (instAt job index) (o .ninsts), ap length (pre .stands .within .insts-names), length-map (instsIn (section job (o .insts) from)) (λ (i : Inst). i .name))
 
       conn-inside : Inside job index head conned (end + 1)
       conn-inside =
@@ -370,10 +363,6 @@ module _ (job index : List ℕ) (from end : ℕ) (head : Header) (o : Open) (l :
         inst-module : openOf job insted ≡ addInst i m
         inst-module = rw (insts-added, pre .stands .ends)
 
-        map-more : (is : List Inst) → map (λ (i : Inst). i .name) (is ++ (i ∷ [])) ≡ map (λ (i : Inst). i .name) is ++ (i .name ∷ [])
-        map-more [] = refl
-        map-more (x ∷ is) = ap (λ ns. x .name ∷ ns) (map-more is)
-
         inst-inside : Inside job named head insted (end + 1)
         inst-inside =
             let w = pre .stands in
@@ -394,7 +383,7 @@ module _ (job index : List ℕ) (from end : ℕ) (head : Header) (o : Open) (l :
               insts-few = omega (arith, inst-few);
               insts-names =
                   names-put job index (o .ninsts) (from + 5 + n) len inst-few (pre .room)
-                  ∙ rw (w .insts-names, name-at, ← hn, insts-added) (sym (map-more (instsIn (section job (o .insts) from))));
+                  ∙ rw (w .insts-names, name-at, ← hn, insts-added) (sym (map-append (λ (i : Inst). i .name) (instsIn (section job (o .insts) from)) (i ∷ [])));
               conns-count = rw (insts-added, last-is no-inst (instsIn (section job (o .insts) from)) i, hf);
             }
 

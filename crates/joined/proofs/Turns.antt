@@ -11,9 +11,10 @@ use Rattle.text.specs.Ascii.{Bytes}
 use Rattle.spans.specs.Area.{Wrote}
 use Rattle.spans.specs.Writes.{wrote-none, wrote-two, wrote-long}
 use Rattle.tcl.specs.Join.{join}
+use Rattle.tcl.specs.Rewrites.{join-short}
 use Rattle.jobindex.specs.Index.{bodyAt}
 use Rattle.joined.specs.Joined.{bodies, bodyBytes, begin-place, length-place, placed, Room, Joined}
-use Rattle.joined.specs.Laws.{bodies-short, body-within, join-short, placed-long, placed-below}
+use Rattle.joined.specs.Laws.{bodies-short, body-within, placed-long, placed-below}
 
 -- k files are joined, up to o
 pub record Going (job files₀ nums₀ files nums : List ℕ) (n k o : ℕ) : Type 0 where

@@ -5,7 +5,7 @@ use native.Mathlib.Numerals.{add-one}
 use native.Mathlib.Omega.{arith}
 use mathlib.Core.Path.{_≡_, refl, sym, ap, _∙_}
 use mathlib.Core.Bool.{Bool, true, false, cond}
-use mathlib.Core.List.{List, [], _∷_, _++_, append-assoc}
+use mathlib.Core.List.{List, _++_, append-assoc}
 use lib.Dec.{eqb}
 use lib.ListN.{length, take, drop, getD, set, length-set, length-append, length-take, length-drop}
 use lib.Seq.{getD-set-same, getD-set-other, drop-set-lt, take-set-le, take-at, drop-at, take-append-le, drop-append-le}
@@ -13,21 +13,10 @@ use borrow.Author.Tests.{eqb-true, eqb-false}
 use Rattle.text.specs.Ascii.{Bytes}
 use Rattle.spans.specs.Area.{Wrote}
 use Rattle.spans.specs.Writes.{wrote-two}
-use Rattle.tcl.specs.Rewrite.{rewrite}
-use Rattle.tcl.specs.Join.{joint, joined, join}
+use Rattle.tcl.specs.Join.{joined, join}
+use Rattle.tcl.specs.Rewrites.{join-short}
 use Rattle.jobindex.specs.Index.{bodyAt}
 use Rattle.joined.specs.Joined.{bodies, bodyBytes, begin-place, length-place, joinedAt, placed, Room, Joined}
-
--- ---- joining never lengthens
-
-no-longer : (k : ℕ) (s : Bytes) → length (rewrite joint joined k s) ≤ length s
-unfolding rewrite
-no-longer k [] = omega arith
-no-longer zero (x ∷ s) = let r = no-longer (joint (x ∷ s)) s in omega arith
-no-longer (suc k) (x ∷ s) = let r = no-longer k s in omega arith
-
-pub join-short : (s : Bytes) → length (join s) ≤ length s
-join-short s = no-longer 0 s
 
 module _ (job : Bytes) (index : List ℕ) where
   pub bodies-short : (n : ℕ) → length (bodies job index n) ≤ bodyBytes job index n

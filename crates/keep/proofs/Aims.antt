@@ -8,7 +8,7 @@ use mathlib.Core.Option.{Option, none, some}
 use lib.Dec.{eqb, ltb}
 use lib.ListN.{length, length-append}
 use borrow.Author.Needs.{needs}
-use borrow.Author.Tests.{eq-eqb, ne-eqb, lt-ltb, le-ltb, not-true, not-false, eqb-true, eqb-false}
+use borrow.Author.Tests.{eq-eqb, ne-eqb, lt-ltb, le-ltb, not-false, eqb-true, eqb-false}
 use Rattle.text.specs.Ascii.{Bytes, ascii}
 use Rattle.text.specs.Compare.{same}
 use Rattle.text.specs.Scan.{any}
@@ -28,6 +28,7 @@ use Rattle.design.specs.Lists.{isIn}
 use Rattle.actual.specs.declared.Net.{Net}
 use Rattle.actual.specs.declared.Net.the-variants as net
 use Rattle.texts.specs.Texts.{warningLine}
+use Rattle.texts.specs.Laws.{one-warning}
 use Rattle.format.specs.Args.{argOf, nameArg, wrappedArg}
 use Rattle.format.specs.Laws.{name-arg, plain-arg}
 use Rattle.format.specs.declared.arg.Arg.{Arg}
@@ -38,7 +39,7 @@ use Rattle.keep.specs.Gains.{Aim, Gain, stay, notPlain, gainFrom, gainOf
 use Rattle.keep.specs.Held.{heldSpan, heldName, heldPart, part-held}
 use Rattle.keep.specs.Covered.{more, counted, refusedCover, countedCover, warnedCover, Ready, Remarked, KeepSeen, saidBy, withNet, aimOf, Answer}
 use Rattle.keep.specs.Turns.{answer-stay, said-none}
-use Rattle.keep.specs.Warned.{warned-line, one-warning}
+use Rattle.keep.specs.Warned.{warned-line, not-warned}
 use Rattle.keep.specs.declared.Cover.{Cover}
 
 -- ---- numbers
@@ -115,10 +116,6 @@ unfolding turns
 warning-is n p = warned-line (ascii "isolation strategy '{0}': port '{1}' actual is not a plain net; not simulated") n p [] [] [] refl ∙ sym (one-warning (notPlain n p))
 
 module _ (warn : Bool) (c : Cover) (out : Bytes) where
-  pub not-warned : (w : Bytes) (r : Cover) → r ≡ warnedCover c (c .at) → not warn ≡ true → Remarked warn w c out r out
-  unfolding emit
-  not-warned w r e h = record { is = rw e; text = rw (not-true warn h, e) }
-
   pub plain-warned : (job mem : Bytes) (scope : List Bytes) (top : Bytes) (n : Name) (p : Ref) (a b : Arg) (out′ : Bytes) (o : ℕ) (r : Cover)
       → out′ ▸ o ≡ emit (out ▸ c .at) (fill (ascii "warning: isolation strategy '{0}': port '{1}' actual is not a plain net; not simulated\n") (argOf job mem scope top a) (argOf job mem scope top b) [] [] [])
       → a ≡ nameArg n → b ≡ wrappedArg 0 p → r ≡ warnedCover c o → not warn ≡ false → Remarked warn (notPlain (nameOf mem n) (textOf job mem p)) c out r out′

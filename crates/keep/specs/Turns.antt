@@ -4,7 +4,7 @@ use Prim.Native.Nat.{ℕ, zero, suc, _+_, _≤_, _<_, min}
 use native.Mathlib.Omega.{arith}
 use mathlib.Core.Path.{_≡_, refl, sym, ap, _∙_}
 use mathlib.Core.Bool.{Bool, true, false, cond}
-use mathlib.Core.List.{List, [], _∷_, _++_, append-assoc, append-nil}
+use mathlib.Core.List.{List, [], _∷_, _++_, append-nil}
 use lib.Dec.{ltb}
 use lib.ListN.{length}
 use borrow.Author.Tests.{ltb-true, ltb-false}
@@ -13,6 +13,7 @@ use Rattle.text.specs.Sames.{no-true}
 use Rattle.out.specs.Emit.{Out, _▸_, emit, emit-append}
 use Rattle.out.specs.Items.{each}
 use Rattle.texts.specs.Texts.{warningLine}
+use Rattle.texts.specs.Laws.{each-append}
 use Rattle.isolated.specs.Table.{Kept, keptIn}
 use Rattle.keep.specs.Gains.{Gain, stay, behind, behind-stay, behind-assoc}
 use Rattle.keep.specs.Covered.{more, counted, Ready, saidBy, said, Answer}
@@ -35,13 +36,8 @@ counted-is n (w ∷ a) h = go (ltb n 513) refl (λ k l. counted-is k a l)
     go true e r = r (n + 1) (omega (arith, ltb-true n 513 e)) ∙ omega arith
     go false e r = r n h ∙ omega (arith, ltb-false n 513 e)
 
-each-append : (a b : List Bytes) → each warningLine (a ++ b) ≡ each warningLine a ++ each warningLine b
-unfolding each
-each-append [] b = refl
-each-append (w ∷ a) b = rw (each-append a b) (sym (append-assoc (warningLine w) (each warningLine a) (each warningLine b)))
-
 pub said-behind : (warn : Bool) (a b : Gain) → said warn (behind a b) ≡ said warn a ++ said warn b
-said-behind true a b = each-append (a .remarks) (b .remarks)
+said-behind true a b = each-append warningLine (a .remarks) (b .remarks)
 said-behind false a b = refl
 
 pub said-none : (warn : Bool) → saidBy warn [] [] ≡ []

@@ -17,7 +17,7 @@ use Rattle.text.specs.Ascii.{Bytes, byte}
 use Rattle.text.specs.Scan.{before, upTo, Ends}
 use Rattle.text.specs.Scans.{before-le}
 use Rattle.text.specs.Lists.{drop-take, take-none}
-use Rattle.joblines.specs.Sections.{linesIn}
+use Rattle.joblines.specs.Sections.{linesIn, gather, portsIn}
 use Rattle.joblines.specs.Scanned.{Whole, whole-none, whole-append, whole-line, lines-none, lines-at}
 use Rattle.jobindex.specs.Index.{bytesAt, section}
 use Rattle.lines.specs.Cursors.{Cut, Stepped}
@@ -37,6 +37,10 @@ module _ (job : Bytes) (a b e : ℕ) where
 
 pub section-none : (job : Bytes) (a e : ℕ) → e ≤ a → section job a e ≡ []
 section-none job a e h = let z : e - a ≡ 0 = omega arith in rw z
+
+pub no-ports : (job : Bytes) (a : ℕ) → portsIn (section job a a) ≡ []
+unfolding linesIn gather
+no-ports job a = rw (section-none job a a (omega arith))
 
 pub section-long : (job : Bytes) (a e : ℕ) → length (section job a e) ≤ e - a
 section-long job a e = omega (arith, length-take (e - a) (drop a job))

@@ -16,11 +16,12 @@ use Rattle.text.specs.Compare.{same}
 use Rattle.text.specs.Lists.{here}
 use Rattle.text.specs.Scan.{any}
 use Rattle.text.specs.Sames.{no-true}
+use Rattle.text.specs.Classes.{dotOf}
 use Rattle.out.specs.Emit.{Out, _▸_, emit1, emit}
 use Rattle.names.specs.Name.{nameOf}
 use Rattle.names.specs.declared.name.Name.{Name}
 use Rattle.design.specs.Lists.{isIn, addNew}
-use Rattle.design.specs.Paths.{dotOf, dotted}
+use Rattle.design.specs.Paths.{dotted}
 use Rattle.jobindex.specs.Index.{section}
 use Rattle.paths.specs.Pieces.{Sized}
 use Rattle.pathnumber.specs.Number.{number, number-on}
@@ -28,6 +29,7 @@ use Rattle.listing.specs.declared.Walk.{Walk}
 use Rattle.listing.specs.Flags.{flag-low, flagged-on}
 use Rattle.listing.specs.Written.{front-kept, piece-there}
 use Rattle.listing.specs.Listing.{cut, pathsOf, flag-count, flagPlace, Flagged, Ascends, cost, cost-on, past, Within, Ready, NewGiven, Answer, ascends-on, cut-same, cut-on, cut-length}
+use Rattle.walk.specs.Retained.{length-dotted}
 
 -- ---- among the rows
 
@@ -72,10 +74,6 @@ flag-unset path text ends count flag ef fl x ex z = sym (fl path (rw (← ef, �
 pub ruleset flags = (needs, flag-unset)
 
 -- ---- behind the rows
-
-length-dotted : (l : Bytes) → length (dotted l) ≡ length l
-length-dotted [] = refl
-length-dotted (x ∷ l) = ap suc (length-dotted l)
 
 module _ (mem : Bytes) (e : Name) (elen : ℕ) (tail name : Bytes) (flag prefix : ℕ) (s : Walk) (text : Bytes) (ends : List ℕ) (g : NewGiven mem e elen tail name flag prefix s text ends) where
   abbrev path : Bytes

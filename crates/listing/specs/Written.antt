@@ -1,25 +1,15 @@
 -- Laws: a piece written into a text that has room for it. Assumes nothing.
-use Prim.Native.Nat.{ℕ, _+_, _-_, _<_, _≤_}
+use Prim.Native.Nat.{ℕ, _+_, _-_, _≤_}
 use mathlib.Core.Path.{_≡_, refl, sym, ap, _∙_}
-use mathlib.Core.List.{List, [], _∷_, _++_, append-assoc}
+use mathlib.Core.List.{List, _++_, append-assoc}
 use native.Mathlib.Omega.{arith}
-use native.Mathlib.Nat.{add-zero, add-suc, suc-add}
-use native.Mathlib.Numerals.{add-one}
 use lib.Dec.{ltb}
-use lib.ListN.{length, take, drop, set, length-append, length-set}
-use lib.Seq.{length-take-le, take-at, drop-at, sets, sets-eq}
-use borrow.Author.Tests.{lt-ltb}
+use lib.ListN.{length, take, drop, length-append}
+use lib.Seq.{length-take-le, take-at, drop-at, sets-eq}
 use Rattle.text.specs.Ascii.{Bytes}
-use Rattle.out.specs.Emit.{Out, _▸_, emit1, emit}
+use Rattle.out.specs.Emit.{Out, _▸_, emit}
+use Rattle.out.specs.Fits.{emit-sets}
 use Rattle.jobindex.specs.Index.{section}
-
-emit-sets : (t buf : Bytes) (at : ℕ) → at + length t ≤ length buf → emit (buf ▸ at) t ≡ sets buf at t ▸ (at + length t)
-unfolding emit emit1
-emit-sets [] buf at h = rw add-zero
-emit-sets (b ∷ t) buf at h =
-    let l : at < length buf = omega arith in
-    let h′ : at + 1 + length t ≤ length (set buf at b) = simp length-set (omega arith) in
-    simp (lt-ltb at (length buf) l) (emit-sets t (set buf at b) (at + 1) h′ ∙ rw (add-one, add-suc, suc-add))
 
 module _ (text text′ p : Bytes) (at r : ℕ) (h : at + length p ≤ length text) (e : text′ ▸ r ≡ emit (text ▸ at) p) where
   written : text′ ≡ take at text ++ (p ++ drop (at + length p) text)

@@ -21,9 +21,10 @@ use Rattle.entries.specs.declared.item.Item.the-variants.{Entry, None}
 use Rattle.names.specs.Scoped.{scoped}
 use Rattle.names.specs.Name.{named, nameOf, nameEnd, entryOf, Makes}
 use Rattle.names.specs.declared.name.Name.{Name}
+use Rattle.names.specs.Frame.{alone-is}
 use Rattle.nametable.specs.Table.{rowName, rowPut, namesFrom, tableNames, Stores, put-names, names-next, names-none}
 use Rattle.listnames.specs.Lists.{formOf, Rooms, Reads, Listed}
-use Rattle.listnames.specs.Inside.{inside-fits, inside-ends, inside-is, named-alone}
+use Rattle.listnames.specs.Inside.{inside-fits, inside-ends, inside-is}
 
 -- ---- from what is asked of a value
 
@@ -130,7 +131,7 @@ module _ (mem text : Bytes) (table₀ : List ℕ) (n : ℕ) (table : List ℕ) (
     pub plain-step : (s : Span) (q : Bool) (e : ℕ) (w : Span) (form : ℕ) (x : Name) (table′ : List ℕ) → r ≡ Entry s q e → table′ ≡ rowPut table k x → x ≡ named (0 ⋯ 0) false w form → w ≡ (v .at + s .at) ⋯ s .len → form ≡ formOf q → Lists (λ (b : Bytes). b) mem text table₀ n table′ (k + 1) e false
     plain-step s q e w form x table′ h et ex ew ef =
         let room = row-room (λ (b : Bytes). b) mem text table₀ n table k at first inv r f s q e h scope v reads in
-        let is : nameOf mem x ≡ entryBytes q (bytes text s) = rw ex (named-alone mem w form ∙ rw ew (inside-is mem v text (reads .is) (entriesLeft first (drop at text)) r f s q e h form ef)) in
+        let is : nameOf mem x ≡ entryBytes q (bytes text s) = rw ex (alone-is mem w form ∙ rw ew (inside-is mem v text (reads .is) (entriesLeft first (drop at text)) r f s q e h form ef)) in
         rw et (lists-step (λ (b : Bytes). b) mem text table₀ n table k at first inv r f s q e h x room is)
 
 -- ---- the names of a table, joined

@@ -20,8 +20,9 @@ use Rattle.model.specs.Commands.{nth}
 use Rattle.names.specs.Scoped.{scoped}
 use Rattle.names.specs.Name.{named, nameOf, nameEnd, entryOf, Makes}
 use Rattle.names.specs.declared.name.Name.{Name}
+use Rattle.names.specs.Frame.{alone-is}
 use Rattle.listnames.specs.Lists.{formOf, nthBelow, Whole, Known}
-use Rattle.listnames.specs.Inside.{inside-fits, inside-ends, inside-is, named-alone}
+use Rattle.listnames.specs.Inside.{inside-fits, inside-ends, inside-is}
 
 pub form-quoted : (q : Bool) → q ≡ true → 2 ≡ formOf q
 form-quoted q h = rw h
@@ -85,7 +86,7 @@ module _ (files area : Bytes) (v : Span) (k : ℕ) (whole : Whole (length files)
     w-ends = rw ew (inside-ends mem v text is (drop k (list text)) r f s q e g)
 
     pub nth-there : (x : Name) → x ≡ named (0 ⋯ 0) false w form → Known (files ++ area) (nth k (list (bytes (files ++ area) v))) (v .at + v .len) x
-    nth-there x ex = record { is = rw ex (named-alone mem w form ∙ sym (nth-head k (list (bytes mem v)) ∙ ap head-of one-entry)); ends = rw ex (omega (arith, w-ends)) }
+    nth-there x ex = record { is = rw ex (alone-is mem w form ∙ sym (nth-head k (list (bytes mem v)) ∙ ap head-of one-entry)); ends = rw ex (omega (arith, w-ends)) }
 
     pub below-there : (scope : Span) (x : Name) → Makes (files ++ area) scope w form x → Known (files ++ area) (nthBelow (bytes (files ++ area) scope) k (list (bytes (files ++ area) v))) (max (scope .at + scope .len) (v .at + v .len)) x
     below-there scope x m = record { is = m .is ∙ sym (nth-below (bytes mem scope) k (list (bytes mem v)) ∙ ap (below-of (bytes mem scope)) one-entry); ends = omega (arith, m .ends, w-ends) }

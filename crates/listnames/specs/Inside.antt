@@ -1,24 +1,20 @@
 -- Laws for all who read a stored value entry by entry: an entry is a stored string. Assumes nothing.
 use Prim.Native.Nat.{ℕ, _+_, _≤_, _<_, _^_}
 use native.Mathlib.Omega.{arith}
-use mathlib.Core.Path.{_≡_, refl, sym, ap, _∙_}
-use mathlib.Core.Bool.{Bool, false}
+use mathlib.Core.Path.{_≡_, sym, ap, _∙_}
+use mathlib.Core.Bool.{Bool}
 use mathlib.Core.List.{List}
-use lib.ListN.{length, length-take}
+use lib.ListN.{length}
 use Rattle.text.specs.Ascii.{Bytes}
 use Rattle.spans.specs.Span.{_⋯_, bytes}
-use Rattle.spans.specs.Frame.{inner}
+use Rattle.spans.specs.Frame.{inner, size-in}
 use Rattle.spans.specs.declared.span.Span.{Span}
 use Rattle.entries.specs.Entry.{entryBytes}
 use Rattle.entries.specs.View.{Finds}
 use Rattle.entries.specs.declared.item.Item.{Item}
 use Rattle.entries.specs.declared.item.Item.the-variants.{Entry}
-use Rattle.names.specs.Name.{named, nameOf, entryOf}
+use Rattle.names.specs.Name.{entryOf}
 use Rattle.listnames.specs.Lists.{formOf, form-is}
-
-size-in : (mem : Bytes) (w : Span) → length (bytes mem w) ≤ w .len
-unfolding bytes
-size-in mem w = rw length-take (omega arith)
 
 module _ (mem : Bytes) (v : Span) (text : Bytes) (is : text ≡ bytes mem v) (t : List Bytes) (r : Item) (f : Finds text t r) (s : Span) (q : Bool) (e : ℕ) (g : r ≡ Entry s q e) where
   ends-in : s .at + s .len ≤ v .len
@@ -35,8 +31,3 @@ module _ (mem : Bytes) (v : Span) (text : Bytes) (is : text ≡ bytes mem v) (t 
   inside-is form h =
       let y : bytes (bytes mem v) s ≡ bytes text s = ap (λ (b : Bytes). bytes b s) (sym is) in
       rw h (form-is q (bytes mem ((v .at + s .at) ⋯ s .len)) ∙ ap (entryBytes q) (inner mem v s ends-in ∙ y))
-
--- a word or an entry alone
-pub named-alone : (mem : Bytes) (w : Span) (form : ℕ) → nameOf mem (named (0 ⋯ 0) false w form) ≡ entryOf form (bytes mem w)
-unfolding nameOf bytes
-named-alone mem w form = refl

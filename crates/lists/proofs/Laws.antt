@@ -4,7 +4,7 @@ use Prim.Native.String.{String}
 use native.Mathlib.Omega.{arith}
 use mathlib.Core.Path.{_≡_, refl, sym, ap, _∙_}
 use mathlib.Core.Bool.{Bool, true, false, cond}
-use mathlib.Core.List.{List, [], _∷_, _++_, map}
+use mathlib.Core.List.{List, [], _++_, map, map-append}
 use mathlib.Core.Option.{Option, none, some}
 use lib.Dec.{leb, ltb}
 use lib.ListN.{length, take, drop, length-drop, drop-of-length-le}
@@ -141,12 +141,8 @@ module _ (n : ℕ) (ss : List State) (c : Count) (k : ℕ) (t : Count) (inv : Le
 pub ruleset lefts = (needs, state-held, left-start, left-few, left-end, left-fits, left-less, left-on)
 
 -- ---- the values of a switch
-values-append : (xs ys : List Bytes) → entriesOf (xs ++ ys) ≡ entriesOf xs ++ entriesOf ys
-values-append [] ys = refl
-values-append (x ∷ xs) ys = ap (λ (l : List ℕ). length (list x) ∷ l) (values-append xs ys)
-
 then-all : (xs ys : List Bytes) (c d r : Count) → Counts (entriesOf xs) c d → Counts (entriesOf ys) d r → Counts (entriesOf (xs ++ ys)) c r
-then-all xs ys c d r a b = record { is = b .is ∙ ap (andAll (entriesOf ys)) (a .is) ∙ sym (rw (values-append xs ys) (all-append (entriesOf xs) (entriesOf ys) c)); few = b .few }
+then-all xs ys c d r a b = record { is = b .is ∙ ap (andAll (entriesOf ys)) (a .is) ∙ sym (rw (map-append (λ (v : Bytes). length (list v)) xs ys) (all-append (entriesOf xs) (entriesOf ys) c)); few = b .few }
 
 pub counts-few : (ks : List ℕ) (c r : Count) → Counts ks c r → sizeOf r ≤ 1024
 counts-few ks c r a = a .few

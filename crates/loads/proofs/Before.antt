@@ -8,7 +8,7 @@ use mathlib.Core.List.{List, [], _∷_, _++_}
 use mathlib.Core.Option.{Option, none, some}
 use lib.Dec.{leb}
 use lib.ListN.{length, take, drop, length-take}
-use lib.Seq.{drop-drop, length-take-le}
+use lib.Seq.{length-take-le}
 use borrow.Author.Needs.{needs}
 use borrow.Author.Tests.{leb-true}
 use Rattle.text.specs.Ascii.{Bytes, ascii}
@@ -44,7 +44,7 @@ use Rattle.held.specs.Held.{memOf, modelAt, countedOf, Lends, Held, Worded}
 use Rattle.loads.specs.declared.Load.{Load}
 use Rattle.loads.specs.Steps.{lineAt, stepFrom, loadAt, filesIn, fileReads, Texts}
 use Rattle.loads.specs.Loads.{restored-by, Restores, Loading, Refuses, Opens, Loaded}
-use Rattle.loads.specs.Scoped.{line-is, words-grow, scoping, in-held, in-model, in-counted, in-log, still-held, scope-within, now-within}
+use Rattle.loads.specs.Scoped.{line-is, words-grow, scoping, in-held, in-model, in-counted, in-log, still-held, scope-within, now-within, far, cond-is}
 
 -- ---- behind a load
 pub restores-not : (m s u : State) → u ≡ scope-set s (m .head .scope) → m .head .top ≡ Not → Restores m s u
@@ -58,9 +58,6 @@ pub ruleset restores = (needs, restores-not, restores-given)
 -- ---- loads
 cond-true : (b : Bool) (x y : Reading) → b ≡ true → cond b x y ≡ x
 cond-true b x y e = rw e
-
-cond-is : (b c : Bool) (x y : Reading) → b ≡ c → cond b x y ≡ cond c x y
-cond-is b c x y e = rw e
 
 load-is : (fs : List File) (left : ℕ) (p : Bytes) (n : Counted) (m : Model) → 0 < left → loadAt fs left p n m ≡ readBody (loadAt fs (left - 1)) p (fileNamed fs p) n m
 unfolding readFile
@@ -123,11 +120,6 @@ module _ (job files area nums words : List ℕ) (count n k left : ℕ) (s : Stat
       log : r .state .fill .log ≡ s .fill .log
       is : (text : Bytes) → D text ≡ restored (m text) (load by (countedOf (r .state)) (modelAt files area′ nums (r .state) text))
 
-    far : (e : ℕ) → e ≤ 24576 → drop e area′ ≡ drop e area → drop 24576 area′ ≡ drop 24576 area
-    far e h g =
-        let q : e + (24576 - e) ≡ 24576 = omega arith in
-        rw q at (sym (drop-drop (24576 - e) e area′) ∙ ap (drop (24576 - e)) g ∙ drop-drop (24576 - e) e area)
-
     went-same : optionOf (ascii "-scope") ws ≡ none → Same area area′ s r → Went
     went-same e g =
         record {
@@ -145,7 +137,7 @@ module _ (job files area nums words : List ℕ) (count n k left : ℕ) (s : Stat
         let h = in-held files area area′ nums s (v .held) lends (target w) r g f (v .counted) in
         record {
           kept = g .kept;
-          back = far (r .state .fill .end) (omega (arith, h .end, h .substituted, h .scopes)) (g .back);
+          back = far area area′ (r .state .fill .end) (omega (arith, h .end, h .substituted, h .scopes)) (g .back);
           held = h;
           more = g .more;
           log = in-log files area area′ nums s (v .held) lends (target w) r g f (v .counted);

@@ -7,6 +7,7 @@ use mathlib.Core.Bool.{Bool, true, false, cond, _&&_}
 use mathlib.Core.List.{List, [], _∷_, _++_}
 use lib.Dec.{leb}
 use lib.ListN.{length, take, drop}
+use lib.Seq.{drop-drop}
 use borrow.Author.Tests.{le-leb}
 use Rattle.text.specs.Ascii.{Bytes, ascii}
 use Rattle.spans.specs.Span.{bytes, pairAt, pairs, strings}
@@ -17,7 +18,7 @@ use Rattle.args.specs.Laws.{words-all, words-here}
 use Rattle.model.specs.Limits.{most-scope}
 use Rattle.model.specs.Records.{Model, with-scope}
 use Rattle.model.specs.Within.{Counted, recordsFit, countsFit}
-use Rattle.read.specs.Reading.{Line, lineOf}
+use Rattle.read.specs.Reading.{Line, lineOf, Reading}
 use Rattle.store.specs.Strings.{string, spanOf}
 use Rattle.store.specs.View.{Store, modelOf}
 use Rattle.store.specs.Order.{Shaped, Bounded}
@@ -147,3 +148,15 @@ module _ (files area nums : List ℕ) (s : State) (v : Held files area nums 1 s)
   now-within log =
       rw (le-leb (s .count .commands) 1024 counted, le-leb (s .count .substituted) 16384 (v .substituted), le-leb (s .count .scopes) 8192 (v .scopes), le-leb (s .count .entries) 1024 (v .entries))
       (fits-all (modelAt files area nums s log) (now-fits (memOf files area s) (storeOf nums s) s log (v .shaped)))
+
+-- ---- what a caller of the scope's laws meets
+
+-- what is kept behind e is kept behind 24,576
+pub far : (area area′ : List ℕ) (e : ℕ) → e ≤ 24576 → drop e area′ ≡ drop e area → drop 24576 area′ ≡ drop 24576 area
+far area area′ e h g =
+    let q : e + (24576 - e) ≡ 24576 = omega arith in
+    rw q at (sym (drop-drop (24576 - e) e area′) ∙ ap (drop (24576 - e)) g ∙ drop-drop (24576 - e) e area)
+
+-- two tests that come to the same
+pub cond-is : (b c : Bool) (x y : Reading) → b ≡ c → cond b x y ≡ cond c x y
+cond-is b c x y e = rw e

@@ -1,6 +1,6 @@
 -- What a lookup comes to. A module is one more than the number of its row, 0 is none; the modules of the job are the rows of its index.
 -- Assumes nothing.
-use Prim.Native.Nat.{ℕ, zero, suc, _+_, _≤_}
+use Prim.Native.Nat.{ℕ, zero, suc, _+_, _≤_, _-_}
 use mathlib.Core.Path.{_≡_, refl}
 use mathlib.Core.List.{List, [], _∷_}
 use mathlib.Core.Option.{Option, none, some}
@@ -13,6 +13,7 @@ use Rattle.design.specs.Lookup.{moduleNamed, instanceNamed, moduleAt}
 use Rattle.lines.specs.Cursors.{instIs, Stepped}
 use Rattle.lines.specs.declared.InstAt.{InstAt}
 use Rattle.lines.specs.declared.InstAt.the-variants as inst
+use native.Mathlib.Omega.{arith}
 
 -- the modules of the job, in the order of their lines
 abbrev pub modules : Bytes → List ℕ → ℕ → List Module
@@ -22,6 +23,15 @@ modules job index count = rows (moduleRow job index) count
 unfoldable pub rowIs : Bytes → List ℕ → ℕ → Option Module
 rowIs job index zero = none
 rowIs job index (suc k) = some (moduleRow job index k)
+
+pub row-none : (job : Bytes) (index : List ℕ) → rowIs job index 0 ≡ none
+unfolding rowIs
+row-none job index = refl
+
+pub row-some : (job : Bytes) (index : List ℕ) (q : ℕ) → (q ≡ 0 → ⊥) → rowIs job index q ≡ some (moduleRow job index (q - 1))
+unfolding rowIs
+row-some job index zero h = absurd (h refl)
+row-some job index (suc q) h = let z : suc q - 1 ≡ q = omega arith in rw z
 
 pub record ModuleSeen (job : Bytes) (index : List ℕ) (count : ℕ) (m : Option Module) (r : ℕ) : Type 0 where
   pub says : rowIs job index r ≡ m

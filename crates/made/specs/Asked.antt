@@ -8,7 +8,7 @@ use mathlib.Core.Option.{Option, none, some}
 use Rattle.text.specs.Ascii.{Bytes}
 use borrow.Author.Needs.{needs}
 use Rattle.spans.specs.Span.{_⋯_, bytes, pairs}
-use Rattle.spans.specs.Reach.{spanEnd, lastOf, reach, filed, reach-held}
+use Rattle.spans.specs.Reach.{spanEnd, lastOf}
 use Rattle.spans.specs.declared.span.Span.{Span}
 use Rattle.spans.specs.declared.span.Found.{Found}
 use Rattle.spans.specs.declared.span.Found.the-variants.{At, None}
@@ -49,10 +49,6 @@ module _ (mem : Bytes) (words : List ℕ) (n : ℕ) (e : Span → ℕ) (z : e (0
   pub below-by : (t : Option Bytes) (f : Found) (scope : Stored) → Finds mem words n t f → ofMaybeBelow (λ s. e (spanOf s)) (belowFound scope f) ≤ max (e (spanOf scope)) (lastOf e (pairs words 0 n))
   below-by t None scope a = omega arith
   below-by t (At s) scope a = omega (arith, a .within e z)
-
--- ---- the same for `reach`
-pub none-reach : (long : ℕ) → reach long (0 ⋯ 0) ≡ 0
-none-reach long = reach-held long (0 ⋯ 0) (filed (omega arith))
 
 module _ (mem : Bytes) (words : List ℕ) (n : ℕ) where
   -- ---- what it says

@@ -8,7 +8,7 @@ use lib.Dec.{eqb}
 use lib.ListN.{length, take, drop, take-append-drop}
 use lib.Seq.{take-at}
 use borrow.Author.Needs.{needs}
-use borrow.Author.Tests.{eq-eqb, ne-eqb, eqb-true}
+use borrow.Author.Tests.{eq-eqb, ne-eqb, eqb-true, not-true, not-false}
 use Rattle.text.specs.Ascii.{Bytes, ascii, byte}
 use Rattle.text.specs.Compare.{same, less, startsWith}
 use Rattle.text.specs.Sames.{no-true, both, same-refl, same-eq, same-front, less-front}
@@ -17,14 +17,6 @@ use Rattle.spans.specs.Frame.{whole}
 use Rattle.spans.specs.declared.span.Span.{Span}
 use Rattle.names.specs.Name.{named, entryOf, slash, nameOf}
 use Rattle.names.specs.declared.name.Name.{Name}
-
-not-true : (t : Bool) → not t ≡ false → t ≡ true
-not-true true e = refl
-not-true false e = sym e
-
-not-false : (t : Bool) → not t ≡ true → t ≡ false
-not-false true e = sym e
-not-false false e = refl
 
 -- ---- whether a name is a string
 
@@ -56,14 +48,14 @@ module _ (mem w : Bytes) (s : Span) (form : ℕ) (r : Bool) where
 
 module _ (sep : Bool) (u w : Bytes) where
   pub is-bare : (r : Bool) → r ≡ same u w → not sep ≡ true → r ≡ same (slash sep ++ u) w
-  is-bare r e h = rw (not-false sep h) e
+  is-bare r e h = rw (not-true sep h) e
 
   module _ (h : not sep ≡ false) (t : Bool) (f : t ≡ startsWith (ascii "/") w) where
     pub is-no-slash : not t ≡ true → false ≡ same (slash sep ++ u) w
-    is-no-slash g = rw (not-true sep h) (begins-not (ascii "/") u w t f (not-false t g))
+    is-no-slash g = rw (not-false sep h) (begins-not (ascii "/") u w t f (not-true t g))
 
     pub is-slash : not t ≡ false → (v : Bytes) (r : Bool) → r ≡ same u v → v ≡ drop 1 w → r ≡ same (slash sep ++ u) w
-    is-slash g v r e d = rw (not-true sep h) (e ∙ ap (same u) d ∙ sym (begins (ascii "/") u w t f (not-true t g)))
+    is-slash g v r e d = rw (not-false sep h) (e ∙ ap (same u) d ∙ sym (begins (ascii "/") u w t f (not-false t g)))
 
 module _ (mem w p : Bytes) (n : Name) (e : p ≡ take (length p) (bytes mem (n .scope))) (l : length p ≡ n .scope .len) (t : Bool) (f : t ≡ startsWith p w) where
   scope-is : bytes mem (n .scope) ≡ p
@@ -71,11 +63,11 @@ module _ (mem w p : Bytes) (n : Name) (e : p ≡ take (length p) (bytes mem (n .
 
   pub is-no-scope : not t ≡ true → false ≡ same (nameOf mem n) w
   unfolding nameOf
-  is-no-scope g = rw scope-is (begins-not p _ w t f (not-false t g))
+  is-no-scope g = rw scope-is (begins-not p _ w t f (not-true t g))
 
   pub is-scope : not t ≡ false → (v : Bytes) (r : Bool) → r ≡ same (slash (n .sep) ++ entryOf (n .form) (bytes mem (n .word))) v → v ≡ drop (length p) w → r ≡ same (nameOf mem n) w
   unfolding nameOf
-  is-scope g v r d k = rw scope-is (d ∙ ap (same (slash (n .sep) ++ entryOf (n .form) (bytes mem (n .word)))) k ∙ sym (begins p _ w t f (not-true t g)))
+  is-scope g v r d k = rw scope-is (d ∙ ap (same (slash (n .sep) ++ entryOf (n .form) (bytes mem (n .word)))) k ∙ sym (begins p _ w t f (not-false t g)))
 
 pub ruleset isses = (needs, is-word, is-entry, is-bare, is-no-slash, is-slash, is-no-scope, is-scope)
 
@@ -111,11 +103,11 @@ module _ (mem : Bytes) (x y : Name) (t : Bool) (e : t ≡ (eqb (x .form) 0 && eq
     (f : Bool) (h : f ≡ same (bytes mem (x .scope)) (bytes mem (y .scope))) (k : f ≡ true) (r : Bool) where
   pub names-fast : r ≡ same (bytes mem (x .word)) (bytes mem (y .word)) → r ≡ same (nameOf mem x) (nameOf mem y)
   unfolding nameOf
-  names-fast l = l ∙ sym (alike-by (bytes mem (x .scope)) (bytes mem (y .scope)) (bytes mem (x .word)) (bytes mem (y .word)) (x .form) (y .form) (x .sep) (y .sep) (sym e ∙ not-true t g) (sym h ∙ k))
+  names-fast l = l ∙ sym (alike-by (bytes mem (x .scope)) (bytes mem (y .scope)) (bytes mem (x .word)) (bytes mem (y .word)) (x .form) (y .form) (x .sep) (y .sep) (sym e ∙ not-false t g) (sym h ∙ k))
 
   pub order-fast : r ≡ less (bytes mem (x .word)) (bytes mem (y .word)) → r ≡ less (nameOf mem x) (nameOf mem y)
   unfolding nameOf
-  order-fast l = l ∙ sym (order-by (bytes mem (x .scope)) (bytes mem (y .scope)) (bytes mem (x .word)) (bytes mem (y .word)) (x .form) (y .form) (x .sep) (y .sep) (sym e ∙ not-true t g) (sym h ∙ k))
+  order-fast l = l ∙ sym (order-by (bytes mem (x .scope)) (bytes mem (y .scope)) (bytes mem (x .word)) (bytes mem (y .word)) (x .form) (y .form) (x .sep) (y .sep) (sym e ∙ not-false t g) (sym h ∙ k))
 
 pub ruleset fast = (needs, names-fast)
 

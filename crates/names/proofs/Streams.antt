@@ -1,9 +1,8 @@
 -- Loops over what is left of a name. Each law is stated as a loop's needs ask it. Assumes nothing.
 use Prim.Native.Nat.{ℕ, _+_, _≤_, _<_}
-use mathlib.Core.Path.{_≡_, refl, sym, ap, _∙_}
+use mathlib.Core.Path.{_≡_, refl, ap, _∙_}
 use mathlib.Core.Bool.{Bool, true, false, cond}
 use mathlib.Core.List.{List, [], _∷_, _++_}
-use native.Mathlib.Omega.{arith}
 use lib.Dec.{eqb, ltb}
 use lib.ListN.{length, drop, getD, drop-of-length-le}
 use borrow.Author.Needs.{needs}
@@ -11,17 +10,14 @@ use borrow.Author.Tests.{eq-eqb, ne-eqb}
 use Rattle.text.specs.Ascii.{Bytes, byte}
 use Rattle.text.specs.Compare.{same, less}
 use Rattle.text.specs.Lists.{here}
+use Rattle.text.specs.Classes.{dotOf}
 use Rattle.out.specs.Emit.{Out, emit, emit-append}
 use Rattle.out.specs.Bytewise.{flat, becomes, dotted}
 use Rattle.names.specs.Name.{nameOf, stepOf}
-use Rattle.names.specs.Laws.{dotOf, dotted-step, dotted-none}
+use Rattle.names.specs.Laws.{dotted-step, dotted-none, shorter, dot-slash, dot-other}
 use Rattle.names.specs.declared.name.Name.{Name}
 use Rattle.names.specs.declared.name.Step.{Step}
 use Rattle.names.specs.declared.name.Step.the-variants.{Byte, End}
-
--- it gets shorter
-pub shorter : (mem : Bytes) (x u : Name) (p : Step) (b : ℕ) → nameOf mem x ≡ stepOf mem p → p ≡ Byte b u → length (nameOf mem u) < length (nameOf mem x)
-shorter mem x u p b e h = rw (e, h) (omega arith)
 
 -- ---- whether two are the same
 
@@ -112,12 +108,6 @@ pub ruleset iss = (needs, is-short, is-end, is-long, is-stop, is-step)
 
 pub record Dots (mem s : Bytes) (t : Bool) (x : Name) (i : ℕ) : Type 0 where
   pub keeps : same (dotted (nameOf mem x)) (drop i s) ≡ t
-
-pub dot-slash : (b : ℕ) → b ≡ byte "/" → byte "." ≡ dotOf b
-dot-slash b h = sym (rw (eq-eqb b (byte "/") h))
-
-pub dot-other : (b : ℕ) → (b ≡ byte "/" → ⊥) → b ≡ dotOf b
-dot-other b h = sym (rw (ne-eqb b (byte "/") h))
 
 module _ (mem s : Bytes) (t : Bool) (x : Name) (i : ℕ) (inv : Dots mem s t x i) (p : Step) (e : nameOf mem x ≡ stepOf mem p) where
   pub dots-short : p ≡ End → i < length s → false ≡ t

@@ -66,6 +66,27 @@ parts-some b (x ∷ xs) = go (eqb x b) (splitAt b xs)
     go false [] = refl
     go false (p ∷ ps) = refl
 
+-- a byte that belongs to the first part
+pub onto-first : (x : ℕ) (ps : List Bytes) → firstPart (onto x ps) ≡ x ∷ firstPart ps
+onto-first x [] = refl
+onto-first x (p ∷ ps) = refl
+
+pub onto-others : (x : ℕ) (ps : List Bytes) → others (onto x ps) ≡ others ps
+onto-others x [] = refl
+onto-others x (p ∷ ps) = refl
+
+pub parts-at : (x : ℕ) (s : Bytes) → x ≡ byte "/" → parts (x ∷ s) ≡ [] ∷ parts s
+unfolding splitAt
+parts-at x s h = rw (eq-eqb x (byte "/") h)
+
+pub parts-on : (x : ℕ) (s : Bytes) → (x ≡ byte "/" → ⊥) → parts (x ∷ s) ≡ onto x (parts s)
+unfolding splitAt
+parts-on x s h = rw (ne-eqb x (byte "/") h)
+
+pub parts-none : parts [] ≡ [] ∷ []
+unfolding splitAt
+parts-none = refl
+
 -- behind a slash
 pub parts-slash : (s : Bytes) → parts (byte "/" ∷ s) ≡ [] ∷ parts s
 unfolding splitAt

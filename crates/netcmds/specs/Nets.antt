@@ -11,7 +11,7 @@ use Rattle.text.specs.Ascii.{Bytes}
 use Rattle.text.specs.Compare.{same}
 use Rattle.text.specs.Scan.{any}
 use Rattle.spans.specs.Span.{bytes, pairs}
-use Rattle.spans.specs.Reach.{lastOf, reach}
+use Rattle.spans.specs.Reach.{lastOf, reach, none-reach}
 use Rattle.spans.specs.declared.span.Span.{Span}
 use Rattle.names.specs.Name.{nameOf as Name·nameOf, Makes}
 use Rattle.names.specs.declared.name.Name.{Name}
@@ -35,7 +35,6 @@ use Rattle.made.specs.declared.Made.{Made}
 use Rattle.made.specs.Made.{fineMade, fullMade, reachOf, Ready, Did}
 use Rattle.made.specs.Dids.{one-over, did-full, did-nothing}
 use Rattle.made.specs.Done.{did-state}
-use Rattle.made.specs.Asked.{none-reach}
 use Rattle.portcmds.specs.Named.{BelowIs}
 
 -- whether a stored name is w

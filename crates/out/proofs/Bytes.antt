@@ -1,14 +1,13 @@
 -- What a byte becomes, as the writers ask it: o′ is what the one call of a way left. Assumes nothing.
-use Prim.Native.Nat.{ℕ, _≤_, _-_}
+use Prim.Native.Nat.{ℕ, _-_}
 use mathlib.Core.Path.{_≡_}
 use mathlib.Core.Bool.{Bool, true, false, cond, _&&_, _||_}
 use mathlib.Core.List.{List, [], _∷_}
-use lib.Dec.{eqb, leb}
+use lib.Dec.{eqb}
 use borrow.Author.Needs.{needs}
-use borrow.Author.Tests.{eq-eqb, ne-eqb, leb-true}
+use borrow.Author.Tests.{eq-eqb, ne-eqb}
 use Rattle.text.specs.Ascii.{Bytes}
 use Rattle.text.specs.Classes.{within, isAlnum}
-use Rattle.text.specs.Sames.{both}
 use Rattle.out.specs.Emit.{Out, emit, emit1}
 use Rattle.out.specs.Bytewise.{mangledByte, dottedByte, svByte, becomes, mangle, dotted, svStr}
 use Rattle.out.specs.Fill.{pick, arg}
@@ -77,9 +76,6 @@ module _ (o o′ : Out) (i : ℕ) (s : Bytes) where
 pub ruleset unlesses = (needs, unless-none, unless-some)
 
 -- ---- the argument of a letter
-
-pub low : (lo hi k : ℕ) → within lo hi k ≡ true → lo ≤ k
-low lo hi k t = leb-true lo k (both (leb lo k) (leb k hi) t .0)
 
 module _ (o o′ : Out) (a b c d e p : Bytes) (k : ℕ) where
   pub arg-plain : within 48 52 k ≡ true → p ≡ pick (k - 48) a b c d e → o′ ≡ emit o p → o′ ≡ emit o (arg a b c d e k)

@@ -14,7 +14,8 @@ use mathlib.Core.Bool.{Bool, true, false}
 use borrow.Author.Tests.{lt-ltb, ltb-true}
 use Rattle.out.specs.Emit.{Out, _▸_, emit1, emit}
 
-emit-sets : (t buf : Bytes) (at : ℕ) → at + length t ≤ length buf → emit (buf ▸ at) t ≡ sets buf at t ▸ (at + length t)
+-- what fits from a place on is stored there
+pub emit-sets : (t buf : Bytes) (at : ℕ) → at + length t ≤ length buf → emit (buf ▸ at) t ≡ sets buf at t ▸ (at + length t)
 unfolding emit emit1
 emit-sets [] buf at h = rw add-zero
 emit-sets (b ∷ t) buf at h =

@@ -35,6 +35,14 @@ joined sep (t ∷ ts) = t ++ behind sep ts
 
 -- ---- laws
 
+pub each-cons : {A : Type 0} (f : A → Bytes) (x : A) (xs : List A) → each f (x ∷ xs) ≡ f x ++ each f xs
+unfolding each
+each-cons f x xs = refl
+
+pub each-none : {A : Type 0} (f : A → Bytes) (o : Out) → emit o (each f []) ≡ o
+unfolding each emit
+each-none f o = refl
+
 two : (l : List ℕ) (i : ℕ) → i + 1 < length l → drop i l ≡ getD l i 0 ∷ getD l (i + 1) 0 ∷ drop (i + 2) l
 two l i h =
     let h₀ : i < length l = omega arith in

@@ -1,18 +1,19 @@
 -- Numbers made byte by byte: the number so far, with what is left behind it, is the number of all. Assumes nothing.
 use Prim.Native.Nat.{ℕ, _+_, _<_, _≤_}
-use mathlib.Core.Path.{_≡_, refl, sym, ap, _∙_}
+use mathlib.Core.Path.{_≡_, refl, ap, _∙_}
 use mathlib.Core.List.{List, [], _∷_, _++_}
 use native.Mathlib.Omega.{arith}
 use lib.ListN.{length, drop, getD, drop-of-length-le}
 use borrow.Author.Needs.{needs}
-use borrow.Author.Tests.{eq-eqb, ne-eqb}
 use Rattle.text.specs.Ascii.{Bytes, byte}
 use Rattle.text.specs.Lists.{here}
+use Rattle.text.specs.Classes.{dotOf}
 use Rattle.names.specs.Name.{nameOf, stepOf}
 use Rattle.names.specs.declared.name.Name.{Name}
 use Rattle.names.specs.declared.name.Step.{Step}
 use Rattle.names.specs.declared.name.Step.the-variants.{Byte, End}
-use Rattle.design.specs.Paths.{dotOf, dotted}
+use Rattle.names.specs.Laws.{dot-slash, dot-other}
+use Rattle.design.specs.Paths.{dotted}
 use Rattle.pathnumber.specs.Number.{after, number}
 
 -- ---- a text
@@ -35,12 +36,6 @@ module _ (total : ℕ) (p : Bytes) (x i : ℕ) (inv : Numbers total p x i) where
 pub ruleset numbers = (needs, numbers-start, numbers-end, numbers-next)
 
 -- ---- an element
-
-pub dot-slash : (b : ℕ) → b ≡ byte "/" → byte "." ≡ dotOf b
-dot-slash b h = sym (rw (eq-eqb b (byte "/") h))
-
-pub dot-other : (b : ℕ) → (b ≡ byte "/" → ⊥) → b ≡ dotOf b
-dot-other b h = sym (rw (ne-eqb b (byte "/") h))
 
 pub ruleset dots = (needs, dot-slash, dot-other)
 

@@ -2,8 +2,9 @@
 ghost use mathlib.Core.Path.{_≡_};
 ghost use mathlib.Core.List.{_++_};
 ghost use Rattle.names.specs.Name.{nameOf};
-ghost use Rattle.design.specs.Paths.{dotOf, dotted};
+ghost use Rattle.design.specs.Paths.{dotted};
 ghost use Rattle.pathnumber.specs.Number.{after as Number·after, number};
+ghost use Rattle.text.specs.Classes.{dotOf};
 use names::name::Name;
 use names::name::Step;
 use names::name::next;

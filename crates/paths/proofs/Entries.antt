@@ -9,23 +9,25 @@ use lib.Dec.{eqb}
 use lib.ListN.{length, take, drop, length-append, length-map, length-take}
 use borrow.Author.Needs.{needs}
 use borrow.Author.Tests.{eq-eqb, ne-eqb, eqb-true}
-use Rattle.text.specs.Ascii.{Bytes, byte}
+use Rattle.text.specs.Ascii.{Bytes}
 use Rattle.text.specs.Compare.{same}
 use Rattle.text.specs.Scan.{any}
-use Rattle.text.specs.Sames.{no-true, both, same-eq, same-refl}
+use Rattle.text.specs.Sames.{no-true, both, same-turned}
+use Rattle.text.specs.Classes.{dotOf}
+use Rattle.text.specs.Lists.{no-bytes}
 use Rattle.out.specs.Bytewise.{dotted as Bytewise·dotted}
 use Rattle.names.specs.Name.{nameOf, stepOf}
-use Rattle.names.specs.Laws.{dotted-map}
+use Rattle.names.specs.Laws.{dotted-map, dot-slash, dot-other}
 use Rattle.names.specs.declared.name.Name.{Name}
 use Rattle.names.specs.declared.name.Step.{Step}
 use Rattle.names.specs.declared.name.Step.the-variants.{Byte, End}
 use Rattle.nametable.specs.Table.{rowName, namesFrom, tableNames, names-next, names-none}
 use Rattle.design.specs.Lists.{isIn, those}
-use Rattle.design.specs.Paths.{dotOf, dotted}
+use Rattle.design.specs.Paths.{dotted}
 use Rattle.walk.specs.Walk.{retainedPaths}
+use Rattle.walk.specs.Retained.{length-dotted}
 use Rattle.paths.specs.Pieces.{entriesBelow}
 use Rattle.paths.specs.Sizes.{name-short}
-use Rattle.paths.proofs.Pieces.{length-dotted}
 
 -- ---- how long a name is
 
@@ -59,25 +61,7 @@ pub ruleset counts = (needs, count-start, count-end, count-fits, count-on, count
 
 -- ---- an entry compared with an element and a tail
 
-pub dot-slash : (b : ℕ) → b ≡ byte "/" → byte "." ≡ dotOf b
-dot-slash b h = sym (rw (eq-eqb b (byte "/") h))
-
-pub dot-other : (b : ℕ) → (b ≡ byte "/" → ⊥) → b ≡ dotOf b
-dot-other b h = sym (rw (ne-eqb b (byte "/") h))
-
 pub ruleset dots = (needs, dot-slash, dot-other)
-
-same-turned : (p q : Bytes) → same p q ≡ same q p
-same-turned p q = go (same p q) refl (same q p) refl
-  where
-    same-of : (p q : Bytes) → p ≡ q → same p q ≡ true
-    same-of p q e = rw e (same-refl q)
-
-    go : (a : Bool) → same p q ≡ a → (b : Bool) → same q p ≡ b → a ≡ b
-    go true e true f = refl
-    go true e false f = absurd (no-true (sym f ∙ same-of q p (sym (same-eq p q e))))
-    go false e true f = absurd (no-true (sym e ∙ same-of p q (sym (same-eq q p f))))
-    go false e false f = refl
 
 -- t is the answer: what is left of the element and the tail are what is left of the entry, or not
 pub record Left (mem tail : Bytes) (t : Bool) (a b : Name) : Type 0 where
@@ -145,10 +129,6 @@ pub record Among (mem path : Bytes) (table : List ℕ) (n : ℕ) (t : Bool) (k :
   pub keeps : isIn path (map dotted (namesFrom mem table k (n - k))) ≡ t
   pub few : n ≤ 65536
 
-empty-list : (l : Bytes) → length l ≡ 0 → l ≡ []
-empty-list [] h = refl
-empty-list (x ∷ l) h = absurd (omega arith)
-
 module _ (mem : Bytes) (table : List ℕ) (n : ℕ) (below : Bool) (e : Name) (elen : ℕ) (tail : Bytes) (l : elen ≡ length (nameOf mem e)) where
   abbrev path : Bytes
   path = dotted (nameOf mem e) ++ tail
@@ -157,7 +137,7 @@ module _ (mem : Bytes) (table : List ℕ) (n : ℕ) (below : Bool) (e : Name) (e
   among-empty h =
       let b = both below (eqb elen 0 && eqb (length tail) 0) h in
       let c = both (eqb elen 0) (eqb (length tail) 0) (b .1) in
-      let z : path ≡ [] = empty-list path (omega (arith, length-append (dotted (nameOf mem e)) tail, length-dotted (nameOf mem e), l, eqb-true elen 0 (c .0), eqb-true (length tail) 0 (c .1))) in
+      let z : path ≡ [] = no-bytes path (omega (arith, length-append (dotted (nameOf mem e)) tail, length-dotted (nameOf mem e), l, eqb-true elen 0 (c .0), eqb-true (length tail) 0 (c .1))) in
       sym (rw (z, b .0) (filled-out (tableNames mem table n)))
 
   pub among-start : n ≤ 65536 → below && (eqb elen 0 && eqb (length tail) 0) ≡ false → Among mem path table n (isIn path (retainedPaths [] (entriesBelow below (tableNames mem table n)))) 0

@@ -5,7 +5,7 @@ use mathlib.Core.Bool.{Bool, true, false, cond, not, _&&_}
 use mathlib.Core.List.{List, [], _∷_, _++_}
 use native.Mathlib.Omega.{arith}
 use lib.Dec.{eqb}
-use lib.ListN.{length, take, drop, length-append, length-map, length-drop}
+use lib.ListN.{length, take, drop, length-append, length-drop}
 use lib.Seq.{drop-drop, take-all}
 use borrow.Author.Needs.{needs}
 use borrow.Author.Tests.{not-true, not-false}
@@ -17,8 +17,9 @@ use Rattle.out.specs.Bytewise.{dotted as Bytewise·dotted}
 use Rattle.names.specs.Name.{nameOf}
 use Rattle.names.specs.Laws.{dotted-map}
 use Rattle.names.specs.declared.name.Name.{Name}
-use Rattle.design.specs.Paths.{dotOf, dotted}
+use Rattle.design.specs.Paths.{dotted}
 use Rattle.paths.specs.Pieces.{Sized}
+use Rattle.walk.specs.Retained.{length-dotted}
 
 -- the same by a front and what is behind it
 pub same-split : (a b r : Bytes) → same (a ++ b) r ≡ same a (take (length a) r) && same b (drop (length a) r)
@@ -34,9 +35,6 @@ same-split (x ∷ a) b (y ∷ r) = go (eqb x y) (same-split a b r)
 and-right : (x y : Bool) → y ≡ false → false ≡ x && y
 and-right true y e = sym e
 and-right false y e = refl
-
-pub length-dotted : (e : Bytes) → length (dotted e) ≡ length e
-length-dotted e = length-map e dotOf
 
 module _ (mem : Bytes) (e : Name) (elen : ℕ) (tail name row : Bytes) (s : Sized mem e elen tail name) where
   pub at-fits : elen + length tail < 2 ^ 64

@@ -9,9 +9,9 @@ use Rattle.text.specs.Ascii.{Bytes}
 use Rattle.tcl.specs.Rewrite.{rewrite}
 use Rattle.tcl.specs.Join.{join}
 use Rattle.tcl.specs.Substitution.{escape, escaped, unescape}
+use Rattle.tcl.specs.Rewrites.{join-short}
 use Rattle.spans.specs.Span.{bytes}
 use Rattle.entries.specs.Entry.{entryBytes}
-use Rattle.entries.specs.Raw.{join-short}
 use Rattle.names.specs.Name.{nameOf, entryOf, slash}
 use Rattle.names.specs.declared.name.Name.{Name}
 
@@ -26,8 +26,8 @@ entry-short form w = go (eqb form 0) (eqb form 2)
   where
     go : (a b : Bool) → length (cond a w (entryBytes b w)) ≤ length w
     go true b = omega arith
-    go false true = let h : length (unescape (join w)) ≤ length (join w) = escape-short 0 (join w) in let g : length (join w) ≤ length w = join-short 0 w in omega arith
-    go false false = join-short 0 w
+    go false true = let h : length (unescape (join w)) ≤ length (join w) = escape-short 0 (join w) in let g : length (join w) ≤ length w = join-short w in omega arith
+    go false false = join-short w
 
 slash-short : (sep : Bool) → length (slash sep) ≤ 1
 slash-short true = omega arith

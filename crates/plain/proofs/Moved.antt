@@ -1,12 +1,11 @@
 -- Laws: `set_scope`, which may write its scope to the area. Assumes nothing.
-use Prim.Native.Nat.{ℕ, _+_, _-_, _≤_}
+use Prim.Native.Nat.{ℕ, _+_, _≤_}
 use native.Mathlib.Omega.{arith}
 use mathlib.Core.Path.{_≡_, refl, sym, ap, _∙_}
 use mathlib.Core.Bool.{Bool, true, false, cond}
 use mathlib.Core.List.{List, []}
 use lib.Dec.{leb}
 use lib.ListN.{length, take, drop}
-use lib.Seq.{drop-drop}
 use borrow.Author.Tests.{leb-true}
 use Rattle.text.specs.Ascii.{Bytes}
 use Rattle.text.specs.Sames.{both}
@@ -27,12 +26,9 @@ use Rattle.scopes.specs.declared.go.Out.{Out}
 use Rattle.scopes.specs.Moves.{scopeFits, In, Stays, Moves, Line as Scopes·Line}
 use Rattle.held.specs.Held.{memOf, modelAt, countedOf, Logged, Lends, Held, Comes, Ran}
 use Rattle.loads.specs.Steps.{acted, lineAt}
-use Rattle.loads.specs.Scoped.{line-is, scoping, in-held, in-model, in-counted, in-log, scope-within}
+use Rattle.loads.specs.Scoped.{line-is, scoping, in-held, in-model, in-counted, in-log, scope-within, far, cond-is}
 use Rattle.plain.specs.Asks.{Asks}
 use Rattle.plain.proofs.Holds.{model-log, reading-done, reading-refused, comes-at}
-
-cond-is : (b c : Bool) (x y : Reading) → b ≡ c → cond b x y ≡ cond c x y
-cond-is b c x y e = rw e
 
 module _ (files area nums words : List ℕ) (n c : ℕ) (s : State) (v : Asks files area nums words n c s) where
   abbrev mem : Bytes
@@ -68,11 +64,6 @@ module _ (files area nums words : List ℕ) (n c : ℕ) (s : State) (v : Asks fi
     lends : Lends files area′ nums
     lends = record { files-short = v .held .lends .files-short; area-long = omega (arith, v .held .lends .area-long, len); small = omega (arith, v .held .lends .small, len); nums-long = v .held .lends .nums-long }
 
-    far : (e : ℕ) → e ≤ 24576 → drop e area′ ≡ drop e area → drop 24576 area′ ≡ drop 24576 area
-    far e h g =
-        let q : e + (24576 - e) ≡ 24576 = omega arith in
-        rw q at (sym (drop-drop (24576 - e) e area′) ∙ ap (drop (24576 - e)) g ∙ drop-drop (24576 - e) e area)
-
     abbrev then : Bytes → Model
     then text = modelAt files area′ nums (r .state) text
 
@@ -106,7 +97,7 @@ module _ (files area nums words : List ℕ) (n c : ℕ) (s : State) (v : Asks fi
           record {
             held = λ z. held;
             more = λ z. g .more;
-            lent = record { kept = g .kept; back = far (r .state .fill .end) (omega (arith, held .end, held .substituted, held .scopes)) (g .back); low = refl; high = refl };
+            lent = record { kept = g .kept; back = far area area′ (r .state .fill .end) (omega (arith, held .end, held .substituted, held .scopes)) (g .back); low = refl; high = refl };
             reads = λ log₀ text h. comes-at files area′ nums log₀ log r (D text) (done (countedOf (r .state)) (then text)) (in-acts text) (in-comes log₀ text h);
           }
 

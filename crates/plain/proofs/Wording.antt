@@ -18,7 +18,7 @@ use Rattle.model.specs.Numbers.{namedBy}
 use Rattle.model.specs.Records.{Model}
 use Rattle.model.specs.Commands.{switch-command, port-state-command, carriedOut}
 use Rattle.model.specs.Within.{recordsFit}
-use Rattle.read.specs.Reading.{Reading, done, refused, Line, lineOf, actsBy, scopesBy}
+use Rattle.read.specs.Reading.{done, refused, Line, lineOf, actsBy, scopesBy}
 use Rattle.store.specs.View.{Store, modelOf}
 use Rattle.store.specs.Rows.{storeOf, word-place}
 use Rattle.store.specs.declared.stored.Stored.{Stored}
@@ -34,13 +34,10 @@ use Rattle.loads.specs.Scoped.{line-is}
 use Rattle.plain.specs.Asks.{Asks}
 use Rattle.plain.specs.Stores.{rowStored, outOf, RowRoom, Stores}
 use Rattle.plain.proofs.Rows.{words-low, words-high}
-use Rattle.plain.proofs.Holds.{ready, room, Steady, steady, acted-is, row-room, stored-held, stored-lent, stored-comes, tag-zero, comes-at}
+use Rattle.plain.proofs.Holds.{ready, room, Steady, steady, acted-is, row-room, stored-held, stored-lent, stored-comes, tag-zero, comes-at, ran-at}
 
 did-at : (long : ℕ) (mem : Bytes) (st st′ : Store) (log : Bytes) (s : State) (r : Made) (t : Model) → st ≡ st′ → Did long mem st′ log s r t → Did long mem st log s r t
 did-at long mem st st′ log s r t e d = rw e d
-
-ran-on : (files area nums₀ nums nums′ log₁ log : List ℕ) (s : State) (o o′ : Out) (D : Bytes → Reading) → nums ≡ nums′ → o ≡ o′ → Ran files area area nums₀ nums′ log₁ log s o′ D → Ran files area area nums₀ nums log₁ log s o D
-ran-on files area nums₀ nums nums′ log₁ log s o o′ D e f v = rw (e, f) v
 
 module _ (files area nums words : List ℕ) (n c : ℕ) (s : State) (v : Asks files area nums words n c s) (x : Command) (ec : namedBy c ≡ Named.other x) where
   abbrev mem : Bytes
@@ -112,7 +109,7 @@ module _ (files area nums words : List ℕ) (n c : ℕ) (s : State) (v : Asks fi
         }
 
     pub words-ran : (nums′ : List ℕ) (o : Out) → Stores nums₁ nums′ r o → (log : Bytes) → Ran files area area nums nums′ log log s o (λ text. acted (namedBy c) (lineAt files area words n s) (countedOf s) (modelAt files area nums s text))
-    words-ran nums′ o q log = ran-on files area nums nums′ (rowStored nums₁ r) log log s o (outOf r) (λ text. acted (namedBy c) (lineAt files area words n s) (countedOf s) (modelAt files area nums s text)) (q .becomes) (q .out) (ran log)
+    words-ran nums′ o q log = ran-at files area nums nums′ (rowStored nums₁ r) log log s o (outOf r) (λ text. acted (namedBy c) (lineAt files area words n s) (countedOf s) (modelAt files area nums s text)) (q .becomes) (q .out) (ran log)
 
   pub words-room : (one two : Bytes) → isKey one two (bytes mem (pairAt words 0)) ≡ false → WordRoom one two mem words n nums s
   words-room one two k =

@@ -8,7 +8,7 @@ use mathlib.Core.Option.{Option, none, some}
 use lib.ListN.{length}
 use Rattle.text.specs.Ascii.{Bytes, ascii}
 use Rattle.spans.specs.Span.{_⋯_, pairs}
-use Rattle.spans.specs.Reach.{lastOf, reach}
+use Rattle.spans.specs.Reach.{lastOf, reach, none-reach}
 use Rattle.spans.specs.declared.span.Span.{Span}
 use Rattle.spans.specs.declared.span.Found.{Found}
 use Rattle.tcl.specs.Arguments.{optionOf, nameOf}
@@ -33,7 +33,7 @@ use Rattle.store.specs.Added.{retention-added}
 use Rattle.store.specs.Fits.{fit-retentions}
 use Rattle.store.specs.Steps.{retention-view, retention-shaped, retention-bounded}
 use Rattle.store.specs.declared.state.Retention.{Retention}
-use Rattle.made.specs.Asked.{list-found, or-found, found-by, none-reach}
+use Rattle.made.specs.Asked.{list-found, or-found, found-by}
 
 -- the retention that the words name, in a scope
 unfoldable pub newRetention : Bytes → List Bytes → Retentionʳ

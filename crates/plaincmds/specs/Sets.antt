@@ -7,7 +7,7 @@ use mathlib.Core.Option.{Option, none, some, Option·none-ne-some, Option·some-
 use lib.ListN.{length}
 use Rattle.text.specs.Ascii.{Bytes}
 use Rattle.spans.specs.Span.{bytes, pairs}
-use Rattle.spans.specs.Reach.{lastOf, reach}
+use Rattle.spans.specs.Reach.{lastOf, reach, none-reach}
 use Rattle.spans.specs.declared.span.Span.{Span}
 use Rattle.spans.specs.declared.span.Found.{Found}
 use Rattle.spans.specs.declared.span.Found.the-variants.{At, None}
@@ -28,7 +28,7 @@ use Rattle.made.specs.declared.Made.{Made}
 use Rattle.made.specs.Made.{fineMade, fullMade, reachOf, Room, Ready, Did}
 use Rattle.made.specs.Dids.{one-over, did-full, did-nothing}
 use Rattle.made.specs.Done.{did-state}
-use Rattle.made.specs.Asked.{found-stored, none-reach}
+use Rattle.made.specs.Asked.{found-stored}
 
 -- without a second positional word nothing is set
 set-none : (m : Model) (ps : List Bytes) → none ≡ pick 1 ps → setTo m ps ≡ m

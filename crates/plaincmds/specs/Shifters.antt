@@ -8,7 +8,7 @@ use mathlib.Core.Option.{Option, none, some}
 use lib.ListN.{length}
 use Rattle.text.specs.Ascii.{Bytes, ascii}
 use Rattle.spans.specs.Span.{_⋯_, pairs}
-use Rattle.spans.specs.Reach.{lastOf, reach}
+use Rattle.spans.specs.Reach.{lastOf, reach, none-reach}
 use Rattle.spans.specs.declared.span.Span.{Span}
 use Rattle.spans.specs.declared.span.Found.{Found}
 use Rattle.tcl.specs.Arguments.{optionOf, nameOf}
@@ -33,7 +33,7 @@ use Rattle.store.specs.Added.{shifter-added}
 use Rattle.store.specs.Fits.{fit-shifters}
 use Rattle.store.specs.Steps.{shifter-view, shifter-shaped, shifter-bounded}
 use Rattle.store.specs.declared.state.Shifter.{Shifter}
-use Rattle.made.specs.Asked.{or-found, found-by, none-reach}
+use Rattle.made.specs.Asked.{or-found, found-by}
 
 -- the shifter that the words name
 unfoldable pub newShifter : List Bytes → Shifterʳ

@@ -8,8 +8,9 @@ use mathlib.Core.Option.{Option, none, some}
 use lib.ListN.{length}
 use Rattle.text.specs.Ascii.{Bytes}
 use Rattle.text.specs.Compare.{same}
+use Rattle.text.specs.Sames.{differ}
 use Rattle.spans.specs.Span.{bytes, pairs}
-use Rattle.spans.specs.Reach.{lastOf, reach}
+use Rattle.spans.specs.Reach.{lastOf, reach, none-reach}
 use Rattle.spans.specs.declared.span.Span.{Span}
 use Rattle.tcl.specs.Arguments.{nameOf}
 use Rattle.args.specs.View.{wordsFrom, Reads}
@@ -27,18 +28,12 @@ use Rattle.made.specs.declared.Made.{Made}
 use Rattle.made.specs.Made.{fineMade, reachOf, Ready, Did}
 use Rattle.made.specs.Dids.{did-nothing}
 use Rattle.made.specs.Done.{did-state}
-use Rattle.made.specs.Asked.{none-reach}
 
--- a string of no bytes, and of some
+-- a string of no bytes
 is-none : (t : Bytes) → length t ≡ 0 → same t [] ≡ true
 unfolding same
 is-none [] e = refl
 is-none (x ∷ t) e = absurd (omega arith)
-
-is-some : (t : Bytes) → (length t ≡ 0 → ⊥) → same t [] ≡ false
-unfolding same
-is-some [] e = absurd (e refl)
-is-some (x ∷ t) e = refl
 
 module _ (long : ℕ) (mem : Bytes) (words : List ℕ) (n : ℕ) (st : Store) (log : Bytes) (s : State) (v : Ready long mem words n st s) where
   abbrev ws : List Bytes
@@ -63,7 +58,7 @@ module _ (long : ℕ) (mem : Bytes) (words : List ℕ) (n : ℕ) (st : Store) (l
 
   pub top-inside : (p : Span) (k : ℕ) (m : Made) → s .head .top ≡ Not → p ≡ spanOf (s .head .scope) → k ≡ length (bytes mem p) → (k ≡ 0 → ⊥) → m ≡ fineMade s → Did long mem st log s m (design-top-command now ws)
   top-inside p k m e ep ek h g =
-      let q : same (string mem (s .head .scope)) [] ≡ false = is-some (string mem (s .head .scope)) (λ z. h (ek ∙ ap (λ (u : Span). length (bytes mem u)) ep ∙ z)) in
+      let q : same (string mem (s .head .scope)) [] ≡ false = sym (differ (string mem (s .head .scope)) [] (λ z. h (ek ∙ ap (λ (u : Span). length (bytes mem u)) ep ∙ z))) in
       stays (rw (e, q)) m g
 
   pub top-fine : (p : Span) (k : ℕ) (r : Span) (x : Stored) (u : State) (m : Made) → s .head .top ≡ Not → p ≡ spanOf (s .head .scope) → k ≡ length (bytes mem p) → k ≡ 0 → Reads mem words n (nameOf ws) r → x ≡ storedOf r → u ≡ top-set s (Given x) → m ≡ fineMade u → Did long mem st log s m (design-top-command now ws)

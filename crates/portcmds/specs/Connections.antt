@@ -9,7 +9,7 @@ use lib.Dec.{eqb}
 use lib.ListN.{length}
 use Rattle.text.specs.Ascii.{Bytes, ascii}
 use Rattle.spans.specs.Span.{_⋯_, pairs}
-use Rattle.spans.specs.Reach.{lastOf, reach, reach-end}
+use Rattle.spans.specs.Reach.{lastOf, reach, reach-end, none-reach}
 use Rattle.spans.specs.declared.span.Span.{Span}
 use Rattle.spans.specs.declared.span.Found.{Found}
 use Rattle.tcl.specs.Arguments.{optionOf, nameOf}
@@ -29,7 +29,7 @@ use Rattle.store.specs.declared.state.State.{State}
 use Rattle.made.specs.declared.Made.{Made}
 use Rattle.made.specs.Made.{rowMade, reachOf, Ready, Did}
 use Rattle.made.specs.Done.{did-row}
-use Rattle.made.specs.Asked.{list-found, found-by, none-reach}
+use Rattle.made.specs.Asked.{list-found, found-by}
 
 -- the connections that the words name, in a scope
 unfoldable pub newConnections : Bytes → List Bytes → List Connection

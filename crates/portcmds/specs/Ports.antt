@@ -8,7 +8,7 @@ use mathlib.Core.Option.{Option, none, some}
 use lib.ListN.{length}
 use Rattle.text.specs.Ascii.{Bytes, ascii}
 use Rattle.spans.specs.Span.{_⋯_, pairs}
-use Rattle.spans.specs.Reach.{lastOf, reach}
+use Rattle.spans.specs.Reach.{lastOf, reach, none-reach}
 use Rattle.spans.specs.declared.span.Span.{Span}
 use Rattle.spans.specs.declared.span.Found.{Found}
 use Rattle.tcl.specs.Arguments.{optionOf, nameOf}
@@ -35,7 +35,7 @@ use Rattle.store.specs.Steps.{port-view, port-shaped, port-bounded}
 use Rattle.store.specs.declared.stored.Maybe.{Maybe}
 use Rattle.store.specs.declared.stored.Below.{Below}
 use Rattle.store.specs.declared.state.Port.{Port}
-use Rattle.made.specs.Asked.{maybe-found, maybe-by, none-reach}
+use Rattle.made.specs.Asked.{maybe-found, maybe-by}
 use Rattle.portcmds.specs.Named.{BelowIs}
 
 -- the port that the words name, in a scope

@@ -15,7 +15,7 @@ use Rattle.joblines.specs.Sections.{linesIn, gather, portsIn, declsIn}
 use Rattle.jobindex.specs.Index.{num, rowAt, section, moduleRow}
 use Rattle.design.specs.Lists.{those, isIn, addAll}
 use Rattle.design.specs.Ports.{headerPorts, bodyPorts, outputs, others, outputPorts, inputPorts, signals, losable}
-use Rattle.lines.specs.Steps.{section-none}
+use Rattle.lines.specs.Steps.{section-none, no-ports}
 use Rattle.ports.specs.declared.Cursor.the-variants as cursor
 use Rattle.ports.specs.declared.body.Pick.the-variants as pick
 use Rattle.ports.specs.Headers.{outputsBy, othersBy, outputs-by, others-by}
@@ -27,10 +27,6 @@ use Rattle.ports.specs.Cursors.{ports-from, decls-from, decls-end, heade
 unstyled : (b : Bool) (ps : List Port) → headerPorts (cond b nonansi empty) ps ≡ []
 unstyled true ps = refl
 unstyled false ps = refl
-
-no-ports : (job : Bytes) (a : ℕ) → portsIn (section job a a) ≡ []
-unfolding linesIn gather
-no-ports job a = rw (section-none job a a (omega arith))
 
 module _ (job : Bytes) (index : List ℕ) (k : ℕ) where
   abbrev row : Module

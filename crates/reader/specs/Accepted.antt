@@ -22,14 +22,11 @@ use Rattle.joined.specs.Joined.{bodyBytes}
 use Rattle.read.specs.Reading.{fileNamed}
 use Rattle.loads.specs.Steps.{filesIn}
 use Rattle.reader.specs.Whole.{Starts}
+use borrow.Author.Tests.{not-true}
 
 -- ---- of distinct paths, each names its own file
 abbrev paths : List File → List Bytes
 paths fs = map (λ (f : File). f .path) fs
-
-not-true : (b : Bool) → not b ≡ true → b ≡ false
-not-true true h = absurd (no-true h)
-not-true false h = refl
 
 -- none of them is p
 other-path : (fs : List File) (k : ℕ) (f : File) (r : List File) (p : Bytes) → drop k fs ≡ f ∷ r → any (λ y. same y p) (paths fs) ≡ false → same (f .path) p ≡ false

@@ -5,7 +5,7 @@ use native.Mathlib.Omega.{arith}
 use native.Mathlib.Nat.{le-trans}
 use mathlib.Core.Path.{_≡_, refl, sym, ap, _∙_}
 use mathlib.Core.Bool.{Bool, true, false, cond, _&&_, not}
-use mathlib.Core.List.{List, [], _∷_, _++_, map, flatMap}
+use mathlib.Core.List.{List, [], _∷_, _++_, map, flatMap, map-append}
 use mathlib.Core.Option.{Option, none, some, Option·map}
 use lib.Dec.{leb}
 use lib.ListN.{length, length-append, length-map}
@@ -33,26 +33,13 @@ use Rattle.readfacts.specs.Few.{Few, retainedEntries, mostValues}
 
 -- ---- lists of numbers within a limit
 
-left-true : (a b : Bool) → a && b ≡ true → a ≡ true
-left-true true b e = refl
-left-true false b e = e
-
-right-true : (a b : Bool) → a && b ≡ true → b ≡ true
-right-true true b e = e
-right-true false true e = refl
-right-true false false e = e
-
 all-front : (t : ℕ → Bool) (xs ys : List ℕ) → all t (xs ++ ys) ≡ true → all t xs ≡ true
 unfolding all
 all-front t [] ys e = refl
 all-front t (x ∷ xs) ys e =
-    let a : t x ≡ true = left-true (t x) (all t (xs ++ ys)) e in
-    let b : all t (xs ++ ys) ≡ true = right-true (t x) (all t (xs ++ ys)) e in
+    let a : t x ≡ true = both (t x) (all t (xs ++ ys)) e .0 in
+    let b : all t (xs ++ ys) ≡ true = both (t x) (all t (xs ++ ys)) e .1 in
     rw (a, all-front t xs ys b)
-
-map-two : (xs ys : List Bytes) → entriesOf (xs ++ ys) ≡ entriesOf xs ++ entriesOf ys
-map-two [] ys = refl
-map-two (x ∷ xs) ys = ap (λ (l : List ℕ). length (list x) ∷ l) (map-two xs ys)
 
 -- the entries of an option's value
 module _ (key : String) (ws : List Bytes) where
@@ -62,7 +49,7 @@ module _ (key : String) (ws : List Bytes) where
     where
       go : (o : Option Bytes) → optionOf (ascii key) ws ≡ o → length (optionList key ws) ≤ 64
       go none e = rw e (omega arith)
-      go (some v) e = rw e (leb-true (length (list v)) 64 (left-true (leb (length (list v)) 64) true (rw e at h)))
+      go (some v) e = rw e (leb-true (length (list v)) 64 (both (leb (length (list v)) 64) true (rw e at h) .0))
 
   total-option : total (entriesOf (optionValue key ws)) ≡ length (optionList key ws)
   unfolding total
@@ -198,7 +185,7 @@ module _ (e : ℕ) (m : Model) (f : Few e m) (w : Bytes) (ws : List Bytes) where
   few-switch : Fits (listsOf Command.create-power-switch w ws) → Few e (switch-command m w ws)
   unfolding switch-command
   few-switch h =
-      let a : Fits (optionValue "-control_port" ws) = all-front (λ k. leb k most-entries) (entriesOf (optionValue "-control_port" ws)) (entriesOf (stateValues (switchStates w ws) ++ (optionValue "-input_supply_port" ws ++ optionValue "-output_supply_port" ws))) (rw (map-two (optionValue "-control_port" ws) (stateValues (switchStates w ws) ++ (optionValue "-input_supply_port" ws ++ optionValue "-output_supply_port" ws))) at h) in
+      let a : Fits (optionValue "-control_port" ws) = all-front (λ k. leb k most-entries) (entriesOf (optionValue "-control_port" ws)) (entriesOf (stateValues (switchStates w ws) ++ (optionValue "-input_supply_port" ws ++ optionValue "-output_supply_port" ws))) (rw (map-append (λ (v : Bytes). length (list v)) (optionValue "-control_port" ws) (stateValues (switchStates w ws) ++ (optionValue "-input_supply_port" ws ++ optionValue "-output_supply_port" ws))) at h) in
       let b : length (optionList "-control_port" ws) ≤ 64 = few-option "-control_port" ws a in
       let c : 2 * length (controlsOf (optionList "-control_port" ws)) ≤ length (optionList "-control_port" ws) = controls-half 64 (optionList "-control_port" ws) b in
       record { domains = f .domains; switches = within-snoc (λ (x : Switch). length (x .controls)) _ (f .switches) (omega arith); isolations = f .isolations; tables = f .tables; states = f .states; retained = f .retained }
@@ -359,8 +346,8 @@ module _ (load : Bytes → Counted → Model → Reading) (loads : Loads load) (
       go : (b : Bool) → within words (entriesOf (listsBy c (l .name) (l .rest))) (countedBy c cost l n (actsBy c m l)) (actsBy c m l) ≡ b
           → FewIn (cond b (afterwards load path c l m (countedBy c cost l n (actsBy c m l)) (actsBy c m l)) (refused 10 (n .commands + 1)))
       go true h =
-          let a : all (λ k. leb k most-entries) (entriesOf (listsBy c (l .name) (l .rest))) && (countsFit (countedBy c cost l n (actsBy c m l)) && recordsFit (actsBy c m l)) ≡ true = right-true (leb words 128) (all (λ k. leb k most-entries) (entriesOf (listsBy c (l .name) (l .rest))) && (countsFit (countedBy c cost l n (actsBy c m l)) && recordsFit (actsBy c m l))) h in
-          let b : Fits (listsBy c (l .name) (l .rest)) = left-true (all (λ k. leb k most-entries) (entriesOf (listsBy c (l .name) (l .rest)))) (countsFit (countedBy c cost l n (actsBy c m l)) && recordsFit (actsBy c m l)) a in
+          let a : all (λ k. leb k most-entries) (entriesOf (listsBy c (l .name) (l .rest))) && (countsFit (countedBy c cost l n (actsBy c m l)) && recordsFit (actsBy c m l)) ≡ true = both (leb words 128) (all (λ k. leb k most-entries) (entriesOf (listsBy c (l .name) (l .rest))) && (countsFit (countedBy c cost l n (actsBy c m l)) && recordsFit (actsBy c m l))) h .1 in
+          let b : Fits (listsBy c (l .name) (l .rest)) = both (all (λ k. leb k most-entries) (entriesOf (listsBy c (l .name) (l .rest)))) (countsFit (countedBy c cost l n (actsBy c m l)) && recordsFit (actsBy c m l)) a .0 in
           few-afterwards c l m (countedBy c cost l n (actsBy c m l)) (actsBy c m l) (few-acts c (n .entries) m l f b)
       go false h = tt
 

@@ -4,7 +4,7 @@ use mathlib.Core.Path.{_≡_, refl, sym, ap, _∙_}
 use mathlib.Core.Bool.{Bool, true, false, cond, not}
 use mathlib.Core.List.{List, [], _∷_, _++_, append-assoc}
 use borrow.Author.Needs.{needs}
-use borrow.Author.Tests.{not-true, not-false}
+use borrow.Author.Tests.{not-false}
 use Rattle.text.specs.Ascii.{Bytes, ascii}
 use Rattle.out.specs.Emit.{Out, _▸_, emit, emit-append}
 use Rattle.out.specs.Fill.{fill, filled, adds, turns, arg, pick}
@@ -19,23 +19,20 @@ use Rattle.store.specs.declared.stored.Maybe.the-variants.{Not, Given}
 use Rattle.store.specs.declared.state.Isolation.{Isolation}
 use Rattle.texts.specs.Isolation.{lowered}
 use Rattle.texts.specs.Texts.{warningLine}
+use Rattle.texts.specs.Laws.{one-warning}
 use Rattle.clamps.specs.Values.{storedName}
 use Rattle.clamps.specs.Laws.{stored-is}
 use Rattle.format.specs.Args.{literal, argOf, nameArg, fixedArg}
 use Rattle.format.specs.Laws.{name-arg}
 use Rattle.format.specs.declared.arg.Arg.{Arg}
 use Rattle.keep.specs.Covered.{warnedCover, Remarked}
-use Rattle.keep.specs.Warned.{ends, warned-line, one-warning}
+use Rattle.keep.specs.Warned.{ends, warned-line, not-warned}
 use Rattle.keep.specs.declared.Cover.{Cover}
 use Rattle.remarks.specs.Lines.{noSignal, unknownDomain, notOutputs, clampUnknown, strategyLine, orArg, Lined}
 
 -- ---- warnings
 
 module _ (warn : Bool) (c : Cover) (out : Bytes) where
-  pub not-warned : (w : Bytes) (r : Cover) → r ≡ warnedCover c (c .at) → not warn ≡ true → Remarked warn w c out r out
-  unfolding emit
-  not-warned w r e h = record { is = rw e; text = rw (not-true warn h, e) }
-
   -- a line that was written
   written : (w : Bytes) (out′ : Bytes) (o : ℕ) (r : Cover) → out′ ▸ o ≡ emit (out ▸ c .at) (warningLine w) → r ≡ warnedCover c o → not warn ≡ false → Remarked warn w c out r out′
   written w out′ o r e h k =

@@ -1,14 +1,13 @@
 -- The lines of the shifters: laws as the needs ask them. Assumes nothing.
 use Prim.Native.Nat.{ℕ, _+_, _≤_, _<_}
 use mathlib.Core.Path.{_≡_, refl, sym, ap, _∙_}
-use mathlib.Core.List.{List, [], _∷_, _++_, map}
+use mathlib.Core.List.{List, _++_, map}
 use lib.ListN.{length, take, drop, getD}
 use borrow.Author.Needs.{needs}
 use Rattle.text.specs.Ascii.{Bytes}
 use Rattle.out.specs.Emit.{Out, emit, emit-append}
 use Rattle.out.specs.Fill.{fill, format2}
-use Rattle.out.specs.Items.{each}
-use Rattle.model.specs.Records.{Shifter as Shifterʳ}
+use Rattle.out.specs.Items.{each, each-cons, each-none}
 use Rattle.texts.specs.Texts.{shifterLine}
 use Rattle.store.specs.Strings.{string}
 use Rattle.store.specs.View.{shifterOf}
@@ -26,14 +25,6 @@ pub record Lines (mem : Bytes) (t : Shifters) (w o : Out) (i : ℕ) : Type 0 whe
 pub lines-start : (mem : Bytes) (t : Shifters) (o : Out) → Lines mem t (emit o (each shifterLine (map (shifterOf mem) (take (t .n) (t .all))))) o 0
 lines-start mem t o = record { keeps = refl }
 
-each-first : (x : Shifterʳ) (xs : List Shifterʳ) → each shifterLine (x ∷ xs) ≡ shifterLine x ++ each shifterLine xs
-unfolding each
-each-first x xs = refl
-
-each-none : (o : Out) → emit o (each shifterLine []) ≡ o
-unfolding each emit
-each-none o = refl
-
 module _ (of : Shifter → ℕ) (bound : ℕ) (t : Shifters) (g : Holds of bound (t .n) (t .all)) where
   pub few-shifters : t .n ≤ 32
   few-shifters = holds-few of bound (t .n) (t .all) g
@@ -43,10 +34,10 @@ module _ (of : Shifter → ℕ) (bound : ℕ) (t : Shifters) (g : Holds of bound
     lines-next d o′ e h =
         let x = getD (t .all) i d in
         let q : each shifterLine (map (shifterOf mem) (drop i (take (t .n) (t .all)))) ≡ shifterLine (shifterOf mem x) ++ each shifterLine (map (shifterOf mem) (drop (i + 1) (take (t .n) (t .all)))) =
-        ap (λ (l : List Shifter). each shifterLine (map (shifterOf mem) l)) (holds-next of bound (t .n) (t .all) g i d h) ∙ each-first (shifterOf mem x) (map (shifterOf mem) (drop (i + 1) (take (t .n) (t .all)))) in
+        ap (λ (l : List Shifter). each shifterLine (map (shifterOf mem) l)) (holds-next of bound (t .n) (t .all) g i d h) ∙ each-cons shifterLine (shifterOf mem x) (map (shifterOf mem) (drop (i + 1) (take (t .n) (t .all)))) in
         record { keeps = rw e (sym (emit-append o (shifterLine (shifterOf mem x)) (each shifterLine (map (shifterOf mem) (drop (i + 1) (take (t .n) (t .all)))))) ∙ (ap (emit o) (sym q) ∙ inv .keeps)) }
 
     pub lines-done : t .n ≤ i → o ≡ w
-    lines-done h = sym (each-none o) ∙ (ap (λ (l : List Shifter). emit o (each shifterLine (map (shifterOf mem) l))) (sym (holds-end of bound (t .n) (t .all) g i h)) ∙ inv .keeps)
+    lines-done h = sym (each-none shifterLine o) ∙ (ap (λ (l : List Shifter). emit o (each shifterLine (map (shifterOf mem) l))) (sym (holds-end of bound (t .n) (t .all) g i h)) ∙ inv .keeps)
 
 pub ruleset indices = (needs, few-shifters)

@@ -12,7 +12,7 @@ use borrow.Author.Tests.{eq-eqb, ne-eqb, le-leb, lt-leb}
 use Rattle.text.specs.Ascii.{Bytes, ascii}
 use Rattle.out.specs.Emit.{Out, emit, emit-append}
 use Rattle.out.specs.Fill.{fill, turns, arg, pick, writes, runs, format1, emit-fill}
-use Rattle.out.specs.Items.{each}
+use Rattle.out.specs.Items.{each, each-cons}
 use Rattle.texts.specs.Texts.{warningLine}
 use Rattle.store.specs.Strings.{string}
 use Rattle.store.specs.View.{warningOf, warningsIn, textOf, warningText}
@@ -89,10 +89,6 @@ unfolding warningsIn
 first-warning r rs true e = rw e
 first-warning r rs false e = rw e
 
-each-first : (x : Bytes) (xs : List Bytes) → each warningLine (x ∷ xs) ≡ warningLine x ++ each warningLine xs
-unfolding each
-each-first x xs = refl
-
 none-left : (mem : Bytes) (o : Out) → emit o (each warningLine (map (warningText mem) (warningsIn []))) ≡ o
 unfolding each emit warningsIn
 none-left mem o = refl
@@ -115,5 +111,5 @@ module _ (mem : Bytes) (nums : List ℕ) (rows : ℕ) (w o : Out) (i : ℕ) (inv
     unfolding warningText
     lines-next o′ e k =
         let q : each warningLine (map (warningText mem) (warningsIn (drop i (rowsIn nums rows)))) ≡ warningLine (warningText mem r) ++ each warningLine (map (warningText mem) (warningsIn (drop (i + 1) (rowsIn nums rows)))) =
-        ap (λ (l : List Row). each warningLine (map (warningText mem) l)) (left-is true (le-leb 3 (r .kind) k)) ∙ each-first (warningText mem r) (map (warningText mem) (warningsIn (drop (i + 1) (rowsIn nums rows)))) in
+        ap (λ (l : List Row). each warningLine (map (warningText mem) l)) (left-is true (le-leb 3 (r .kind) k)) ∙ each-cons warningLine (warningText mem r) (map (warningText mem) (warningsIn (drop (i + 1) (rowsIn nums rows)))) in
         record { keeps = rw e (sym (emit-append o (warningLine (warningText mem r)) (each warningLine (map (warningText mem) (warningsIn (drop (i + 1) (rowsIn nums rows)))))) ∙ (ap (emit o) (sym q) ∙ inv .keeps)) }

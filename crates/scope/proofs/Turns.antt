@@ -22,7 +22,7 @@ use Rattle.design.specs.Lists.{onSome}
 use Rattle.design.specs.Lookup.{moduleAt}
 use Rattle.texts.specs.Scope.{overrideParts, withoutTop}
 use Rattle.lines.specs.Cursors.{spanned}
-use Rattle.lookup.specs.Rows.{modules, rowIs, ModuleSeen, below, at-none, at-more}
+use Rattle.lookup.specs.Rows.{modules, rowIs, ModuleSeen, below, at-none, at-more, row-none, row-some}
 use Rattle.search.specs.declared.Found.{Found}
 use Rattle.search.specs.Found.{wayFrom}
 use Rattle.scope.specs.declared.PartAt.{PartAt}
@@ -72,13 +72,6 @@ pub ruleset tops = (needs, top-none, top-first, top-other)
 row-one : (job : Bytes) (index : List ℕ) (row : ℕ) → rowIs job index (row + 1) ≡ some (moduleRow job index row)
 unfolding rowIs
 row-one job index row = rw add-one
-
-row-none : (job : Bytes) (index : List ℕ) → rowIs job index 0 ≡ none
-unfolding rowIs
-row-none job index = refl
-
-row-some : (job : Bytes) (index : List ℕ) (q : ℕ) → (q ≡ 0 → ⊥) → rowIs job index q ≡ some (moduleRow job index (q - 1))
-row-some job index q h = let z : q ≡ q - 1 + 1 = omega arith in ap (rowIs job index) z ∙ row-one job index (q - 1)
 
 module _ (job : Bytes) (index : List ℕ) (count row : ℕ) (n : Bytes) (ns : List Bytes) (q : ℕ) (seen : ModuleSeen job index count (below (modules job index count) (moduleRow job index row) n) q) where
   down-none : q ≡ 0 → moduleAt (modules job index count) (moduleRow job index row) (n ∷ ns) ≡ none

@@ -16,7 +16,7 @@ use Rattle.text.specs.Sames.{no-true}
 use Rattle.spans.specs.Span.{_⋯_, bytes, pairs, foundOf}
 use Rattle.spans.specs.Area.{Wrote}
 use Rattle.spans.specs.Writes.{Written, written-none, written-piece, written-byte, written-all, wrote-kept, wrote-long, wrote-back, wrote-front}
-use Rattle.spans.specs.Reach.{reach, lastOf, filed, stored, reach-held, reach-end}
+use Rattle.spans.specs.Reach.{reach, lastOf, stored, reach-held, reach-end, none-reach}
 use Rattle.spans.specs.declared.span.Span.{Span}
 use Rattle.spans.specs.declared.span.Found.{Found}
 use Rattle.spans.specs.declared.span.Found.the-variants.{At as Found·At, None}
@@ -296,9 +296,6 @@ pub ruleset gone = (needs, aims-count, aims-at, aims-below, go-at, go-beneath)
 -- ---- the commands
 small-end : (files area : Bytes) (s : State) → Space files area s → length files + s .fill .end < 2 ^ 32
 small-end files area s v = omega (arith, v .small, end-in files area s v)
-
-none-reach : (long : ℕ) → reach long (0 ⋯ 0) ≡ 0
-none-reach long = reach-held long (0 ⋯ 0) (filed (omega arith))
 
 module _ (files area : Bytes) (words : List ℕ) (n : ℕ) (s : State) (v : Line files area words n s) where
   abbrev known : Bytes

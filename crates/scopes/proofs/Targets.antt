@@ -12,7 +12,7 @@ use borrow.Author.Needs.{needs}
 use borrow.Author.Tests.{eq-eqb, ne-eqb}
 use Rattle.text.specs.Ascii.{Bytes, ascii, byte}
 use Rattle.text.specs.Compare.{same, startsWith}
-use Rattle.text.specs.Lists.{drop-take}
+use Rattle.text.specs.Lists.{drop-take, no-bytes}
 use Rattle.text.specs.Scan.{any}
 use Rattle.text.specs.Sames.{no-true, differ}
 use Rattle.spans.specs.Span.{_⋯_, bytes}
@@ -152,10 +152,6 @@ none-is mem = refl
 
 none-within : (long n : ℕ) → reach long (0 ⋯ 0) ≤ n
 none-within long n = omega (arith, reach-held long (0 ⋯ 0) (filed (omega arith)))
-
-no-bytes : (t : Bytes) → length t ≡ 0 → t ≡ []
-no-bytes [] h = refl
-no-bytes (x ∷ t) h = absurd (omega arith)
 
 front-is : (mem : Bytes) (s : Span) (k : ℕ) → k ≡ upSize (bytes mem s) → bytes mem (s .at ⋯ k) ≡ up (bytes mem s)
 unfolding bytes

@@ -15,7 +15,7 @@ use Rattle.text.specs.Compare.{same}
 use Rattle.text.specs.Lists.{take-none, drop-two, take-two, drop-take}
 use Rattle.text.specs.Sames.{both, same-refl}
 use Rattle.spans.specs.Span.{_⋯_, bytes, gotOf, pairAt}
-use Rattle.spans.specs.Frame.{whole, bytes-same}
+use Rattle.spans.specs.Frame.{whole, bytes-same, shorter}
 use Rattle.spans.specs.Area.{Wrote}
 use Rattle.spans.specs.declared.span.Span.{Span}
 use Rattle.spans.specs.declared.span.Got.{Got}
@@ -53,10 +53,6 @@ module _ (text area : List ℕ) (s : Span) where
       rw (drop-of-length-le (text ++ area) {i = s .at} k) (take-none (s .len))
 
 pub ruleset spans = (needs, span-none, span-text, span-area, span-past)
-
--- a string without its first byte is shorter
-pub shorter : (mem w : List ℕ) (p : Got) (b : ℕ) (u : Span) → w ≡ gotOf mem p → p ≡ Yes b u → length (bytes mem u) < length w
-shorter mem w p b u e h = rw (e, h) (omega arith)
 
 -- ---- the size
 

@@ -9,8 +9,10 @@ use lib.ListN.{length, take, drop, getD, length-take, length-append, length-drop
 use lib.Seq.{drop-drop, take-take, take-all, getD-take, take-append-le, length-take-le, drop-set-lt, getD-drop, getD-set-other, getD-set-same}
 use Rattle.text.specs.Ascii.{Bytes}
 use Rattle.text.specs.Lists.{drop-take, drop-two, take-two, take-none}
-use Rattle.spans.specs.Span.{_⋯_, bytes, pairAt, pairs, strings}
+use Rattle.spans.specs.Span.{_⋯_, bytes, pairAt, pairs, strings, gotOf}
 use Rattle.spans.specs.declared.span.Span.{Span}
+use Rattle.spans.specs.declared.span.Got.{Got}
+use Rattle.spans.specs.declared.span.Got.the-variants.{Yes}
 
 -- for clients of `fetch`: a front as long as the span is the whole string
 pub whole : (mem : Bytes) (s : Span) (p : Bytes) → p ≡ take (length p) (bytes mem s) → length p ≡ s .len → p ≡ bytes mem s
@@ -18,6 +20,11 @@ unfolding bytes
 whole mem s p e h =
     let l : length (take (s .len) (drop (s .at) mem)) ≤ s .len = rw length-take (omega arith) in
     e ∙ rw h (take-all (s .len) (take (s .len) (drop (s .at) mem)) l)
+
+-- a string is no longer than its span
+pub size-in : (mem : Bytes) (w : Span) → length (bytes mem w) ≤ w .len
+unfolding bytes
+size-in mem w = rw length-take (omega arith)
 
 -- a span within a string is a span of the list that the string lies in
 pub inner : (mem : Bytes) (w s : Span) → s .at + s .len ≤ w .len → bytes mem ((w .at + s .at) ⋯ s .len) ≡ bytes (bytes mem w) s
@@ -138,3 +145,7 @@ pairs-kept l l′ k n e =
     let q : 2 * k + (i - 2 * k) ≡ i = omega arith in
     let f : getD (drop (2 * k) l′) (i - 2 * k) 0 ≡ getD (drop (2 * k) l) (i - 2 * k) 0 = ap (λ (t : List ℕ). getD t (i - 2 * k) 0) e in
     rw q at (sym (getD-drop (2 * k) l′ (i - 2 * k) 0) ∙ f ∙ getD-drop (2 * k) l (i - 2 * k) 0))
+
+-- a string without its first byte is shorter
+pub shorter : (mem w : List ℕ) (p : Got) (b : ℕ) (u : Span) → w ≡ gotOf mem p → p ≡ Yes b u → length (bytes mem u) < length w
+shorter mem w p b u e h = rw (e, h) (omega arith)

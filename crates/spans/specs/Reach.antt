@@ -75,3 +75,6 @@ of-last e words k (suc n) (suc i) h =
 -- of n stored spans each is at most the last
 pub one-of : (e : Span → ℕ) (words : List ℕ) (n i : ℕ) → i < n → e (pairAt words i) ≤ lastOf e (pairs words 0 n)
 one-of e words n i h = let q : 0 + i ≡ i = omega arith in rw q at (of-last e words 0 n i h)
+
+pub none-reach : (long : ℕ) → reach long (0 ⋯ 0) ≡ 0
+none-reach long = reach-held long (0 ⋯ 0) (filed (omega arith))

@@ -4,7 +4,7 @@ use native.Mathlib.Omega.{arith}
 use native.Mathlib.Nat.{le-trans, add-zero}
 use mathlib.Core.Path.{_≡_, refl, sym, ap, _∙_}
 use mathlib.Core.Bool.{Bool, true, false, cond, not}
-use mathlib.Core.List.{List, [], _∷_, _++_, map, append-assoc, append-nil}
+use mathlib.Core.List.{List, [], _∷_, _++_, map, append-assoc, append-nil, map-append}
 use mathlib.Core.Option.{Option, none, some}
 use lib.ListN.{length, drop, length-append, length-map}
 use Rattle.text.specs.Ascii.{Bytes}
@@ -18,7 +18,7 @@ use Rattle.args.specs.declared.state.State.the-variants.{At as Word·At, None a
 use Rattle.store.specs.Strings.{string, spanOf, storedOf}
 use Rattle.store.specs.Order.{Within, none-left, one-more}
 use Rattle.store.specs.Rows.{word-put, word-put-long}
-use Rattle.store.specs.Tables.{map-append, within-snoc}
+use Rattle.store.specs.Tables.{within-snoc}
 use Rattle.store.specs.declared.stored.Stored.{Stored}
 use Rattle.lists.specs.States.{pick-none, pick-some, pick-in, states-short, strings-length}
 use Rattle.statecmds.specs.Words.{wordsPut, words-long, words-push}

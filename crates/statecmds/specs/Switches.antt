@@ -1,7 +1,7 @@
 -- create_power_switch and add_port_state: what the words come to, and what the commands do. Assumes nothing.
-use Prim.Native.Nat.{ℕ, zero, suc, _+_, _-_, _*_, _≤_, _<_, _^_, max}
+use Prim.Native.Nat.{ℕ, zero, suc, _+_, _-_, _*_, _≤_, _<_, _^_}
 use native.Mathlib.Omega.{arith}
-use native.Mathlib.Nat.{le-trans, add-zero}
+use native.Mathlib.Nat.{le-trans, add-zero, max-le}
 use mathlib.Core.Path.{_≡_, refl, sym, ap, _∙_}
 use mathlib.Core.Bool.{Bool, true, false}
 use mathlib.Core.List.{List, [], _∷_, _++_, map, flatMap, append-nil}
@@ -9,7 +9,7 @@ use lib.ListN.{length, take, drop, length-append, length-map}
 use lib.Seq.{take-at, drop-at, take-all, drop-append-add}
 use Rattle.text.specs.Ascii.{Bytes, ascii}
 use Rattle.spans.specs.Span.{_⋯_, bytes, pairAt, pairs, strings}
-use Rattle.spans.specs.Reach.{lastOf, reach}
+use Rattle.spans.specs.Reach.{lastOf, reach, none-reach}
 use Rattle.spans.specs.declared.span.Span.{Span}
 use Rattle.spans.specs.declared.span.Found.{Found}
 use Rattle.tcl.specs.Arguments.{optionOf, nameOf, states}
@@ -36,15 +36,12 @@ use Rattle.made.specs.declared.Made.{Made}
 use Rattle.made.specs.Made.{fineMade, fullMade, reachOf, Ready, Did}
 use Rattle.made.specs.Dids.{one-over, did-full}
 use Rattle.made.specs.Done.{did-state}
-use Rattle.made.specs.Asked.{list-found, maybe-found, found-by, maybe-by, none-reach}
+use Rattle.made.specs.Asked.{list-found, maybe-found, found-by, maybe-by}
 use Rattle.lists.specs.States.{strings-length, line-states}
 use Rattle.statecmds.specs.Words.{wordsPut, worded, words-set, words-long, words-then, grown-view, grown-shaped, grown-bounded}
 use Rattle.statecmds.specs.Chosen.{chosen, ons-are, offs-are, both-kinds, ports-are, states-half, behind-name}
 use Rattle.statecmds.specs.Puts.{PutRoom, SwitchRoom}
 use Rattle.statecmds.specs.Stated.{Puts, SwitchIs, WordRoom, WordsDid}
-
-both : (a b : ℕ) {n : ℕ} → a ≤ n → b ≤ n → max a b ≤ n
-both a b p q = omega arith
 
 -- a supply of a switch depends on the scope alone
 supply-scope : (m : Model) (es : List Bytes) → supplyOf m es ≡ supplyOf (at-scope (m .scope)) es
@@ -114,11 +111,11 @@ module _ (mem : Bytes) (words : List ℕ) (n : ℕ) (scope : Stored) (first mid 
         ons = refl;
         offs = refl;
         within = λ e z m h l.
-            both (e named) _ (le-trans (a0 .within e z) l)
-            (both (ofMaybe (λ s. e (spanOf s)) (maybeFound domain)) _ (le-trans (maybe-by mem words n e z (optionOf (ascii "-domain") ws) domain a1) l)
-            (both (e (spanOf scope)) _ h
-            (both (e (spanOf (foundOr input))) _ (le-trans (found-by mem words n e z (optionOf (ascii "-input_supply_port") ws) input a2) l)
-            (both (e (spanOf (foundOr output))) (e (spanOf (foundOr controls))) (le-trans (found-by mem words n e z (optionOf (ascii "-output_supply_port") ws) output a3) l)
+            max-le {a = e named} (le-trans (a0 .within e z) l)
+            (max-le {a = ofMaybe (λ s. e (spanOf s)) (maybeFound domain)} (le-trans (maybe-by mem words n e z (optionOf (ascii "-domain") ws) domain a1) l)
+            (max-le {a = e (spanOf scope)} h
+            (max-le {a = e (spanOf (foundOr input))} (le-trans (found-by mem words n e z (optionOf (ascii "-input_supply_port") ws) input a2) l)
+            (max-le {a = e (spanOf (foundOr output))} {b = e (spanOf (foundOr controls))} (le-trans (found-by mem words n e z (optionOf (ascii "-output_supply_port") ws) output a3) l)
             (le-trans (found-by mem words n e z (optionOf (ascii "-control_port") ws) controls a4) l)))));
       })
 
@@ -359,7 +356,7 @@ module _ (long : ℕ) (mem : Bytes) (words : List ℕ) (n : ℕ) (nums : List �
         let o : Within (reachOf long) (length mem) (p .put) = within-le (reachOf long) (v .line) (p .within (reach long) (none-reach long)) in
         let b : Bounded (reachOf long) (length mem) (worded st (p .put)) (words-set s (s .fill .words + length (p .put))) = grown-bounded (reachOf long) (length mem) st s (p .put) (v .bounded) o (s .fill .words + length (p .put)) in
         let k : portWords portstate ≤ length (st .words ++ p .put) = omega (arith, count-is, length-append (st .words) (p .put), v .shaped .words) in
-        let c : ofBelow (reachOf long) (portstate .name) ≤ length mem = both (reachOf long (s .head .scope)) (reachOf long y) (v .bounded .scope) (rw e (le-trans (a .within (reach long) (none-reach long)) (v .line))) in
+        let c : ofBelow (reachOf long) (portstate .name) ≤ length mem = max-le {a = reachOf long (s .head .scope)} {b = reachOf long y} (v .bounded .scope) (rw e (le-trans (a .within (reach long) (none-reach long)) (v .line))) in
         did-state long mem (worded st (p .put)) log (words-set s (s .fill .words + length (p .put))) (grown-shaped st s (v .shaped) (p .put)) b (portstate-added (words-set s (s .fill .words + length (p .put))) portstate) (with-port-states port-now (port-now .port-states ++ (newPortState key port-now (bytes mem (pairAt words 0)) (wordsFrom mem words n 1) ∷ [])))
         (portstate-view mem (worded st (p .put)) (words-set s (s .fill .words + length (p .put))) log portstate l
         ∙ ap (λ (m : Model). with-port-states m (m .port-states ++ (portStateOf mem (st .words ++ p .put) portstate ∷ []))) (grown-view st s (v .shaped) (p .put) mem log)

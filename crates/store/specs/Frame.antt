@@ -59,10 +59,10 @@ pair-within f l k (suc m) (suc i) (one-more p b) h =
     let e : k + suc i ≡ k + 1 + i = omega arith in
     rw e (pair-within f l (k + 1) m i b (omega arith))
 
-max-first : (a b : ℕ) {n : ℕ} → max a b ≤ n → a ≤ n
+pub max-first : (a b : ℕ) {n : ℕ} → max a b ≤ n → a ≤ n
 max-first a b h = omega arith
 
-max-rest : (a b : ℕ) {n : ℕ} → max a b ≤ n → b ≤ n
+pub max-rest : (a b : ℕ) {n : ℕ} → max a b ≤ n → b ≤ n
 max-rest a b h = omega arith
 
 warning-within : (f : Row → ℕ) (r : Row) {rs : List Row} {m : ℕ} → f r ≤ m → (t : Bool) → Within f m rs → Within f m (cond t (r ∷ []) [] ++ rs)

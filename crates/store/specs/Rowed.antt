@@ -4,7 +4,7 @@ use native.Mathlib.Omega.{arith}
 use native.Mathlib.Nat.{le-trans, add-zero, zero-add}
 use mathlib.Core.Path.{_≡_, refl, sym, ap, _∙_}
 use mathlib.Core.Bool.{Bool, true, false, cond, _&&_}
-use mathlib.Core.List.{List, [], _∷_, _++_, map, flatMap, append-nil, append-assoc}
+use mathlib.Core.List.{List, [], _∷_, _++_, map, flatMap, append-nil, append-assoc, map-append}
 use lib.Dec.{eqb, leb}
 use lib.ListN.{length, getD, set, take, length-append}
 use borrow.Author.Tests.{eq-eqb, ne-eqb, le-leb, lt-leb}
@@ -15,7 +15,7 @@ use Rattle.store.specs.Strings.{string}
 use Rattle.store.specs.View.{Store, connectionsOf, statesOf, warningOf, warningsIn, textOf, warningText, tableOf, numbered, modelOf}
 use Rattle.store.specs.Order.{Within, none-left, one-more, ofRow, ofTable, rowTable, Shaped, Bounded}
 use Rattle.store.specs.Added.{row-counted, warning-counted}
-use Rattle.store.specs.Tables.{map-append, flat-append, within-snoc}
+use Rattle.store.specs.Tables.{flat-append, within-snoc}
 use Rattle.store.specs.declared.stored.Stored.{Stored}
 use Rattle.store.specs.declared.row.Row.{Row}
 use Rattle.store.specs.declared.state.Table.{Table}

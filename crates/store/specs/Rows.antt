@@ -101,7 +101,7 @@ module _ (l l′ : List ℕ) where
       rw (words-same k (λ i h g. e i h (omega arith)), word-same k (λ i h g. e i (omega arith) (omega arith)))
 
 -- a number is stored elsewhere
-elsewhere : (l : List ℕ) (j v i : ℕ) → (i < j) ⊎ (j < i) → getD (set l j v) i 0 ≡ getD l i 0
+pub elsewhere : (l : List ℕ) (j v i : ℕ) → (i < j) ⊎ (j < i) → getD (set l j v) i 0 ≡ getD l i 0
 elsewhere l j v i (inl h) = getD-set-other l j i v 0 (λ e. absurd (omega arith))
 elsewhere l j v i (inr h) = getD-set-other l j i v 0 (λ e. absurd (omega arith))
 

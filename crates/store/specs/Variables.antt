@@ -6,10 +6,10 @@ use native.Mathlib.Numerals.{add-one}
 use mathlib.Core.Path.{_≡_, refl, sym, ap, _∙_}
 use mathlib.Core.Bool.{true}
 use mathlib.Core.List.{List, [], _∷_, _++_, map}
-use mathlib.Core.Logic.{_⊎_, inl, inr}
+use mathlib.Core.Logic.{inl}
 use lib.Dec.{leb}
 use lib.ListN.{length, getD, set, take, drop, length-set, length-map, length-take, length-append}
-use lib.Seq.{getD-set-same, getD-set-other, length-take-le}
+use lib.Seq.{getD-set-same, length-take-le}
 use borrow.Author.Tests.{le-leb}
 use Rattle.text.specs.Ascii.{Bytes}
 use Rattle.spans.specs.Span.{_⋯_, bytes, pairAt, pairs}
@@ -26,14 +26,11 @@ use Rattle.store.specs.Tables.{sized-length, numbered-length, within-sno
 use Rattle.store.specs.Fits.{Fits}
 use Rattle.store.specs.declared.stored.Stored.{Stored}
 use Rattle.store.specs.declared.state.State.{State}
+use Rattle.store.specs.Rows.{elsewhere}
 
 -- the numbers with a variable more
 abbrev pub variable-put : List ℕ → ℕ → Stored → Stored → List ℕ
 variable-put l n a b = set (set (set (set l (4 * n) (a .at)) (4 * n + 1) (a .len)) (4 * n + 2) (b .at)) (4 * n + 3) (b .len)
-
-elsewhere : (l : List ℕ) (j v i : ℕ) → (i < j) ⊎ (j < i) → getD (set l j v) i 0 ≡ getD l i 0
-elsewhere l j v i (inl h) = getD-set-other l j i v 0 (λ e. absurd (omega arith))
-elsewhere l j v i (inr h) = getD-set-other l j i v 0 (λ e. absurd (omega arith))
 
 module _ (l : List ℕ) (n : ℕ) (a b : Stored) where
   put-before : (i : ℕ) → i < 4 * n → getD (variable-put l n a b) i 0 ≡ getD l i 0

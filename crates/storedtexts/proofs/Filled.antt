@@ -12,7 +12,8 @@ use Rattle.names.specs.Name.{named, nameOf}
 use Rattle.names.specs.declared.name.Name.{Name}
 use Rattle.store.specs.Strings.{spanOf, string}
 use Rattle.store.specs.declared.stored.Stored.{Stored}
-use Rattle.storedtexts.specs.Stored.{storedName, stored-is}
+use Rattle.clamps.specs.Values.{storedName}
+use Rattle.clamps.specs.Laws.{stored-is}
 
 pub span-named : (s : Stored) (p : Span) (x : Name) → x ≡ named (0 ⋯ 0) false p 0 → p ≡ spanOf s → x ≡ storedName s
 span-named s p x e h = e ∙ rw h

@@ -5,7 +5,7 @@ ghost use mathlib.Core.List.{[], _++_};
 ghost use Rattle.out.specs.Emit.{_▸_, emit};
 ghost use Rattle.out.specs.Fill.{isTemplate, fill};
 ghost use Rattle.store.specs.Strings.{string};
-ghost use Rattle.storedtexts.specs.Stored.{storedName};
+ghost use Rattle.clamps.specs.Values.{storedName};
 use names::name::Name;
 use names::name::alone;
 use names::put::put_name;

@@ -18,6 +18,7 @@ use Rattle.substitution.specs.Stored.{nameAt, valueAt, variableAt, varia
 use Rattle.text.specs.Sames.{no-true}
 use Rattle.substitution.specs.Written.{droppedBy, written}
 use Rattle.spans.specs.Span.{_⋯_, bytes, foundOf, gotOf, pairAt}
+use Rattle.spans.specs.Frame.{shorter}
 use Rattle.tcl.specs.Substitution.{Variable, known, last-or, lookup}
 use Rattle.text.specs.Compare.{same}
 
@@ -96,9 +97,6 @@ module _ (q : Bool) (body mem : List ℕ) (t : Bool) (i left : ℕ) (x : Span) (
         pub named-step : getD body (i + k) 0 ≡ b → Named q body mem t (i + 1 + k) (left - 1) u
         unfolding same
         named-step z = record { keeps = rw (e, h, front, eq-eqb (getD body (i + k) 0) b z) at (inv .keeps) }
-
-pub shorter : (mem w : List ℕ) (p : Got) (b : ℕ) (u : Span) → w ≡ gotOf mem p → p ≡ Yes b u → length (bytes mem u) < length w
-shorter mem w p b u e h = rw (e, h) (omega arith)
 
 pub ruleset nameds = (needs, shorter, named-end, named-short, named-some, named-in, named-stop, named-step)
 

@@ -1,14 +1,14 @@
 -- Texts of nets: laws as the needs ask them. Assumes nothing.
 use Prim.Native.Nat.{ℕ, zero, suc, _+_, _-_, _≤_, _<_}
 use native.Mathlib.Omega.{arith}
-use mathlib.Core.Path.{_≡_, refl, sym, ap, _∙_}
-use mathlib.Core.List.{List, [], _∷_, _++_}
+use mathlib.Core.Path.{_≡_, sym, ap, _∙_}
+use mathlib.Core.List.{List, [], _∷_}
 use borrow.Author.Needs.{needs}
 use Rattle.text.specs.Ascii.{Bytes}
 use Rattle.out.specs.Emit.{Out, emit, emit-append, _⊕_}
 use Rattle.out.specs.Bytewise.{dotted}
 use Rattle.out.specs.Fill.{fill}
-use Rattle.out.specs.Items.{each}
+use Rattle.out.specs.Items.{each, each-cons, each-none}
 use Rattle.names.specs.Name.{nameOf}
 use Rattle.names.specs.declared.name.Name.{Name}
 use Rattle.nametable.specs.Table.{rowName, namesFrom, tableNames, names-next, names-none}
@@ -46,14 +46,6 @@ pub record Each (f : Bytes → Bytes) (mem : Bytes) (table : List ℕ) (n : ℕ)
 
 pub each-start : (f : Bytes → Bytes) (mem : Bytes) (table : List ℕ) (n : ℕ) (o : Out) → Each f mem table n (emit o (each f (tableNames mem table n))) o 0
 each-start f mem table n o = let e : n - 0 ≡ n = omega arith in record { keeps = rw e }
-
-each-cons : (f : Bytes → Bytes) (x : Bytes) (xs : List Bytes) → each f (x ∷ xs) ≡ f x ++ each f xs
-unfolding each
-each-cons f x xs = refl
-
-each-none : (f : Bytes → Bytes) (o : Out) → emit o (each f []) ≡ o
-unfolding each emit
-each-none f o = refl
 
 module _ (f : Bytes → Bytes) (mem : Bytes) (table : List ℕ) (n : ℕ) (w o : Out) (k : ℕ) (inv : Each f mem table n w o k) where
   pub each-next : (x : Name) (o′ : Out) → o′ ≡ emit o (f (nameOf mem x)) → x ≡ rowName table k → k < n → Each f mem table n w o′ (k + 1)

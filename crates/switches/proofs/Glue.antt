@@ -1,5 +1,5 @@
 -- The glue of switches: laws as the needs ask them. Assumes nothing.
-use Prim.Native.Nat.{ℕ, zero, suc, _+_, _-_, _*_, _≤_, _<_, _^_, max}
+use Prim.Native.Nat.{ℕ, suc, _+_, _-_, _*_, _≤_, _<_, _^_, max}
 use native.Mathlib.Omega.{arith}
 use mathlib.Core.Path.{_≡_, refl, sym, ap, ap₂, _∙_}
 use mathlib.Core.Bool.{false}
@@ -9,16 +9,16 @@ use borrow.Author.Needs.{needs}
 use Rattle.text.specs.Ascii.{Bytes, ascii}
 use Rattle.out.specs.Emit.{Out, emit, emit1, emit-append, emit-⊕, _⊕_}
 use Rattle.out.specs.Fill.{fill, arg, pick, turns, writes, emit-fill}
-use Rattle.out.specs.Items.{each, joined, rest, unless, join-next, join-done}
+use Rattle.out.specs.Items.{each, joined, rest, unless, join-next, join-done, each-cons, each-none}
 use Rattle.spans.specs.Span.{_⋯_, bytes}
 use Rattle.spans.specs.Reach.{reach-end}
 use Rattle.spans.specs.declared.span.Span.{Span}
 use Rattle.tcl.specs.Lists.{list}
 use Rattle.names.specs.Name.{named, nameOf}
 use Rattle.names.specs.declared.name.Name.{Name}
+use Rattle.names.specs.Frame.{alone-is}
 use Rattle.nametable.specs.Table.{rowName, namesFrom, tableNames, names-next, names-none}
 use Rattle.listnames.specs.Lists.{nthBelow, Whole, Known, whole-by, supply-net}
-use Rattle.listnames.specs.Inside.{named-alone}
 use Rattle.design.specs.Paths.{elementPath}
 use Rattle.format.specs.Args.{argOf, nameArg, hierArg}
 use Rattle.format.specs.Laws.{name-arg, hier-arg}
@@ -35,15 +35,16 @@ use Rattle.store.specs.declared.state.Switch.{Switch}
 use Rattle.store.specs.declared.state.Switches.{Switches}
 use Rattle.made.specs.Made.{reachOf}
 use Rattle.setting.specs.Orders.{sized-next, sized-end}
-use Rattle.conditions.specs.Controls.{scopeSetting}
+use Rattle.conditions.specs.Controls.{scopeSetting, controls-few}
 use Rattle.switches.specs.Words.{onsFrom, switchIn, ons-are}
-use Rattle.switches.specs.Texts.{ArgIs, storedName, onsText, stateText, signalText, controlText, controlAt}
+use Rattle.switches.specs.Texts.{ArgIs, onsText, stateText, signalText, controlText, controlAt}
 use Rattle.switches.specs.Asked.{Ons, OfNames, OfSwitch, OfSwitches, Controlled}
+use Rattle.clamps.specs.Values.{storedName}
 
 -- ---- arguments
 
 pub arg-string : (mem : Bytes) (s : Stored) (r : Arg) (x : Name) → r ≡ nameArg x → x ≡ storedName s → ArgIs mem (string mem s) r
-arg-string mem s r x e ex = record { is = λ job scope top. rw (e, ex) (name-arg job mem scope top (storedName s) ∙ named-alone mem (spanOf s) 0) }
+arg-string mem s r x e ex = record { is = λ job scope top. rw (e, ex) (name-arg job mem scope top (storedName s) ∙ alone-is mem (spanOf s) 0) }
 
 pub arg-net : (mem : Bytes) (scope v : Stored) (r : Arg) (x : Name) (s u : Span) (end : ℕ) → r ≡ nameArg x → Known mem (nthBelow (bytes mem s) 1 (list (bytes mem u))) end x → s ≡ spanOf scope → u ≡ spanOf v → ArgIs mem (nthBelow (string mem scope) 1 (list (string mem v))) r
 arg-net mem scope v r x s u end e k es eu = record { is = λ job sc top. rw e (name-arg job mem sc top x ∙ k .is ∙ rw (es, eu)) }
@@ -77,12 +78,6 @@ control-row job mem scope top table i on name o o′ a d s p e ea es ed ep =
 
 -- ---- control ports by turns
 
-controls-few : (mem : Bytes) (table : List ℕ) (i k : ℕ) → k ≤ 1 → controlsOf (namesFrom mem table i k) ≡ []
-unfolding namesFrom
-controls-few mem table i zero h = refl
-controls-few mem table i (suc zero) h = refl
-controls-few mem table i (suc (suc k)) h = absurd (omega arith)
-
 pub controls-next : (mem : Bytes) (table : List ℕ) (n i : ℕ) → i + 1 < n → controlsOf (namesFrom mem table i (n - i)) ≡ controlAt mem table i ∷ controlsOf (namesFrom mem table (i + 2) (n - (i + 2)))
 controls-next mem table n i h =
     let z : n - i ≡ suc (suc (n - (i + 2))) = omega arith in
@@ -93,14 +88,6 @@ controls-next mem table n i h =
 
 pub controls-end : (mem : Bytes) (table : List ℕ) (n i : ℕ) → n ≤ i + 1 → controlsOf (namesFrom mem table i (n - i)) ≡ []
 controls-end mem table n i h = controls-few mem table i (n - i) (omega arith)
-
-pub each-cons : {A : Type 0} (f : A → Bytes) (x : A) (xs : List A) → each f (x ∷ xs) ≡ f x ++ each f xs
-unfolding each
-each-cons f x xs = refl
-
-pub each-none : {A : Type 0} (f : A → Bytes) (o : Out) → emit o (each f []) ≡ o
-unfolding each emit
-each-none f o = refl
 
 pub record Turns (f : Control → Bytes) (mem : Bytes) (table : List ℕ) (n : ℕ) (w o : Out) (i : ℕ) : Type 0 where
   pub keeps : emit o (each f (controlsOf (namesFrom mem table i (n - i)))) ≡ w

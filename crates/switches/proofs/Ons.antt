@@ -19,12 +19,12 @@ use Rattle.model.specs.Records.{Control, OnState}
 use Rattle.model.specs.Commands.{nth}
 use Rattle.texts.specs.Setting.{Setting}
 use Rattle.texts.specs.Switches.{condition}
-use Rattle.store.specs.Strings.{string, spanOf}
+use Rattle.store.specs.Strings.{spanOf}
 use Rattle.store.specs.View.{onOf}
 use Rattle.store.specs.Rows.{wordAt}
 use Rattle.store.specs.declared.stored.Stored.{Stored}
 use Rattle.made.specs.Made.{reachOf}
-use Rattle.switches.specs.Words.{wordsFrom, onsFrom}
+use Rattle.switches.specs.Words.{onsFrom, ons-cons, ons-none}
 use Rattle.switches.specs.Texts.{onText, onsText}
 use Rattle.switches.specs.Asked.{Ons}
 
@@ -45,14 +45,6 @@ pub record OnLoop (s : Setting) (cs : List Control) (mem : Bytes) (nums : List �
 pub ons-start : (s : Setting) (cs : List Control) (mem : Bytes) (nums : List ℕ) (first n : ℕ) (sep : Bytes) (o : Out) → OnLoop s cs mem nums first n sep (emit o (joined sep (map (onText s cs) (onsFrom mem nums first n)))) o 0
 unfolding rest
 ons-start s cs mem nums first n sep o = let e : n - 0 ≡ n = omega arith in let z : first + 0 ≡ first = omega arith in record { keeps = rw (e, z) }
-
-ons-cons : (mem : Bytes) (nums : List ℕ) (k n : ℕ) → onsFrom mem nums k (suc n) ≡ onOf (string mem (wordAt nums k)) ∷ onsFrom mem nums (k + 1) n
-unfolding wordsFrom
-ons-cons mem nums k n = refl
-
-ons-none : (mem : Bytes) (nums : List ℕ) (k : ℕ) → onsFrom mem nums k 0 ≡ []
-unfolding wordsFrom
-ons-none mem nums k = refl
 
 module _ (s : Setting) (cs : List Control) (mem : Bytes) (nums : List ℕ) (first n : ℕ) (sep : Bytes) (w o : Out) (k : ℕ) (inv : OnLoop s cs mem nums first n sep w o k) where
   pub ons-step : (o₁ o₂ : Out) (u : Span) (v : Stored) → o₂ ≡ emit o₁ (onText s cs (onOf (bytes mem u))) → o₁ ≡ emit o (unless k sep) → u ≡ spanOf v → v ≡ wordAt nums (first + k) → k < n → OnLoop s cs mem nums first n sep w o₂ (k + 1)

@@ -2,7 +2,7 @@
 -- Assumes nothing.
 use Prim.Native.Nat.{ℕ, _+_, _≤_}
 use mathlib.Core.Path.{_≡_, refl, sym, ap, ap₂, _∙_}
-use mathlib.Core.Bool.{Bool, false, cond}
+use mathlib.Core.Bool.{Bool, cond}
 use mathlib.Core.List.{List, [], _∷_, _++_, map, flatMap}
 use lib.ListN.{length}
 use Rattle.text.specs.Ascii.{Bytes, ascii}
@@ -10,9 +10,7 @@ use Rattle.text.specs.Compare.{same}
 use Rattle.out.specs.Emit.{Out, emit, _⊕_}
 use Rattle.out.specs.Fill.{fill, format1, format2, format3, format4}
 use Rattle.out.specs.Items.{each, joined}
-use Rattle.spans.specs.Span.{_⋯_}
-use Rattle.names.specs.Name.{named, nameOf}
-use Rattle.names.specs.declared.name.Name.{Name}
+use Rattle.names.specs.Name.{nameOf}
 use Rattle.nametable.specs.Table.{rowName}
 use Rattle.design.specs.Paths.{elementPath}
 use Rattle.model.specs.Records.{Control, OnState, Switch as Switchʳ}
@@ -21,15 +19,10 @@ use Rattle.texts.specs.Switches.{condition, unknowns, orOff, onCondition, switc
 use Rattle.texts.specs.Texts.{warningLine}
 use Rattle.format.specs.Args.{argOf}
 use Rattle.format.specs.declared.arg.Arg.{Arg}
-use Rattle.store.specs.Strings.{spanOf}
 use Rattle.store.specs.View.{switchOf}
 use Rattle.store.specs.declared.stored.Stored.{Stored}
 use Rattle.store.specs.declared.state.Switch.{Switch}
 use Rattle.conditions.specs.Controls.{scopeSetting, condition-same, unknowns-same}
-
--- a stored string as a name
-abbrev pub storedName : Stored → Name
-storedName s = named (0 ⋯ 0) false (spanOf s) 0
 
 -- an argument that stands for a text, whatever the job and the scope
 pub record ArgIs (mem t : Bytes) (r : Arg) : Type 0 where

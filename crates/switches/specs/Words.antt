@@ -30,6 +30,15 @@ switchIn mem nums w = switchOf mem (wordsIn nums (switchWords w)) w
 
 -- ---- laws
 
+-- the first on-state, or none
+pub ons-cons : (mem : Bytes) (nums : List ℕ) (k n : ℕ) → onsFrom mem nums k (suc n) ≡ onOf (string mem (wordAt nums k)) ∷ onsFrom mem nums (k + 1) n
+unfolding wordsFrom
+ons-cons mem nums k n = refl
+
+pub ons-none : (mem : Bytes) (nums : List ℕ) (k : ℕ) → onsFrom mem nums k 0 ≡ []
+unfolding wordsFrom
+ons-none mem nums k = refl
+
 words-last : (nums : List ℕ) (k n : ℕ) → wordsFrom nums k (suc n) ≡ wordsFrom nums k n ++ (wordAt nums (k + n) ∷ [])
 unfolding wordsFrom
 words-last nums k zero = let e : k + 0 ≡ k = add-zero k in rw e

@@ -10,15 +10,15 @@ use Rattle.text.specs.Ascii.{Bytes, ascii}
 use Rattle.text.specs.Compare.{same}
 use Rattle.out.specs.Emit.{Out, emit, emit1, emit-append}
 use Rattle.out.specs.Fill.{fill, format3, arg, pick, turns, writes, emit-fill}
-use Rattle.out.specs.Items.{each}
+use Rattle.out.specs.Items.{each, each-none}
 use Rattle.spans.specs.Span.{_⋯_, bytes}
 use Rattle.spans.specs.declared.span.Span.{Span}
 use Rattle.tcl.specs.Lists.{list}
 use Rattle.names.specs.Name.{nameOf}
 use Rattle.names.specs.declared.name.Name.{Name}
+use Rattle.names.specs.Frame.{alone-is}
 use Rattle.nametable.specs.Table.{tableNames}
 use Rattle.listnames.specs.Lists.{Whole, Known, whole-by, supply-port}
-use Rattle.listnames.specs.Inside.{named-alone}
 use Rattle.format.specs.Args.{argOf, nameArg}
 use Rattle.format.specs.Laws.{name-arg}
 use Rattle.format.specs.declared.arg.Arg.{Arg}
@@ -35,11 +35,12 @@ use Rattle.store.specs.declared.stored.Stored.{Stored}
 use Rattle.store.specs.declared.state.Switch.{Switch}
 use Rattle.store.specs.declared.state.Switches.{Switches}
 use Rattle.setting.specs.Orders.{sized-next, sized-end}
-use Rattle.switches.specs.Words.{wordsFrom, onsFrom, switchIn, ons-are}
-use Rattle.switches.specs.Texts.{Told, storedName, onRemarks, remarks}
+use Rattle.switches.specs.Words.{onsFrom, switchIn, ons-are, ons-cons, ons-none}
+use Rattle.switches.specs.Texts.{Told, onRemarks, remarks}
 use Rattle.switches.specs.Asked.{OfNames, OfSwitch, OfSwitches, Controlled}
 use Rattle.switchwarnings.specs.Asked.{Reads}
 use Rattle.switchwarnings.proofs.Words.{told-none, told-one, told-then}
+use Rattle.clamps.specs.Values.{storedName}
 
 -- ---- another port than the input's
 
@@ -49,7 +50,7 @@ port-pieces o x y z = simp emit-fill
 
 pub port-told : (job mem : Bytes) (scope : List Bytes) (top : Bytes) (s : Stored) (port expected : Name) (o o′ : Out) (n : ℕ) (a b c : Arg) (x : Name) → o′ ≡ emit o (fill (ascii "warning: power switch '{0}': on_state uses input port '{1}' (expected '{2}')\n") (argOf job mem scope top a) (argOf job mem scope top b) (argOf job mem scope top c) [] []) → a ≡ nameArg x → x ≡ storedName s → b ≡ nameArg port → c ≡ nameArg expected → Told 1 o n (format3 "power switch '{0}': on_state uses input port '{1}' (expected '{2}')" (string mem s) (nameOf mem port) (nameOf mem expected) ∷ []) o′ (n + 1)
 port-told job mem scope top s port expected o o′ n a b c x e ea ex eb ec =
-    let p : argOf job mem scope top a ≡ string mem s = rw (ea, ex) (name-arg job mem scope top (storedName s) ∙ named-alone mem (spanOf s) 0) in
+    let p : argOf job mem scope top a ≡ string mem s = rw (ea, ex) (name-arg job mem scope top (storedName s) ∙ alone-is mem (spanOf s) 0) in
     let q : argOf job mem scope top b ≡ nameOf mem port = rw eb (name-arg job mem scope top port) in
     let r : argOf job mem scope top c ≡ nameOf mem expected = rw ec (name-arg job mem scope top expected) in
     told-one o o′ n (format3 "power switch '{0}': on_state uses input port '{1}' (expected '{2}')" (string mem s) (nameOf mem port) (nameOf mem expected)) ((rw (p, q, r) at e) ∙ port-pieces o (string mem s) (nameOf mem port) (nameOf mem expected))
@@ -103,10 +104,6 @@ flat-none : {A : Type 0} (f : A → List Bytes) → flatMap f [] ≡ []
 unfolding flatMap
 flat-none f = refl
 
-each-none : (o : Out) → emit o (each warningLine []) ≡ o
-unfolding each emit
-each-none o = refl
-
 module _ {A : Type 0} (f : A → List Bytes) (all : List A) (o₀ : Out) (n₀ : ℕ) (o : Out) (n : ℕ) where
   remarks-next : (left left′ : List A) (x : A) (most : ℕ) (o′ : Out) (n′ : ℕ) → Remarks f all left o₀ n₀ o n → left ≡ x ∷ left′ → Told most o n (f x) o′ n′ → Remarks f all left′ o₀ n₀ o′ n′
   remarks-next left left′ x most o′ n′ inv e t =
@@ -122,7 +119,7 @@ module _ {A : Type 0} (f : A → List Bytes) (all : List A) (o₀ : Out) (n₀ :
   remarks-done left most inv e h =
       let z : flatMap f left ≡ [] = ap (flatMap f) e ∙ flat-none f in
       let c : n + 0 ≡ n₀ + length (flatMap f all) = rw z at (inv .count) in
-      record { text = sym (each-none o) ∙ (rw z at (inv .text)); count = omega (arith, c); few = h }
+      record { text = sym (each-none warningLine o) ∙ (rw z at (inv .text)); count = omega (arith, c); few = h }
 
 -- ---- the on-states of a switch
 
@@ -133,14 +130,6 @@ pub record OnsTold (f : OnState → List Bytes) (mem : Bytes) (nums : List ℕ) 
 
 pub ons-start : (f : OnState → List Bytes) (mem : Bytes) (nums : List ℕ) (first n : ℕ) (o : Out) (m : ℕ) → m ≤ 2 ^ 59 → OnsTold f mem nums first n o m o m 0
 ons-start f mem nums first n o m h = let e : n - 0 ≡ n = omega arith in let z : first + 0 ≡ first = omega arith in record { remarked = rw (e, z) (record { text = refl; count = refl }); few = omega arith; low = h }
-
-ons-cons : (mem : Bytes) (nums : List ℕ) (k n : ℕ) → onsFrom mem nums k (suc n) ≡ onOf (string mem (wordAt nums k)) ∷ onsFrom mem nums (k + 1) n
-unfolding wordsFrom
-ons-cons mem nums k n = refl
-
-ons-none : (mem : Bytes) (nums : List ℕ) (k : ℕ) → onsFrom mem nums k 0 ≡ []
-unfolding wordsFrom
-ons-none mem nums k = refl
 
 module _ (f : OnState → List Bytes) (mem : Bytes) (nums : List ℕ) (first n : ℕ) (o₀ : Out) (n₀ : ℕ) (o : Out) (m k : ℕ) (inv : OnsTold f mem nums first n o₀ n₀ o m k) where
   pub ons-next : (o′ : Out) (m′ : ℕ) (u : Span) (v : Stored) → Told (2 ^ 35) o m (f (onOf (bytes mem u))) o′ m′ → u ≡ spanOf v → v ≡ wordAt nums (first + k) → k < n → OnsTold f mem nums first n o₀ n₀ o′ m′ (k + 1)

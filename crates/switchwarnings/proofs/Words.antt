@@ -3,7 +3,7 @@ use Prim.Native.Nat.{ℕ, zero, suc, _+_, _*_, _≤_, _<_, _^_}
 use native.Mathlib.Omega.{arith}
 use mathlib.Core.Path.{_≡_, refl, sym, ap, ap₂, _∙_}
 use mathlib.Core.Bool.{Bool, true, false, cond}
-use mathlib.Core.List.{List, [], _∷_, _++_, append-nil}
+use mathlib.Core.List.{List, [], _∷_, _++_}
 use mathlib.Core.Option.{Option, none, some}
 use lib.ListN.{length, take, drop, length-append}
 use borrow.Author.Needs.{needs}
@@ -13,7 +13,7 @@ use Rattle.text.specs.Classes.{isDigit, isVariable}
 use Rattle.text.specs.Scan.{all, before}
 use Rattle.out.specs.Emit.{Out, emit, emit1, emit-append, wrote, kept}
 use Rattle.out.specs.Fill.{fill, format1, arg, pick, turns, writes, emit-fill}
-use Rattle.out.specs.Items.{each}
+use Rattle.out.specs.Items.{each, each-none}
 use Rattle.tcl.specs.Substitution.{no-variable}
 use Rattle.names.specs.Name.{nameOf, stepOf}
 use Rattle.names.specs.declared.name.Name.{Name}
@@ -33,26 +33,18 @@ use Rattle.model.specs.Commands.{controlsOf}
 use Rattle.texts.specs.Setting.{Setting}
 use Rattle.texts.specs.Switches.{signalOf, unlessKnown, unknowns}
 use Rattle.texts.specs.Texts.{warningLine}
-use Rattle.texts.specs.Laws.{each-append}
+use Rattle.texts.specs.Laws.{each-append, one-warning}
 use Rattle.conditions.specs.Controls.{scopeSetting, signalAt, hierOf, ControlSeen, seen-signal}
 use Rattle.conditions.specs.Pieces.{unknowns-none, unknowns-byte, unknowns-word, unknowns-few, word-shorter}
 use Rattle.switches.specs.Texts.{Told}
 
 -- ---- none, one, one after the other
 
-each-none : (o : Out) → emit o (each warningLine []) ≡ o
-unfolding each emit
-each-none o = refl
-
-each-one : (w : Bytes) → each warningLine (w ∷ []) ≡ warningLine w
-unfolding each
-each-one w = append-nil (warningLine w)
-
 pub told-none : (most : ℕ) (o : Out) (n : ℕ) → Told most o n [] o n
-told-none most o n = record { text = sym (each-none o); count = omega arith; few = omega arith }
+told-none most o n = record { text = sym (each-none warningLine o); count = omega arith; few = omega arith }
 
 pub told-one : (o o′ : Out) (n : ℕ) (w : Bytes) → o′ ≡ emit o (warningLine w) → Told 1 o n (w ∷ []) o′ (n + 1)
-told-one o o′ n w e = record { text = e ∙ ap (emit o) (sym (each-one w)); count = refl; few = omega arith }
+told-one o o′ n w e = record { text = e ∙ ap (emit o) (sym (one-warning w)); count = refl; few = omega arith }
 
 pub told-then : (a b c : ℕ) (o o₁ o₂ : Out) (n n₁ n₂ : ℕ) (ws vs : List Bytes) → Told a o n ws o₁ n₁ → Told b o₁ n₁ vs o₂ n₂ → a + b ≤ c → Told c o n (ws ++ vs) o₂ n₂
 told-then a b c o o₁ o₂ n n₁ n₂ ws vs p q h =
@@ -109,9 +101,6 @@ pub record Warns (s : Setting) (cs : List Control) (mem : Bytes) (e : Name) (o�
 pub warns-start : (s : Setting) (cs : List Control) (mem : Bytes) (e : Name) (o : Out) (n : ℕ) → length mem < 2 ^ 32 → Warns s cs mem e o n o n e
 warns-start s cs mem e o n h = record { text = refl; count = refl; most = omega (arith, unknowns-few s cs 0 (nameOf mem e), name-short mem e) }
 
-pub name-less : (mem : Bytes) (x : Name) (p : Step) (b : ℕ) (u : Name) → nameOf mem x ≡ stepOf mem p → p ≡ Byte b u → length (nameOf mem u) < length (nameOf mem x)
-name-less mem x p b u e h = let z : nameOf mem x ≡ b ∷ nameOf mem u = e ∙ rw h in rw z (omega arith)
-
 module _ (s : Setting) (cs : List Control) (mem : Bytes) (e : Name) (o₀ : Out) (n₀ : ℕ) (o : Out) (n : ℕ) (x : Name) (inv : Warns s cs mem e o₀ n₀ o n x) where
   pub warns-low : n₀ ≤ 2 ^ 61 → n ≤ 2 ^ 62
   warns-low h = omega (arith, inv .count, inv .most)
@@ -121,7 +110,7 @@ module _ (s : Setting) (cs : List Control) (mem : Bytes) (e : Name) (o₀ : Out)
     warns-end h =
         let z : unknowns s cs 0 (nameOf mem x) ≡ [] = ap (unknowns s cs 0) (g ∙ rw h) ∙ unknowns-none s cs 0 [] in
         let c : n + 0 ≡ n₀ + length (unknowns s cs 0 (nameOf mem e)) = rw z at (inv .count) in
-        record { text = sym (each-none o) ∙ (rw z at (inv .text)); count = omega (arith, c); few = omega (arith, c, inv .most) }
+        record { text = sym (each-none warningLine o) ∙ (rw z at (inv .text)); count = omega (arith, c); few = omega (arith, c, inv .most) }
 
     module _ (b : ℕ) (u : Name) (h : p ≡ Byte b u) (t : Bool) (et : t ≡ isVariable b) where
       at-byte : nameOf mem x ≡ b ∷ nameOf mem u

@@ -12,7 +12,7 @@ use Rattle.text.specs.Ascii.{Bytes, ascii}
 use Rattle.text.specs.Compare.{same}
 use Rattle.out.specs.Fill.{format1}
 use Rattle.spans.specs.Span.{pairs}
-use Rattle.spans.specs.Reach.{lastOf, reach}
+use Rattle.spans.specs.Reach.{lastOf, reach, none-reach}
 use Rattle.spans.specs.declared.span.Span.{Span}
 use Rattle.spans.specs.declared.span.Found.{Found}
 use Rattle.tcl.specs.Arguments.{optionOf, nameOf}
@@ -36,7 +36,7 @@ use Rattle.made.specs.declared.Made.{Made}
 use Rattle.made.specs.Made.{rowMade, warnedMade, reachOf, Ready, Did}
 use Rattle.made.specs.Dids.{did-warn}
 use Rattle.made.specs.Done.{did-row}
-use Rattle.made.specs.Asked.{list-found, or-found, found-by, none-reach}
+use Rattle.made.specs.Asked.{list-found, or-found, found-by}
 
 -- whether a stored table has the name
 abbrev pub isNamed : Bytes → Stored → Table → Bool

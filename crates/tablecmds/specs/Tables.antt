@@ -11,7 +11,7 @@ use lib.Seq.{length-take-le}
 use borrow.Author.Tests.{ne-eqb}
 use Rattle.text.specs.Ascii.{Bytes, ascii}
 use Rattle.spans.specs.Span.{_⋯_, pairs}
-use Rattle.spans.specs.Reach.{lastOf, reach}
+use Rattle.spans.specs.Reach.{lastOf, reach, none-reach}
 use Rattle.spans.specs.declared.span.Span.{Span}
 use Rattle.spans.specs.declared.span.Found.{Found}
 use Rattle.tcl.specs.Arguments.{optionOf, nameOf}
@@ -37,7 +37,7 @@ use Rattle.store.specs.Fits.{fit-tables}
 use Rattle.store.specs.Steps.{table-view, table-shaped, table-bounded}
 use Rattle.store.specs.declared.row.Row.{Row}
 use Rattle.store.specs.declared.state.Table.{Table}
-use Rattle.made.specs.Asked.{list-found, found-by, none-reach}
+use Rattle.made.specs.Asked.{list-found, found-by}
 
 -- the table that the words name, in a scope; it has no states
 unfoldable pub newTable : Bytes → List Bytes → Tableʳ

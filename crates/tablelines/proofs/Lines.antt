@@ -9,7 +9,7 @@ use borrow.Author.Needs.{needs}
 use Rattle.text.specs.Ascii.{Bytes, ascii}
 use Rattle.out.specs.Emit.{Out, emit, emit-append, _⊕_, emit-⊕}
 use Rattle.out.specs.Fill.{fill, turns, arg, pick, writes, runs, format1, format3, emit-fill}
-use Rattle.out.specs.Items.{each, joined}
+use Rattle.out.specs.Items.{each, joined, each-cons, each-none}
 use Rattle.spans.specs.Reach.{held-by, reach-end}
 use Rattle.tcl.specs.Lists.{list}
 use Rattle.names.specs.Scoped.{scoped}
@@ -80,14 +80,6 @@ numbered-none : {A B : Type 0} (f : ℕ → A → B) (k : ℕ) → numbered f k 
 unfolding numbered
 numbered-none f k = refl
 
-each-first : {A : Type 0} (f : A → Bytes) (x : A) (xs : List A) → each f (x ∷ xs) ≡ f x ++ each f xs
-unfolding each
-each-first f x xs = refl
-
-each-none : {A : Type 0} (f : A → Bytes) (o : Out) → emit o (each f []) ≡ o
-unfolding each emit
-each-none f o = refl
-
 pub record Lines (mem : Bytes) (nums : List ℕ) (rows : ℕ) (t : Tables) (w o : Out) (i : ℕ) : Type 0 where
   pub keeps : emit o (each tableLine (numbered (tableOf mem (rowsIn nums rows)) i (drop i (take (t .n) (t .all))))) ≡ w
 
@@ -135,7 +127,7 @@ module _ (files area : Bytes) (nums : List ℕ) (rows : ℕ) (t : Tables) (g : O
           let q : each tableLine (numbered made i (drop i (take (t .n) (t .all)))) ≡ tableLine (made i x) ++ each tableLine (numbered made (i + 1) (drop (i + 1) (take (t .n) (t .all)))) =
           ap (λ (l : List Table). each tableLine (numbered made i l)) (holds-next of (length mem) (t .n) (t .all) (g .holds) i d h)
           ∙ ap (each tableLine) (numbered-first made i x (drop (i + 1) (take (t .n) (t .all))))
-          ∙ each-first tableLine (made i x) (numbered made (i + 1) (drop (i + 1) (take (t .n) (t .all)))) in
+          ∙ each-cons tableLine (made i x) (numbered made (i + 1) (drop (i + 1) (take (t .n) (t .all)))) in
           record { keeps = rw e (sym (emit-append o (tableLine (made i x)) (each tableLine (numbered made (i + 1) (drop (i + 1) (take (t .n) (t .all)))))) ∙ (ap (emit o) (sym q) ∙ inv .keeps)) }
 
   pub lines-done : (w o : Out) → Lines mem nums rows t w o i → t .n ≤ i → o ≡ w

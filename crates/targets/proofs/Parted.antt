@@ -1,10 +1,10 @@
 -- Whether the first part of a text is a name: laws as the needs ask them. Assumes nothing.
 use Prim.Native.Nat.{ℕ, _+_, _≤_, _<_, _^_}
 use native.Mathlib.Omega.{arith}
-use mathlib.Core.Path.{_≡_, refl, sym, ap, _∙_}
+use mathlib.Core.Path.{_≡_, sym, ap, _∙_}
 use mathlib.Core.Bool.{Bool, true, false, cond}
 use mathlib.Core.Option.{Option, none, some}
-use mathlib.Core.List.{List, [], _∷_}
+use mathlib.Core.List.{List, []}
 use lib.Dec.{eqb}
 use lib.ListN.{length, drop, getD, drop-of-length-le}
 use borrow.Author.Needs.{needs}
@@ -12,32 +12,11 @@ use borrow.Author.Tests.{eq-eqb, ne-eqb}
 use Rattle.text.specs.Ascii.{Bytes, byte}
 use Rattle.text.specs.Compare.{same}
 use Rattle.text.specs.Lists.{here}
-use Rattle.text.specs.Scan.{onto, splitAt}
-use Rattle.names.specs.Parts.{parts, firstPart, others, behind}
+use Rattle.names.specs.Parts.{parts, behind, onto-first, onto-others, parts-at, parts-on, parts-none}
 use Rattle.refs.specs.Text.{textOf, stepOf}
 use Rattle.refs.specs.declared.Ref.{Ref}
 use Rattle.refs.specs.declared.Step.{Step}
 use Rattle.refs.specs.declared.Step.the-variants.{Byte, End}
-
-onto-first : (x : ℕ) (ps : List Bytes) → firstPart (onto x ps) ≡ x ∷ firstPart ps
-onto-first x [] = refl
-onto-first x (p ∷ ps) = refl
-
-onto-others : (x : ℕ) (ps : List Bytes) → others (onto x ps) ≡ others ps
-onto-others x [] = refl
-onto-others x (p ∷ ps) = refl
-
-parts-at : (x : ℕ) (s : Bytes) → x ≡ byte "/" → parts (x ∷ s) ≡ [] ∷ parts s
-unfolding splitAt
-parts-at x s h = rw (eq-eqb x (byte "/") h)
-
-parts-on : (x : ℕ) (s : Bytes) → (x ≡ byte "/" → ⊥) → parts (x ∷ s) ≡ onto x (parts s)
-unfolding splitAt
-parts-on x s h = rw (ne-eqb x (byte "/") h)
-
-parts-none : parts [] ≡ [] ∷ []
-unfolding splitAt
-parts-none = refl
 
 -- t is the answer: what is left of the first part is what is left of s, or not
 pub record Takes (job mem s : Bytes) (t : Option (List Bytes)) (x : Ref) (i : ℕ) : Type 0 where

@@ -1,8 +1,8 @@
 -- How many bytes a word has, by its first byte: laws as the needs ask them. Assumes nothing.
 use Prim.Native.Nat.{_+_, _<_, _≤_, ℕ}
-use mathlib.Core.Path.{_∙_, _≡_, ap, refl, sym}
+use mathlib.Core.Path.{_∙_, _≡_, ap, refl}
 use mathlib.Core.List.{List}
-use mathlib.Core.Bool.{Bool, _&&_, cond, false, true, _||_}
+use mathlib.Core.Bool.{Bool, _&&_, cond, false, true}
 use native.Mathlib.Omega.{arith}
 use lib.ListN.{List·getD-eq-default, drop, getD, length, length-drop, length-take, take}
 use lib.Seq.{length-take-le}
@@ -10,61 +10,37 @@ use lib.Dec.{eqb, leb}
 use borrow.Author.Tests.{eqb-true, leb-false, leb-true, ne-eqb}
 use borrow.Author.Needs.{needs}
 use Rattle.tcl.specs.Join.{jointBy}
-use Rattle.tcl.specs.Words.{depth, inside, kindOf, quoteSize, quoteState, sizeOf, Kind}
+use Rattle.tcl.specs.Words.{depth, inside, kindOf, quoteSize, quoteState, sizeOf}
 use Rattle.text.specs.Scan.{before}
-use Rattle.tcl.specs.Machines.{span-le}
+use Rattle.tcl.specs.Machines.{span-le, word-kind}
 use Rattle.text.specs.Classes.{endsPlain, within}
 use Rattle.text.specs.Ascii.{byte}
 use Rattle.text.specs.Scans.{before-le}
-use Rattle.text.specs.Sames.{no-true}
-
--- a byte that ends no plain word begins a word: which one
-other-kind : (x : ℕ) → endsPlain x ≡ false → kindOf false x ≡ cond (eqb x (byte "{")) Kind.brace (cond (eqb x (byte "\"")) Kind.quote (cond (eqb x (byte "[")) Kind.bracket Kind.other))
-unfolding kindOf
-other-kind x h =
-    go (within 9 13 x) (eqb x 32) (eqb x (byte ";")) (eqb x (byte "\n")) (λ e. space x e) h
-  where
-    -- LF is white space
-    space : (x : ℕ) → eqb x (byte "\n") ≡ true → within 9 13 x ≡ true
-    space x e = let g : x ≡ 10 = eqb-true x 10 e in rw g
-
-    go : (a b c d : Bool) → (d ≡ true → a ≡ true) → (a || b) || c ≡ false
-        → cond (d || c) Kind.ends (cond (a || b) Kind.blank (cond (eqb x (byte "#") && false) Kind.comment (cond (eqb x (byte "{")) Kind.brace (cond (eqb x (byte "\"")) Kind.quote (cond (eqb x (byte "[")) Kind.bracket Kind.other)))))
-        ≡ cond (eqb x (byte "{")) Kind.brace (cond (eqb x (byte "\"")) Kind.quote (cond (eqb x (byte "[")) Kind.bracket Kind.other))
-    go true b c d e g = absurd (no-true (sym g))
-    go false true c d e g = absurd (no-true (sym g))
-    go false false true d e g = absurd (no-true (sym g))
-    go false false false true e g = absurd (no-true (e refl))
-    go false false false false e g = hash (eqb x (byte "#"))
-      where
-        hash : (t : Bool) → cond (t && false) Kind.comment (cond (eqb x (byte "{")) Kind.brace (cond (eqb x (byte "\"")) Kind.quote (cond (eqb x (byte "[")) Kind.bracket Kind.other))) ≡ cond (eqb x (byte "{")) Kind.brace (cond (eqb x (byte "\"")) Kind.quote (cond (eqb x (byte "[")) Kind.bracket Kind.other))
-        hash true = refl
-        hash false = refl
 
 module _ (s p : List ℕ) (at : ℕ) (e : endsPlain (getD s at 0) ≡ false) where
   pub size-brace : p ≡ take (inside (byte "{") (byte "}") (drop (at + 1) s)) (drop (at + 1) s) → getD s at 0 ≡ byte "{" → length p + 2 ≡ 1 + sizeOf (kindOf false (getD s at 0)) (drop (at + 1) s)
   unfolding sizeOf
   size-brace g z =
       let l : length p ≡ inside (byte "{") (byte "}") (drop (at + 1) s) = ap length g ∙ length-take-le (inside (byte "{") (byte "}") (drop (at + 1) s)) (drop (at + 1) s) (span-le (depth (byte "{") (byte "}")) 1 (drop (at + 1) s)) in
-      rw (other-kind (getD s at 0) e, z) (omega (arith, l))
+      rw (word-kind (getD s at 0) e, z) (omega (arith, l))
 
   pub size-quote : p ≡ take (quoteSize (drop (at + 1) s)) (drop (at + 1) s) → getD s at 0 ≡ byte "\"" → length p + 2 ≡ 1 + sizeOf (kindOf false (getD s at 0)) (drop (at + 1) s)
   unfolding sizeOf
   size-quote g z =
       let l : length p ≡ quoteSize (drop (at + 1) s) = ap length g ∙ length-take-le (quoteSize (drop (at + 1) s)) (drop (at + 1) s) (span-le quoteState 1 (drop (at + 1) s)) in
-      rw (other-kind (getD s at 0) e, z) (omega (arith, l))
+      rw (word-kind (getD s at 0) e, z) (omega (arith, l))
 
   pub size-bracket : p ≡ take (inside (byte "[") (byte "]") (drop (at + 1) s)) (drop (at + 1) s) → getD s at 0 ≡ byte "[" → length p + 2 ≡ 1 + sizeOf (kindOf false (getD s at 0)) (drop (at + 1) s)
   unfolding sizeOf
   size-bracket g z =
       let l : length p ≡ inside (byte "[") (byte "]") (drop (at + 1) s) = ap length g ∙ length-take-le (inside (byte "[") (byte "]") (drop (at + 1) s)) (drop (at + 1) s) (span-le (depth (byte "[") (byte "]")) 1 (drop (at + 1) s)) in
-      rw (other-kind (getD s at 0) e, z) (omega (arith, l))
+      rw (word-kind (getD s at 0) e, z) (omega (arith, l))
 
   pub size-plain : p ≡ take (before endsPlain (drop (at + 1) s)) (drop (at + 1) s) → (getD s at 0 ≡ byte "{" → ⊥) → (getD s at 0 ≡ byte "\"" → ⊥) → (getD s at 0 ≡ byte "[" → ⊥) → length p + 1 ≡ 1 + sizeOf (kindOf false (getD s at 0)) (drop (at + 1) s)
   unfolding sizeOf
   size-plain g x y z =
       let l : length p ≡ before endsPlain (drop (at + 1) s) = ap length g ∙ length-take-le (before endsPlain (drop (at + 1) s)) (drop (at + 1) s) (before-le endsPlain (drop (at + 1) s)) in
-      rw (other-kind (getD s at 0) e, ne-eqb (getD s at 0) (byte "{") x, ne-eqb (getD s at 0) (byte "\"") y, ne-eqb (getD s at 0) (byte "[") z) (omega (arith, l))
+      rw (word-kind (getD s at 0) e, ne-eqb (getD s at 0) (byte "{") x, ne-eqb (getD s at 0) (byte "\"") y, ne-eqb (getD s at 0) (byte "[") z) (omega (arith, l))
 
 -- a part of what stands behind is within
 pub part-in : (s p : List ℕ) (a n m : ℕ) → p ≡ take n (drop (a + 1) s) → a < length s → m ≤ length p + 2 → a + m ≤ length s + 1

@@ -1,4 +1,4 @@
--- Laws: bytes rewritten piece by piece, from a place on. Assumes nothing.
+-- Laws: bytes rewritten piece by piece, from a place on; joining never lengthens. Assumes nothing.
 use Prim.Native.Nat.{_+_, _<_, _≤_, suc, zero, ℕ}
 use mathlib.Core.Path.{_≡_, ap, refl}
 use mathlib.Core.List.{List, [], _++_, _∷_}
@@ -10,6 +10,7 @@ use Rattle.spans.specs.Area.{Wrote}
 use Rattle.text.specs.Ascii.{Bytes}
 use Rattle.text.specs.Lists.{here}
 use Rattle.tcl.specs.Rewrite.{rewrite}
+use Rattle.tcl.specs.Join.{joint, joined, join}
 use Rattle.text.specs.Scan.{all}
 
 module _ (more : Bytes → ℕ) (to : Bytes → Bytes) where
@@ -49,3 +50,14 @@ module _ (more : Bytes → ℕ) (to : Bytes → Bytes) where
       rw (e (x ∷ xs), rewrite-same e (more (x ∷ xs)) xs, q) (ap (λ (t : List ℕ). x ∷ t) (take-append-drop (more (x ∷ xs)) xs))
   rewrite-same e (suc k) [] = refl
   rewrite-same e (suc k) (x ∷ xs) = rewrite-same e k xs
+
+-- ---- joining never lengthens
+
+no-longer : (k : ℕ) (s : Bytes) → length (rewrite joint joined k s) ≤ length s
+unfolding rewrite
+no-longer k [] = omega arith
+no-longer zero (x ∷ xs) = let h : length (rewrite joint joined (joint (x ∷ xs)) xs) ≤ length xs = no-longer (joint (x ∷ xs)) xs in omega arith
+no-longer (suc k) (x ∷ xs) = let h : length (rewrite joint joined k xs) ≤ length xs = no-longer k xs in omega arith
+
+pub join-short : (s : Bytes) → length (join s) ≤ length s
+join-short s = no-longer 0 s

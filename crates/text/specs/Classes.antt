@@ -1,7 +1,7 @@
--- The classes of bytes that document 01 names. Every test of a byte against more than one value stands here.
+-- The classes of bytes that document 01 names, and `/` as `.`. Every test of a byte against more than one value stands here.
 -- Assumes nothing.
 use Prim.Native.Nat.{ℕ}
-use mathlib.Core.Bool.{Bool, _||_, _&&_}
+use mathlib.Core.Bool.{Bool, cond, _||_, _&&_}
 use lib.Dec.{eqb, leb}
 use Rattle.text.specs.Ascii.{byte}
 
@@ -41,3 +41,7 @@ endsPlain b = isSpace b || eqb b (byte ";")
 -- "Is every byte below 128?"
 abbrev pub isAscii : ℕ → Bool
 isAscii b = leb b 127
+
+-- "`/` as `.`"
+abbrev pub dotOf : ℕ → ℕ
+dotOf b = cond (eqb b (byte "/")) (byte ".") b

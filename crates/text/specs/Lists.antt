@@ -79,3 +79,8 @@ take-two (suc n) [] a = rw sub-zero
 take-two (suc n) (x ∷ t) a = let e : suc n - suc (length t) ≡ n - length t = omega arith in rw e (ap (λ (r : List ℕ). x ∷ r) (take-two n t a))
 
 pub ruleset parts = (needs, part-none, part-rest, part-some, rest-none, rest-some, past)
+
+-- a text of no bytes
+pub no-bytes : (t : List ℕ) → length t ≡ 0 → t ≡ []
+no-bytes [] h = refl
+no-bytes (x ∷ t) h = absurd (omega arith)

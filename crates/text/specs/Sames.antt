@@ -6,11 +6,12 @@ use mathlib.Core.List.{List, [], _∷_, _++_}
 use Prim.Native.Nat.{ℕ, suc, _+_, _≤_, _<_}
 use native.Mathlib.Omega.{arith}
 use lib.ListN.{length, drop, getD, drop-of-length-le}
-use lib.Dec.{eqb, ltb}
+use lib.Dec.{eqb, ltb, leb}
 use borrow.Author.Needs.{needs}
-use borrow.Author.Tests.{eq-eqb, ne-eqb, eqb-true}
+use borrow.Author.Tests.{eq-eqb, ne-eqb, eqb-true, leb-true}
 use Rattle.text.specs.Compare.{same, less}
 use Rattle.text.specs.Lists.{here}
+use Rattle.text.specs.Classes.{within}
 
 -- ---- truth
 
@@ -24,6 +25,10 @@ no-true e = let z : _≡_ {A = ℕ} 0 1 = ap (λ (b : Bool). cond b 1 0) e in ab
 pub both : (x y : Bool) → x && y ≡ true → (x ≡ true) × (y ≡ true)
 both true y e = (refl, e)
 both false y e = absurd (no-true e)
+
+-- what is within two bounds is no less than the first
+pub within-low : (lo hi k : ℕ) → within lo hi k ≡ true → lo ≤ k
+within-low lo hi k t = leb-true lo k (both (leb lo k) (leb k hi) t .0)
 
 -- ---- the same
 
@@ -41,6 +46,18 @@ same-eq (x ∷ p) (y ∷ q) h =
     let b = both (eqb x y) (same p q) h in
     let e : x ≡ y = eqb-true x y (b .0) in
     rw (e, same-eq p q (b .1))
+
+pub same-of : (p q : List ℕ) → p ≡ q → same p q ≡ true
+same-of p q e = rw e (same-refl q)
+
+pub same-turned : (p q : List ℕ) → same p q ≡ same q p
+same-turned p q = go (same p q) refl (same q p) refl
+  where
+    go : (a : Bool) → same p q ≡ a → (b : Bool) → same q p ≡ b → a ≡ b
+    go true e true f = refl
+    go true e false f = absurd (no-true (sym f ∙ same-of q p (sym (same-eq p q e))))
+    go false e true f = absurd (no-true (sym e ∙ same-of p q (sym (same-eq q p f))))
+    go false e false f = refl
 
 -- a front that is the same changes nothing
 pub same-front : (p q u v : List ℕ) → same p q ≡ true → same (p ++ u) (q ++ v) ≡ same u v

@@ -8,7 +8,7 @@ use mathlib.Core.Option.{Option, none, some}
 use mathlib.Core.List.{List, [], _∷_, _++_, map, append-assoc, append-cancel-left, append-cancel-right, List·Memᴰ as Mem}
 use native.Mathlib.Omega.{arith}
 use lib.Dec.{leb}
-use lib.ListN.{length}
+use lib.ListN.{length, length-map}
 use borrow.Author.Tests.{leb-true}
 use Rattle.text.specs.Ascii.{Bytes, ascii}
 use Rattle.text.specs.Numbers.{valueFrom, isDecimal}
@@ -36,7 +36,7 @@ use Rattle.texts.specs.Isolation.{isolation, processes}
 use Rattle.texts.specs.Domains.{retainedEntries, lostPaths, checks, wire, alwaysBlock, initialBlock, poweredGlue, poweredLine, unpoweredLine, exempt, ownRetained, withSupplies, domainGlue, domainLine, domainFits}
 use Rattle.texts.specs.Texts.{warningsOf, glueOf, scopeLine, shifterLine, tableLine, warningLine, reportOf, fits}
 use Rattle.texts.specs.ForceLines.{forceLines, forceLine, onOneLine, namesOnOneLine}
-use Rattle.texts.specs.Laws.{all-at, each-at, length-map, map-distinct}
+use Rattle.texts.specs.Laws.{all-at, each-at, map-distinct}
 use Rattle.texts.specs.Decimals.{decimal-value, decimal-form}
 use Rattle.texts.specs.Cuts.{initial-forces, always-forces}
 use Rattle.texts.specs.OneLine.{lookup-one, listed-one, checks-one}
@@ -184,7 +184,7 @@ module _ (t : Bytes) (j : Job) (path : List Bytes) (base : Module) (sc : Scope t
 
     -- so there are as many as the report says
     pub lines-number : (length (forceLines (alwaysOf s d)) ≡ length (lostPaths s d)) × (length (forceLines (initialOf s d)) ≡ length (lostPaths s d))
-    lines-number = (rw always-lines (length-map forceLine (lostPaths s d)), rw initial-lines (length-map forceLine (lostPaths s d)))
+    lines-number = (rw always-lines (length-map (lostPaths s d) forceLine), rw initial-lines (length-map (lostPaths s d) forceLine))
 
     -- and no line stands there twice
     pub lines-once : Distinct (forceLines (alwaysOf s d)) × Distinct (forceLines (initialOf s d))

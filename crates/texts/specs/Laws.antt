@@ -1,12 +1,10 @@
 -- Laws: a test of all members of a list; texts for each of them.
 -- Assumes nothing.
-use Prim.Native.Nat.{suc}
 use mathlib.Core.Path.{_≡_, refl, ap, _∙_}
 use mathlib.Core.Logic.{⊎-elim}
 use mathlib.Core.Bool.{Bool, true, false, cond}
-use mathlib.Core.List.{List, [], _∷_, _++_, map, append-assoc}
+use mathlib.Core.List.{List, [], _∷_, _++_, map, append-assoc, append-nil}
 use mathlib.Core.List.{List·Memᴰ as Mem, List·Memᴰ·head as here, List·Memᴰ·tail as there, List·Memᴰ·not-nil as not-nil, List·Memᴰ·cases-cons as cases-cons, Memᴰ·cast as cast}
-use lib.ListN.{length}
 use Rattle.text.specs.Ascii.{Bytes}
 use Rattle.text.specs.Scan.{all}
 use Rattle.text.specs.Sames.{both}
@@ -14,6 +12,7 @@ use Rattle.out.specs.Items.{each}
 use Rattle.design.specs.Lists.{those}
 use Rattle.design.specs.Laws.{map-mem}
 use Rattle.walk.specs.Reach.{Distinct}
+use Rattle.texts.specs.Texts.{warningLine}
 
 module _ {A : Type 0} (t : A → Bool) where
   pub all-append : (xs ys : List A) → all t xs ≡ true → all t ys ≡ true → all t (xs ++ ys) ≡ true
@@ -63,14 +62,14 @@ unfolding each
 each-append f [] ys = refl
 each-append f (x ∷ xs) ys = rw (each-append f xs ys, append-assoc (f x) (each f xs) (each f ys))
 
+pub one-warning : (w : Bytes) → each warningLine (w ∷ []) ≡ warningLine w
+unfolding each
+one-warning w = append-nil (warningLine w)
+
 -- one of them, wherever it stands
 pub each-at : {A : Type 0} (f : A → Bytes) (x : Bytes) (l front : List A) (d : A) (back : List A) → l ≡ front ++ d ∷ back → x ++ each f l ≡ (x ++ each f front) ++ (f d ++ each f back)
 unfolding each
 each-at f x l front d back e = rw (e, each-append f front (d ∷ back), append-assoc x (each f front) (f d ++ each f back))
-
-pub length-map : {A B : Type 0} (f : A → B) (xs : List A) → length (map f xs) ≡ length xs
-length-map f [] = refl
-length-map f (x ∷ xs) = ap suc (length-map f xs)
 
 -- different members become different ones
 pub map-distinct : (f : Bytes → Bytes) → ((p q : Bytes) → f p ≡ f q → p ≡ q) → (l : List Bytes) → Distinct l → Distinct (map f l)

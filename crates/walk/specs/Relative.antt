@@ -5,7 +5,7 @@ use Prim.Native.Nat.{ℕ, zero, suc, _+_, _≤_, _<_}
 use mathlib.Core.Path.{_≡_, refl, sym, ap, ap₂, _∙_}
 use mathlib.Core.Bool.{Bool, true, false, cond, not, _||_}
 use mathlib.Core.Option.{Option, none, some}
-use mathlib.Core.List.{List, [], _∷_, _++_, map, flatMap, append-assoc}
+use mathlib.Core.List.{List, [], _∷_, _++_, map, flatMap, append-assoc, map-append}
 use mathlib.Core.List.{List·Memᴰ as Mem, List·Memᴰ·head as here, List·Memᴰ·tail as there}
 use native.Mathlib.Omega.{arith}
 use lib.ListN.{length, length-append}
@@ -30,12 +30,6 @@ filledEntries es = those (λ e. not (same e [])) es
 -- the names of instances are not empty
 abbrev pub Filled : List Module → Type 0
 Filled d = (m : Module) → Mem m d → (i : Inst) → Mem i (m .insts) → 0 < length (i .name)
-
--- ---- lists
-
-map-append : {A B : Type 0} (f : A → B) (l k : List A) → map f (l ++ k) ≡ map f l ++ map f k
-map-append f [] k = refl
-map-append f (x ∷ l) k = ap (λ r. f x ∷ r) (map-append f l k)
 
 -- ---- the scope's path, c and s
 

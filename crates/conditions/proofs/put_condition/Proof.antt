@@ -6,12 +6,12 @@ use borrow.Author.Needs.{needs}
 use mathlib.Core.List.{_++_}
 use Rattle.out.specs.Emit.{emit, _▸_}
 use Rattle.names.specs.Name.{nameOf}
+use Rattle.names.specs.Laws.{shorter}
 use Rattle.nametable.specs.Table.{tableNames}
 use Rattle.scope.specs.Parts.{parts}
 use Rattle.model.specs.Commands.{controlsOf}
 use Rattle.texts.specs.Switches.{condition}
 use Rattle.conditions.specs.Controls.{scopeSetting}
-use Rattle.conditions.proofs.Words.{name-less}
 use Rattle.conditions.proofs.Written.{Conditions, condition-end, condition-on, condition-over, condition-less}
 use Rattle.conditions.proofs.put_condition.Statement.{statement}
 use Rattle.conditions.proofs.put_condition.Tie as tie
@@ -41,5 +41,5 @@ put-condition-spec =
     (λ c. search condition-less)  -- loop-less
     (λ c. (search needs, search condition-over))  -- loop-again
     (λ c κs. search needs)  -- byte-requires
-    (λ c. search name-less)  -- loop-less-2
+    (λ c. search shorter)  -- loop-less-2
     (λ c. (search needs, search condition-on)))  -- loop-again-2

@@ -6,11 +6,12 @@ use borrow.Author.Needs.{needs}
 use mathlib.Core.List.{_++_}
 use Rattle.out.specs.Emit.{_▸_}
 use Rattle.names.specs.Name.{nameOf}
+use Rattle.names.specs.Laws.{shorter}
 use Rattle.nametable.specs.Table.{tableNames}
 use Rattle.scope.specs.Parts.{parts}
 use Rattle.model.specs.Commands.{controlsOf}
 use Rattle.conditions.specs.Controls.{scopeSetting}
-use Rattle.switchwarnings.proofs.Words.{Warns, warns-start, warns-low, warns-end, warns-less, warns-over, warns-on, name-less, told-long}
+use Rattle.switchwarnings.proofs.Words.{Warns, warns-start, warns-low, warns-end, warns-less, warns-over, warns-on, told-long}
 use Rattle.switchwarnings.proofs.condition_warnings.Statement.{statement}
 use Rattle.switchwarnings.proofs.condition_warnings.Tie as tie
 
@@ -38,5 +39,5 @@ condition-warnings-spec =
     (λ c κs. search needs)  -- behind-requires
     (λ c. search (warns-less _ _ _ _ _ _ _ _ _ (c .before .before .before .before .before .before .before .before .before .before .before .before .loop .inv .1) (c .before .before .before .before .before .before .before .before .before .before .before .next .result) (c .before .before .before .before .before .before .before .before .before .before .before .next .ensures)))  -- loop-less
     (λ c. (told-long _ _ _ _ _ _ (c .before .before .before .word-warning .ensures) ∙ c .before .before .before .before .before .before .before .before .before .before .before .before .loop .inv .0, search (warns-over _ _ _ _ _ _ _ _ _ (c .before .before .before .before .before .before .before .before .before .before .before .before .loop .inv .1) (c .before .before .before .before .before .before .before .before .before .before .before .next .result) (c .before .before .before .before .before .before .before .before .before .before .before .next .ensures))))  -- loop-again
-    (λ c. search name-less)  -- loop-less-2
+    (λ c. search shorter)  -- loop-less-2
     (λ c. (search needs, search warns-on)))  -- loop-again-2
