@@ -1,5 +1,5 @@
 -- The signals that a domain loses, from the bytes of a job to the bytes of its report and its glue: demand 3, each part under its sentence. Read this
--- file first. What it leans on: `answer` (Answer.antt: the ten checks); `parse` and `reading` (the job's module
+-- file first. What it leans on: `answer` (answers/specs/Answer.antt: the ten checks); `parse` and `reading` (the job's module
 -- lines, and the records that its commands leave); `DomainReaches` (walk/specs/Reach.antt: what it is that an element reaches a path, said without the walk);
 -- `lostPaths`, `alwaysBlock`, `initialBlock`, `poweredLine` (texts/specs/Domains.antt); `forceLines` (texts/specs/ForceLines.antt: lines cut from a text).
 -- Assumes nothing.
