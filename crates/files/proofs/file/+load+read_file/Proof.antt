@@ -1,3 +1,4 @@
+-- The file reader and its load step meet their contracts. Assumes nothing.
 use native.Mathlib.Omega.{arith}
 use Prim.Native.Nat.{_*_}
 use mathlib.Core.Path.{refl, sym, _∙_}
@@ -161,7 +162,7 @@ read-file-returns-2 t c =
 read-file-add-commands : (t : ℕ) → read-file-lts.Need-add-commands (read-file-cs t) (read-file-at t) read-file.Post read-file-Inv-loop read-file-μ-loop
 read-file-add-commands t c =
     let e = c .before .before .before .before .before .before .before .before .before .before .before .before .before .before .before .before .before .before .before .before .before .before .before .before in let a = e .args in let l = c .before .before .before .before .before .before .before .before .before .before .before .before .loop in let b = c .before .before .before .before .before .before .before .before .before .before .before .before .before .before .before .before .before .place in let z = c .before .before .before .before .before .before .before .before .before .before .before .before .before .before .before .place2 in let d = c .before .before .before .before .before .before .before .next-command in
-    (begun-asks (a .job .now) (a .files .now) (a .area .now) (a .nums .now) (a .log .now) (a .count) (a .k) (a .left) (a .s) (b .result) (z .result) (e .pre .1) (b .ensures) (z .ensures) (l .area) (l .nums) (l .log) (l .words) (l .at) (l .u) (l .inv) _ _ (d .result) (d .ensures) _ _ _ (c .before .before .n .given .1)) .0
+    omega (arith, (begun-asks (a .job .now) (a .files .now) (a .area .now) (a .nums .now) (a .log .now) (a .count) (a .k) (a .left) (a .s) (b .result) (z .result) (e .pre .1) (b .ensures) (z .ensures) (l .area) (l .nums) (l .log) (l .words) (l .at) (l .u) (l .inv) _ _ (d .result) (d .ensures) _ _ _ (c .before .before .n .given .1)) .0)
 
 read-file-sub-substituted : (t : ℕ) → read-file-lts.Need-sub-substituted (read-file-cs t) (read-file-at t) read-file.Post read-file-Inv-loop read-file-μ-loop
 read-file-sub-substituted t c =
@@ -171,7 +172,7 @@ read-file-sub-substituted t c =
 read-file-add-substituted : (t : ℕ) → read-file-lts.Need-add-substituted (read-file-cs t) (read-file-at t) read-file.Post read-file-Inv-loop read-file-μ-loop
 read-file-add-substituted t c =
     let e = c .before .before .before .before .before .before .before .before .before .before .before .before .before .before .before .before .before .before .before .before .before .before .before .before .before in let a = e .args in let l = c .before .before .before .before .before .before .before .before .before .before .before .before .before .loop in let b = c .before .before .before .before .before .before .before .before .before .before .before .before .before .before .before .before .before .before .place in let z = c .before .before .before .before .before .before .before .before .before .before .before .before .before .before .before .before .place2 in let d = c .before .before .before .before .before .before .before .before .next-command in
-    (begun-asks (a .job .now) (a .files .now) (a .area .now) (a .nums .now) (a .log .now) (a .count) (a .k) (a .left) (a .s) (b .result) (z .result) (e .pre .1) (b .ensures) (z .ensures) (l .area) (l .nums) (l .log) (l .words) (l .at) (l .u) (l .inv) _ _ (d .result) (d .ensures) _ _ _ (c .before .before .before .n .given .1)) .1 .1
+    omega (arith, (begun-asks (a .job .now) (a .files .now) (a .area .now) (a .nums .now) (a .log .now) (a .count) (a .k) (a .left) (a .s) (b .result) (z .result) (e .pre .1) (b .ensures) (z .ensures) (l .area) (l .nums) (l .log) (l .words) (l .at) (l .u) (l .inv) _ _ (d .result) (d .ensures) _ _ _ (c .before .before .before .n .given .1)) .1 .1)
 
 read-file-slice-reshare-prefix-number : (t : ℕ) → read-file-lts.Need-slice-reshare-prefix-number (read-file-cs t) (read-file-at t) read-file.Post read-file-Inv-loop read-file-μ-loop
 read-file-slice-reshare-prefix-number t c =
