@@ -93,7 +93,7 @@ module _ (mem : Bytes) (table : List ℕ) (n : ℕ) (marks : Bytes) (k : ℕ) (i
             low = omega arith;
           }
 
-pub ruleset marks = (needs, marks-start, marks-end, marks-row, marks-fits, marks-less, marks-room, marks-next)
+pub ruleset rules = (needs, marks-start, marks-end, marks-row, marks-fits, marks-less, marks-room, marks-next)
 
 -- ---- asked
 
@@ -110,4 +110,4 @@ mark-unset mem table n below e h tail marks eh m x ex b eb z =
     let unset : getD marks (markPlace path) 0 ≡ 0 = rw (← place) (sym eb ∙ z) in
     sym (out-isIn path (retainedPaths [] (entriesBelow below names)) (λ k. isIn-out path (map dotted names) (m .says path unset) (paths-of [] (entriesBelow below names) names (below-mem below names) path k)))
 
-pub ruleset asked = (needs, mark-unset)
+
