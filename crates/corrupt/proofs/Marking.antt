@@ -84,8 +84,12 @@ module _ (mem : Bytes) (table : List ℕ) (n : ℕ) (marks : Bytes) (k : ℕ) (i
 
       pub marks-next : Marks mem table n (set marks (x % 32768) 1) (k + 1)
       marks-next =
+          let o : 0 + k ≡ k = omega arith in
           let z : tableNames mem table (k + 1) ≡ tableNames mem table k ++ (nameOf mem y ∷ []) =
-          ap (tableNames mem table) (add-one k) ∙ names-last mem table 0 k ∙ ap (λ (v : Name). tableNames mem table k ++ (nameOf mem v ∷ [])) (sym ey) in
+          ap (tableNames mem table) (add-one k)
+          ∙ names-last mem table 0 k
+          ∙ ap (λ (j : ℕ). namesFrom mem table 0 k ++ (nameOf mem (rowName table j) ∷ [])) o
+          ∙ ap (λ (v : Name). namesFrom mem table 0 k ++ (nameOf mem v ∷ [])) (sym ey) in
           record {
             marked = rw (z, ex) (marked-on marks (tableNames mem table k) (nameOf mem y) (inv .marked) (inv .long));
             long = omega (arith, inv .long, length-set marks (x % 32768) 1);
