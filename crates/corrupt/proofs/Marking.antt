@@ -113,5 +113,3 @@ mark-unset mem table n below e h tail marks eh m x ex b eb z =
     let place : x ≡ number 0 path = ex ∙ rw eh (sym (number-on 0 (dotted (nameOf mem e)) tail)) in
     let unset : getD marks (markPlace path) 0 ≡ 0 = rw (← place) (sym eb ∙ z) in
     sym (out-isIn path (retainedPaths [] (entriesBelow below names)) (λ k. isIn-out path (map dotted names) (m .says path unset) (paths-of [] (entriesBelow below names) names (below-mem below names) path k)))
-
-
