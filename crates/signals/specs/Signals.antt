@@ -20,7 +20,7 @@ use Rattle.texts.specs.Domains.{retainedEntries, wire, poweredLine, exempt, own
 use Rattle.texts.specs.ForceLines.{forceLines, forceLine, namesOnOneLine}
 use Rattle.texts.specs.Blocks.{alwaysOf, initialOf, glueHead, glueFor, reportHead, reportFor, reportTail, glue-has-blocks, report-has-line, line-says, number-printed, always-lines, initial-lines, lines-number, lines-once}
 use Rattle.answers.specs.Answer.{Lent}
-use Rattle.upf.specs.Accepted.{Accepted, settingIn, listed, its-scope, mem-at, Alike, listed-alike}
+use Rattle.signals.specs.Accepted.{Accepted, settingIn, listed, its-scope, mem-at, Alike, listed-alike}
 
 -- ---- its domains with both supplies
 
