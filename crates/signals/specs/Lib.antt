@@ -1,0 +1,4 @@
+pub mod Starred
+pub mod Accepted
+pub mod Numbers
+pub mod Signals
