@@ -38,25 +38,6 @@ pub fn positional(files: &[u8], area: &[u8], words: &[u32], n: usize, k: usize) 
     Found::None
 }
 
-// How many positional words there are.
-pub fn positionals(files: &[u8], area: &[u8], words: &[u32], n: usize) -> usize
-    ensures { λ r. ⌜ r ≡ length (Arguments·positionals (wordsFrom (now (files .entry) ++ now (area .entry)) (now (words .entry)) n 1)) ⌝ }
-{
-    let mut i = 1;
-    let mut found = 0;
-    while i < n {
-        match role_at(files, area, words, n, i) {
-            Role::Flag => i += 1,
-            Role::Option => i += 2,
-            Role::Positional => {
-                found += 1;
-                i += 1;
-            }
-        }
-    }
-    found
-}
-
 // The first positional word, empty where there is none.
 pub fn name(files: &[u8], area: &[u8], words: &[u32], n: usize) -> Span
     ensures { λ r. ⌜ Reads (now (files .entry) ++ now (area .entry)) (now (words .entry)) n (nameOf (wordsFrom (now (files .entry) ++ now (area .entry)) (now (words .entry)) n 1)) r ⌝ }

@@ -69,28 +69,3 @@ pub fn state_at<'a>(
     }
     State::None
 }
-
-// How many states the words have.
-pub fn states<'a>(
-    files: &'a [u8],
-    area: &'a [u8],
-    words: &[u32],
-    n: usize,
-    one: &[u8],
-    two: &[u8],
-) -> usize
-    ensures { λ r. ⌜ r ≡ length (Arguments·states (now (one .entry)) (now (two .entry)) (strings (now (files .entry) ++ now (area .entry)) (now (words .entry)) 0 n)) ⌝ }
-{
-    let mut i = 0;
-    let mut found = 0;
-    while i < n {
-        match state_here(files, area, words, n, one, two, i) {
-            State::None => i += 1,
-            State::At(_, _) => {
-                found += 1;
-                i += 2;
-            }
-        }
-    }
-    found
-}

@@ -92,48 +92,6 @@ fn is_stream(files: &[u8], area: &[u8], n: Name, w: &[u8]) -> bool
     }
 }
 
-// Whether a word or an entry is w.
-fn is_formed<'a>(files: &'a [u8], area: &'a [u8], s: Span, form: u8, w: &[u8]) -> bool
-    ensures { λ r. ⌜ r ≡ Compare·same (entryOf form (bytes (now (files .entry) ++ now (area .entry)) s)) (now (w .entry)) ⌝ }
-{
-    if form == 0 {
-        return is(files, area, s, w);
-    }
-    let n = alone(s, form);
-    is_stream(files, area, n, w)
-}
-
-// Whether what stands behind the scope is w.
-fn is_behind<'a>(files: &'a [u8], area: &'a [u8], n: Name, w: &[u8]) -> bool
-    ensures { λ r. ⌜ r ≡ Compare·same (slash (n .sep) ++ entryOf (n .form) (bytes (now (files .entry) ++ now (area .entry)) (n .word))) (now (w .entry)) ⌝ }
-{
-    let s = n.word;
-    if !n.sep {
-        return is_formed(files, area, s, n.form, w);
-    }
-    if !starts_with(w, b"/") {
-        return false;
-    }
-    let v = rest(w, 1);
-    is_formed(files, area, s, n.form, v)
-}
-
-// Whether a name is w.
-pub fn is_name<'a>(files: &'a [u8], area: &'a [u8], n: Name, w: &[u8]) -> bool
-    ensures { λ r. ⌜ r ≡ Compare·same (nameOf (now (files .entry) ++ now (area .entry)) n) (now (w .entry)) ⌝ }
-{
-    let s = n.scope;
-    let p = fetch(files, area, s);
-    if p.len() != s.len {
-        return is_stream(files, area, n, w);
-    }
-    if !starts_with(w, p) {
-        return false;
-    }
-    let v = rest(w, p.len());
-    is_behind(files, area, n, v)
-}
-
 // A byte with `/` as `.`.
 fn dot(b: u8) -> u8
     ensures { λ r. ⌜ r ≡ dotOf b ⌝ }

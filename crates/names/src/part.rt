@@ -20,24 +20,6 @@ pub enum Part {
     Other,
 }
 
-// What is left of a name behind its next slash.
-pub fn skip_part(files: &[u8], area: &[u8], n: Name) -> Rest
-    ensures { λ r. ⌜ restOf (now (files .entry) ++ now (area .entry)) r ≡ others (parts (nameOf (now (files .entry) ++ now (area .entry)) n)) ⌝ }
-{
-    let mut x = n;
-    loop {
-        match next(files, area, x) {
-            Step::End => return Rest::None,
-            Step::Byte(b, u) => {
-                if b == b'/' {
-                    return Rest::More(u);
-                }
-                x = u;
-            }
-        }
-    }
-}
-
 // Whether the first part of a name is w, and what is left then.
 pub fn next_part(files: &[u8], area: &[u8], n: Name, w: &[u8]) -> Part
     ensures { λ r. ⌜ partOf (now (files .entry) ++ now (area .entry)) r ≡ behind (now (w .entry)) (parts (nameOf (now (files .entry) ++ now (area .entry)) n)) ⌝ }

@@ -101,23 +101,9 @@ pub fn put_name(out: &mut [u8], at: usize, files: &[u8], area: &[u8], n: Name) -
     put_mapped(out, at, 0, files, area, n)
 }
 
-// Writes a name with every byte that is no letter or digit as `_`.
-pub fn put_mangled(out: &mut [u8], at: usize, files: &[u8], area: &[u8], n: Name) -> usize
-    ensures { λ r. ⌜ now (out .exit) ▸ r ≡ emit (now (out .entry) ▸ at) (Bytewise·mangle (nameOf (now (files .entry) ++ now (area .entry)) n)) ⌝ }
-{
-    put_mapped(out, at, 1, files, area, n)
-}
-
 // Writes a name with `/` as `.`.
 pub fn put_dotted(out: &mut [u8], at: usize, files: &[u8], area: &[u8], n: Name) -> usize
     ensures { λ r. ⌜ now (out .exit) ▸ r ≡ emit (now (out .entry) ▸ at) (Bytewise·dotted (nameOf (now (files .entry) ++ now (area .entry)) n)) ⌝ }
 {
     put_mapped(out, at, 2, files, area, n)
-}
-
-// Writes a name with the escapes of a string of SystemVerilog.
-pub fn put_escaped(out: &mut [u8], at: usize, files: &[u8], area: &[u8], n: Name) -> usize
-    ensures { λ r. ⌜ now (out .exit) ▸ r ≡ emit (now (out .entry) ▸ at) (svStr (nameOf (now (files .entry) ++ now (area .entry)) n)) ⌝ }
-{
-    put_mapped(out, at, 3, files, area, n)
 }

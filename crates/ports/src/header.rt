@@ -80,31 +80,3 @@ pub fn is_output(job: &[u8], at: usize, end: usize, name: &[u8]) -> bool
         o = true;
     }
 }
-
-// Whether a name is any other port.
-pub fn is_other(job: &[u8], at: usize, end: usize, name: &[u8]) -> bool
-    ensures { λ r. ⌜ r ≡ isIn (now (name .entry)) (othersBy Bool.false (portsIn (section (now (job .entry)) at end))) ⌝ }
-{
-    let mut i = at;
-    let mut o = false;
-    loop {
-        let r = lines::next_port(job, i, end);
-        let PortAt::Port {
-            dir,
-            name: own,
-            next,
-        } = r
-        else {
-            return false;
-        };
-        i = next;
-        if outward(o, dir) {
-            o = true;
-            continue;
-        }
-        if text::compare::same(name, lines::part_of(job, own)) {
-            return true;
-        }
-        o = false;
-    }
-}

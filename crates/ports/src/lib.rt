@@ -69,21 +69,6 @@ fn decls_end(index: &[u32], k: usize) -> usize
     text::part::place(index, 128 + 8 * k + 5)
 }
 
-// Whether a name is a non-output port of module k.
-pub fn is_input(job: &[u8], index: &[u32], k: usize, name: &[u8]) -> bool
-    requires { ⌜ k ≤ 128 ⌝ }
-    ensures { λ r. ⌜ r ≡ isIn (now (name .entry)) (inputPorts (moduleRow (now (job .entry)) (now (index .entry)) k)) ⌝ }
-{
-    let p = ports_from(index, k);
-    let h = header_end(index, k);
-    if header::is_other(job, p, h, name) {
-        return true;
-    }
-    let d = decls_from(index, k);
-    let e = decls_end(index, k);
-    body::is_of(job, d, e, Pick::Other, name)
-}
-
 // The next body port of module k that is an output and stands neither in the header nor before `at` in the body.
 fn next_fresh(job: &[u8], index: &[u32], k: usize, at: usize) -> NameAt
     requires { ⌜ (k ≤ 128) × BodyAt (now job) (now index) k at ⌝ }
@@ -241,23 +226,5 @@ pub fn next_input(job: &[u8], index: &[u32], k: usize, c: Cursor) -> Step
         }
         Cursor::Body { at } => body_input(job, index, k, at),
         Cursor::Signals { at: _ } => Step::End,
-    }
-}
-
-// The next name that module k can lose.
-pub fn next_losable(job: &[u8], index: &[u32], k: usize, c: Cursor) -> Step
-    requires { ⌜ (k ≤ 128) × CursorAt (now job) (now index) k c ⌝ }
-    ensures { λ r. ⌜ LosableSeen (now (job .entry)) (now (index .entry)) k c r ⌝ }
-{
-    let mut at = c;
-    loop {
-        let r = next_candidate(job, index, k, at);
-        let Step::Name { name, next } = r else {
-            return Step::End;
-        };
-        if !is_input(job, index, k, lines::part_of(job, name)) {
-            return Step::Name { name, next };
-        }
-        at = next;
     }
 }

@@ -1,6 +1,6 @@
 // The classes of bytes. Tests are joined by `&` and `|`, so that no way parts from another.
 ghost use mathlib.Core.Path.{_≡_};
-ghost use Rattle.text.specs.Classes.{isSpace, isDigit, isLetter, isAlnum, isVariable, opensName, inName, endsPlain, isAscii};
+ghost use Rattle.text.specs.Classes.{isSpace, isDigit, isAlnum, isVariable, opensName, inName, endsPlain, isAscii};
 
 // White space: 9 to 13 and 32.
 pub fn is_space(b: u8) -> bool
@@ -13,12 +13,6 @@ pub fn is_digit(b: u8) -> bool
     ensures { λ r. ⌜ r ≡ isDigit b ⌝ }
 {
     (b'0' <= b) & (b <= b'9')
-}
-
-pub fn is_letter(b: u8) -> bool
-    ensures { λ r. ⌜ r ≡ isLetter b ⌝ }
-{
-    ((b'A' <= b) & (b <= b'Z')) | ((b'a' <= b) & (b <= b'z'))
 }
 
 pub fn is_alnum(b: u8) -> bool
