@@ -1,13 +1,15 @@
 -- A strategy's name, signal and active value: laws as the needs ask them. Assumes nothing.
 use Prim.Native.Nat.{ℕ, _<_}
 use mathlib.Core.Path.{_≡_, refl, sym, ap, ap₂, _∙_}
-use mathlib.Core.Bool.{Bool, true, false, cond, _&&_}
+use mathlib.Core.Bool.{Bool, true, false, cond, not, _&&_}
 use mathlib.Core.List.{List, [], _∷_, _++_}
 use native.Mathlib.Omega.{arith}
+use lib.Dec.{eqb}
 use borrow.Author.Needs.{needs}
+use borrow.Author.Tests.{eqb-true, eqb-false}
 use Rattle.text.specs.Ascii.{Bytes, ascii}
 use Rattle.text.specs.Compare.{same}
-use Rattle.text.specs.Sames.{same-refl}
+use Rattle.text.specs.Sames.{same-refl, no-true}
 use Rattle.out.specs.Bytewise.{dotted}
 use Rattle.names.specs.Name.{nameOf}
 use Rattle.names.specs.declared.name.Name.{Name}
@@ -68,28 +70,42 @@ module _ (i j : Isolationʳ) (n m : ℕ) (e : n ≡ activeNumber (lowered (i .se
   agree true false h x = absurd (omega arith)
   agree false true h x = absurd (omega arith)
 
-  unalike : (n ≡ m → ⊥) → false ≡ areAlike i j
+  alike-by : (r : Bool) → r ≡ same (dotted (signalOf i)) (dotted (signalOf j)) → r ≡ true → eqb n m ≡ areAlike i j
   unfolding areAlike activeNumber
-  unalike h = differ (same (lowered (i .sense)) (ascii "low")) (same (lowered (j .sense)) (ascii "low")) (λ g. h (e ∙ g ∙ sym f)) (same (dotted (signalOf i)) (dotted (signalOf j)))
+  alike-by r g h = rw (sym g ∙ h) (go (eqb n m) refl)
+    where
+      go : (b : Bool) → eqb n m ≡ b → b ≡ same (activeOf i) (activeOf j)
+      go true k = agree (same (lowered (i .sense)) (ascii "low")) (same (lowered (j .sense)) (ascii "low")) (sym e ∙ eqb-true n m k ∙ f) true
+      go false k = differ (same (lowered (i .sense)) (ascii "low")) (same (lowered (j .sense)) (ascii "low")) (λ l. eqb-false n m k (e ∙ l ∙ sym f)) true
 
-  alike-by : n ≡ m → (r : Bool) → r ≡ same (dotted (signalOf i)) (dotted (signalOf j)) → r ≡ areAlike i j
-  unfolding areAlike activeNumber
-  alike-by h r g = g ∙ agree (same (lowered (i .sense)) (ascii "low")) (same (lowered (j .sense)) (ascii "low")) (sym e ∙ h ∙ f) (same (dotted (signalOf i)) (dotted (signalOf j)))
+unalike : (i j : Isolationʳ) → same (dotted (signalOf i)) (dotted (signalOf j)) ≡ false → false ≡ areAlike i j
+unfolding areAlike
+unalike i j h = sym (rw h)
 
-module _ (mem : Bytes) (a b : Isolation) (n m : ℕ) (e : n ≡ activeNumber (lowered (or-else (maybeOf mem (a .sense)) (ascii "high")))) (f : m ≡ activeNumber (lowered (or-else (maybeOf mem (b .sense)) (ascii "high")))) where
-  pub not-alike : (n ≡ m → ⊥) → false ≡ areAlike (isolationOf mem a) (isolationOf mem b)
+module _ (mem : Bytes) (a b : Isolation) (x y : Name) (s : Bool) (g : s ≡ same (dotted (nameOf mem x)) (dotted (nameOf mem y))) (p : x ≡ signalName (a .signal)) (q : y ≡ signalName (b .signal)) where
+  text-of : (c : Isolation) (z : Name) → z ≡ signalName (c .signal) → nameOf mem z ≡ signalOf (isolationOf mem c)
   unfolding isolationOf
-  not-alike h = unalike (isolationOf mem a) (isolationOf mem b) n m e f h
+  text-of c z h = rw h (signal-text mem (c .signal))
 
-  text-of : (c : Isolation) (x : Name) → x ≡ signalName (c .signal) → nameOf mem x ≡ signalOf (isolationOf mem c)
+  signals-are : s ≡ same (dotted (signalOf (isolationOf mem a))) (dotted (signalOf (isolationOf mem b)))
+  signals-are = g ∙ rw (text-of a x p, text-of b y q)
+
+  pub not-alike : not s ≡ true → false ≡ areAlike (isolationOf mem a) (isolationOf mem b)
+  not-alike h = unalike (isolationOf mem a) (isolationOf mem b) (sym signals-are ∙ no-is s h)
+    where
+      no-is : (b : Bool) → not b ≡ true → b ≡ false
+      no-is true k = absurd (no-true k)
+      no-is false k = refl
+
+  pub active-alike : not s ≡ false → (n m : ℕ) → n ≡ activeNumber (lowered (or-else (maybeOf mem (a .sense)) (ascii "high"))) → m ≡ activeNumber (lowered (or-else (maybeOf mem (b .sense)) (ascii "high"))) → eqb n m ≡ areAlike (isolationOf mem a) (isolationOf mem b)
   unfolding isolationOf
-  text-of c x g = rw g (signal-text mem (c .signal))
+  active-alike h n m e f = alike-by (isolationOf mem a) (isolationOf mem b) n m e f s signals-are (yes-is s h)
+    where
+      yes-is : (b : Bool) → not b ≡ false → b ≡ true
+      yes-is true k = refl
+      yes-is false k = absurd (no-true (sym k))
 
-  pub signals-alike : n ≡ m → (x y : Name) (r : Bool) → r ≡ same (dotted (nameOf mem x)) (dotted (nameOf mem y)) → x ≡ signalName (a .signal) → y ≡ signalName (b .signal) → r ≡ areAlike (isolationOf mem a) (isolationOf mem b)
-  unfolding isolationOf
-  signals-alike h x y r g p q = alike-by (isolationOf mem a) (isolationOf mem b) n m e f h r (g ∙ rw (text-of a x p, text-of b y q))
-
-pub ruleset rows = (needs, not-alike, signals-alike)
+pub ruleset rows = (needs, not-alike, active-alike)
 
 -- ---- by their numbers
 

@@ -1,8 +1,9 @@
 -- A strategy by its number, in the store and as the definitions have it. Assumes nothing.
 use Prim.Native.Nat.{ℕ}
-use mathlib.Core.Bool.{Bool, _&&_}
+use mathlib.Core.Bool.{Bool, not, _&&_}
 use mathlib.Core.List.{List, []}
 use mathlib.Core.Option.{Option, none, some}
+use lib.Dec.{eqb}
 use lib.ListN.{getD}
 use Rattle.text.specs.Ascii.{Bytes}
 use Rattle.text.specs.Compare.{same}
@@ -50,6 +51,10 @@ signalName (Given s) = storedName s
 
 abbrev pub signalOf : Isolationʳ → Bytes
 signalOf i = or-else (i .signal) []
+
+-- a name that is a word as it stands
+abbrev pub isWord : Name → Bool
+isWord n = eqb (n .scope .len) 0 && (not (n .sep) && eqb (n .form) 0)
 
 -- the same signal, with `/` as `.`, and the same active value
 unfoldable pub areAlike : Isolationʳ → Isolationʳ → Bool

@@ -3,12 +3,13 @@ ghost use Prim.Native.Nat.{_<_};
 ghost use mathlib.Core.Path.{_≡_};
 ghost use mathlib.Core.List.{_++_};
 ghost use Rattle.text.specs.Compare.{same as Compare·same, less as Compare·less};
+ghost use Rattle.spans.specs.Span.{bytes};
 ghost use Rattle.out.specs.Bytewise.{dotted};
 ghost use Rattle.names.specs.Name.{nameOf};
 ghost use Rattle.texts.specs.Isolation.{lowered};
 ghost use Rattle.store.specs.View.{isolationOf};
 ghost use Rattle.clamps.specs.Values.{storedName, activeNumber};
-ghost use Rattle.alike.specs.Strategies.{isolationAt, strategyAt, signalName, areAlike};
+ghost use Rattle.alike.specs.Strategies.{isolationAt, strategyAt, signalName, isWord, areAlike};
 use clamps::active;
 use clamps::stored;
 use names::name::Name;
@@ -16,6 +17,9 @@ use names::name::Step;
 use names::name::next;
 use refs::dot;
 use refs::no_name;
+use spans::span::Got;
+use spans::span::Span;
+use spans::span::first;
 use store::state::Isolation;
 use store::state::Isolations;
 use store::stored::Maybe;
@@ -68,8 +72,42 @@ pub fn active_of(files: &[u8], area: &[u8], t: Isolations, i: usize) -> u8
     active(files, area, m)
 }
 
-// Whether two names are the same with `/` as `.`.
-pub fn same_dotted(files: &[u8], area: &[u8], a: Name, b: Name) -> bool
+// Whether two words are the same with `/` as `.`.
+fn same_words(files: &[u8], area: &[u8], a: Span, b: Span) -> bool
+    ensures { λ r. ⌜ r ≡ Compare·same (dotted (bytes (now (files .entry) ++ now (area .entry)) a)) (dotted (bytes (now (files .entry) ++ now (area .entry)) b)) ⌝ }
+{
+    let mut x = a;
+    let mut y = b;
+    loop {
+        match first(files, area, x) {
+            Got::No => match first(files, area, y) {
+                Got::No => return true,
+                Got::Yes(_, _) => return false,
+            },
+            Got::Yes(p, u) => match first(files, area, y) {
+                Got::No => return false,
+                Got::Yes(q, v) => {
+                    if dot(true, p) != dot(true, q) {
+                        return false;
+                    }
+                    x = u;
+                    y = v;
+                }
+            },
+        }
+    }
+}
+
+// Whether a name is a word as it stands.
+fn is_word(n: Name) -> bool
+    ensures { λ r. ⌜ r ≡ isWord n ⌝ }
+{
+    let s = n.scope;
+    (s.len == 0) & ((!n.sep) & (n.form == 0))
+}
+
+// Whether two names are the same with `/` as `.`, byte by byte.
+fn same_streams(files: &[u8], area: &[u8], a: Name, b: Name) -> bool
     ensures { λ r. ⌜ r ≡ Compare·same (dotted (nameOf (now (files .entry) ++ now (area .entry)) a)) (dotted (nameOf (now (files .entry) ++ now (area .entry)) b)) ⌝ }
 {
     let mut x = a;
@@ -92,6 +130,18 @@ pub fn same_dotted(files: &[u8], area: &[u8], a: Name, b: Name) -> bool
             },
         }
     }
+}
+
+// Whether two names are the same with `/` as `.`.
+pub fn same_dotted(files: &[u8], area: &[u8], a: Name, b: Name) -> bool
+    ensures { λ r. ⌜ r ≡ Compare·same (dotted (nameOf (now (files .entry) ++ now (area .entry)) a)) (dotted (nameOf (now (files .entry) ++ now (area .entry)) b)) ⌝ }
+{
+    if is_word(a) & is_word(b) {
+        let v = a.word;
+        let w = b.word;
+        return same_words(files, area, v, w);
+    }
+    same_streams(files, area, a, b)
 }
 
 // Whether the first name comes before the second with `/` as `.`.
@@ -120,17 +170,17 @@ pub fn less_dotted(files: &[u8], area: &[u8], a: Name, b: Name) -> bool
 }
 
 // Whether two strategies have the same signal and the same active value.
-fn alike_rows(files: &[u8], area: &[u8], a: Isolation, b: Isolation) -> bool
+pub fn alike_rows(files: &[u8], area: &[u8], a: Isolation, b: Isolation) -> bool
     ensures { λ r. ⌜ r ≡ areAlike (isolationOf (now (files .entry) ++ now (area .entry)) a) (isolationOf (now (files .entry) ++ now (area .entry)) b) ⌝ }
 {
-    let p = a.sense;
-    let q = b.sense;
-    if active(files, area, p) != active(files, area, q) {
-        return false;
-    }
     let s = a.signal;
     let u = b.signal;
-    same_dotted(files, area, signal_name(s), signal_name(u))
+    if !same_dotted(files, area, signal_name(s), signal_name(u)) {
+        return false;
+    }
+    let p = a.sense;
+    let q = b.sense;
+    active(files, area, p) == active(files, area, q)
 }
 
 // Whether two strategies, by their numbers, have the same signal and the same active value.

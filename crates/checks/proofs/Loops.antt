@@ -9,7 +9,7 @@ use lib.ListN.{length, take, drop, getD, drop-of-length-le}
 use lib.Seq.{drop-cons, getD-take, length-take-le}
 use borrow.Author.Needs.{needs}
 use Rattle.text.specs.Ascii.{Bytes, ascii}
-use Rattle.text.specs.Scan.{all}
+use Rattle.text.specs.Scan.{any, all}
 use Rattle.out.specs.Emit.{Out, _▸_, emit, emit-append}
 use Rattle.out.specs.Fill.{fill}
 use Rattle.out.specs.Items.{each}
@@ -18,6 +18,8 @@ use Rattle.names.specs.declared.name.Name.{Name}
 use Rattle.design.specs.Lists.{those}
 use Rattle.design.specs.Paths.{elementPath}
 use Rattle.model.specs.Records.{Isolation as Isolationʳ}
+use Rattle.store.specs.Strings.{string}
+use Rattle.store.specs.View.{isolationOf}
 use Rattle.store.specs.Order.{Sized}
 use Rattle.store.specs.declared.stored.Stored.{Stored}
 use Rattle.store.specs.declared.state.Isolations.{Isolations}
@@ -26,12 +28,11 @@ use Rattle.format.specs.Args.{argOf, nameArg}
 use Rattle.format.specs.Laws.{name-arg}
 use Rattle.format.specs.declared.arg.Arg.{Arg}
 use Rattle.isolated.specs.Table.{portRow}
-use Rattle.isolated.specs.declared.Isolated.{Isolated}
-use Rattle.alike.specs.Strategies.{strategyAt, signalOf}
+use Rattle.alike.specs.Strategies.{isolationAt, strategyAt, signalOf}
 use Rattle.alike.specs.Numbers.{numbersFrom, numbersIn, numbers-none, numbers-next}
 use Rattle.alike.specs.Ruled.{Ruled}
 use Rattle.portargs.specs.Args.{strategyArg, signalArg, activeArg, strategy-is, signal-is, active-is}
-use Rattle.checks.specs.Sorted.{isOwnNumber, insertedIn, sortedIn, ownIn, isNumber, Known, Adds, Sorts, Found, checkText}
+use Rattle.checks.specs.Sorted.{isOwn, isOwnNumber, insertedIn, sortedIn, ownIn, isNumber, Known, Adds, Sorts, Found, checkText}
 use Rattle.checks.proofs.Inserts.{number-at}
 
 -- ---- gathered: those of the ports from row k on are sorted
@@ -59,11 +60,11 @@ module _ (mem : Bytes) (t : Isolations) (domain : Stored) (ports : List ℕ) (n 
       pub gather-row : k - 1 < 256
       gather-row = omega (arith, inv .before, w .ruled .few)
 
-      module _ (x : Isolated) (e : x ≡ portRow ports (k - 1)) where
-        pub gather-number : x .strategy < 32
+      module _ (i : ℕ) (e : i ≡ portRow ports (k - 1) .strategy) where
+        pub gather-number : i < 32
         gather-number = rw e (w .ruled .strategies (k - 1) (omega (arith, inv .before)))
 
-        pub gather-adds : Adds found m (x .strategy)
+        pub gather-adds : Adds found m i
         gather-adds =
             record {
               number = gather-number;
@@ -72,21 +73,25 @@ module _ (mem : Bytes) (t : Isolations) (domain : Stored) (ports : List ℕ) (n 
               room = omega (arith, inv .so-far .size, w .room);
             }
 
-        module _ (b : Bool) (g : b ≡ isOwnNumber mem t domain (x .strategy)) where
+        module _ (b : Bool) (o : b ≡ any (isOwn mem (string mem (isolationAt t i .name)) (string mem domain)) (take (t .n) (t .all))) where
+          g : b ≡ isOwnNumber mem t domain i
+          unfolding isolationOf
+          g = o
+
           abbrev f : ℕ → Isolationʳ
           f = strategyAt mem t
 
           abbrev own : List ℕ
           own = those (isOwnNumber mem t domain) (numbersFrom ports k (n - k))
 
-          opened : those (isOwnNumber mem t domain) (numbersFrom ports (k - 1) (n - (k - 1))) ≡ cond b (x .strategy ∷ own) own
+          opened : those (isOwnNumber mem t domain) (numbersFrom ports (k - 1) (n - (k - 1))) ≡ cond b (i ∷ own) own
           unfolding those
           opened =
               let z : n - (k - 1) ≡ suc (n - k) = omega (arith, inv .before) in
               let y : k - 1 + 1 ≡ k = omega arith in
               rw (z, numbers-next ports (k - 1) (n - k), y, ← e, ← g)
 
-          pub gather-other : not b ≡ true → Gathers mem t domain ports n found₀ found m (k - 1) (x .strategy)
+          pub gather-other : not b ≡ true → Gathers mem t domain ports n found₀ found m (k - 1) i
           gather-other d =
               record {
                 before = omega (arith, inv .before);
@@ -100,7 +105,7 @@ module _ (mem : Bytes) (t : Isolations) (domain : Stored) (ports : List ℕ) (n 
               is-false true e = sym e
               is-false false e = refl
 
-          pub gather-one : not b ≡ false → (found′ : List ℕ) (r : ℕ) → Found (insertedIn (strategyAt mem t) (x .strategy) (take m found)) (m + 1) found found′ r → Gathers mem t domain ports n found₀ found′ r (k - 1) s
+          pub gather-one : not b ≡ false → (found′ : List ℕ) (r : ℕ) → Found (insertedIn (strategyAt mem t) i (take m found)) (m + 1) found found′ r → Gathers mem t domain ports n found₀ found′ r (k - 1) s
           unfolding sortedIn
           gather-one d found′ r a =
               record {
@@ -109,7 +114,7 @@ module _ (mem : Bytes) (t : Isolations) (domain : Stored) (ports : List ℕ) (n 
                 so-far =
                     rw (opened, is-true b d)
                     (record {
-                      are = a .are ∙ ap (insertedIn f (x .strategy)) (inv .so-far .are);
+                      are = a .are ∙ ap (insertedIn f i) (inv .so-far .are);
                       count = omega (arith, a .count, inv .so-far .count, inv .before);
                       known = a .known;
                       size = a .size ∙ inv .so-far .size;
@@ -120,10 +125,11 @@ module _ (mem : Bytes) (t : Isolations) (domain : Stored) (ports : List ℕ) (n 
               is-true true e = refl
               is-true false e = sym e
 
-        pub gather-skip : x .strategy ≡ s → Gathers mem t domain ports n found₀ found m (k - 1) s
+        pub gather-skip : i ≡ s → Gathers mem t domain ports n found₀ found m (k - 1) s
+        unfolding isolationOf
         gather-skip d =
             let l : s < 32 = rw d at gather-number in
-            let g : false ≡ isOwnNumber mem t domain (x .strategy) = sym (ap (λ (j : ℕ). isOwnNumber mem t domain j) d ∙ inv .others l) in
+            let g : false ≡ isOwnNumber mem t domain i = sym (ap (λ (j : ℕ). isOwnNumber mem t domain j) d ∙ inv .others l) in
             rw d at (gather-other false g refl)
 
 pub sorts-sized : (mem : Bytes) (t : Isolations) (ports : List ℕ) (n : ℕ) (found : List ℕ) → Sorts mem t ports n found → Sized 32 (t .n) (t .all)

@@ -78,9 +78,3 @@ module _ (mem : Bytes) (t : Isolations) (name domain : Stored) (s : Sized 32 (t 
       seek-on g = record { left = opened ∙ rw g }
 
 pub ruleset seeks = (needs, index-in, seek-end, seek-here, seek-on)
-
-pub own-number : (mem : Bytes) (t : Isolations) (i : ℕ) (s : Isolation) (domain : Stored) (r : Bool) → r ≡ any (isOwn mem (string mem (s .name)) (string mem domain)) (take (t .n) (t .all)) → s ≡ isolationAt t i → r ≡ isOwnNumber mem t domain i
-unfolding isolationOf
-own-number mem t i s domain r e f = e ∙ rw f
-
-pub ruleset numbers = (needs, own-number)

@@ -12,17 +12,16 @@ ghost use Rattle.store.specs.Strings.{string};
 ghost use Rattle.store.specs.Order.{Sized};
 ghost use Rattle.alike.specs.Strategies.{strategyAt};
 ghost use Rattle.alike.specs.Ruled.{Ruled};
-ghost use Rattle.checks.specs.Sorted.{areSame, isEarlier, isOwn, isOwnNumber, spotIn, insertedAt, insertedIn, Known, Adds, Found, Sorts, ownIn, checkText};
+ghost use Rattle.checks.specs.Sorted.{areSame, isEarlier, isOwn, spotIn, insertedAt, insertedIn, Known, Adds, Found, Sorts, ownIn, checkText};
 use alike::active_of;
 use alike::alike;
 use alike::less_dotted;
 use alike::named;
 use alike::same_dotted;
 use alike::signal_of;
-use alike::strategy;
 use format::arg::name as name_arg;
 use format::fill::fill4;
-use isolated::port_at;
+use isolated::strategy_at;
 use names::compare::less;
 use names::compare::same_names;
 use names::name::Name;
@@ -92,16 +91,6 @@ fn has_own<'a>(files: &'a [u8], area: &'a [u8], t: Isolations, name: Stored, dom
         j += 1;
     }
     false
-}
-
-// Whether a strategy is one of a domain, by its name.
-fn belongs<'a>(files: &'a [u8], area: &'a [u8], t: Isolations, i: usize, domain: Stored) -> bool
-    requires { ⌜ (i < 32) × Sized 32 (t .n) (t .all) ⌝ }
-    ensures { λ r. ⌜ r ≡ isOwnNumber (now (files .entry) ++ now (area .entry)) t domain i ⌝ }
-{
-    let s = strategy(t, i);
-    let name = s.name;
-    has_own(files, area, t, name, domain)
 }
 
 // Where the check of a strategy goes among the first n: one more than the place, 0 where it is there.
@@ -182,12 +171,13 @@ pub fn checks<'a>(
     let mut s = 32;
     while 0 < k {
         k -= 1;
-        let x = port_at(ports, k);
-        let i = x.strategy;
+        let i = strategy_at(ports, k);
         if i == s {
             continue;
         }
-        if !belongs(files, area, t, i, domain) {
+        let x = t.all[i];
+        let name = x.name;
+        if !has_own(files, area, t, name, domain) {
             s = i;
             continue;
         }

@@ -2,14 +2,21 @@
 // net; a slash, the part of the job behind it, and the net as a part of the job; the strategy, and how many bytes of the element stand before the net.
 ghost use Prim.Native.Nat.{_+_, _*_, _≤_, _<_};
 ghost use mathlib.Core.Path.{_≡_};
-ghost use lib.ListN.{length};
+ghost use mathlib.Core.List.{_++_};
+ghost use lib.ListN.{length, take, drop};
+ghost use Rattle.refs.specs.Heads.{Apart};
+ghost use Rattle.isolated.specs.Others.{WordsApart, oneScope, NamesApart, Other};
 ghost use Rattle.isolated.specs.Table.{partsRow, countsRow, portRow, namesPut, numbersPut, portPut, Fits, portRef, netRef};
 use names::name::Name;
 use nametable::put_row;
 use nametable::row;
 use refs::Ref;
 use refs::no_name;
+use spans::span::Got;
 use spans::span::Span;
+use spans::span::first;
+use text::part::part;
+use text::part::place;
 
 // A port that a strategy keeps. The port is the element, a slash where `sep` is set, and `len` bytes of the job from `at` on; the parent's net is the first
 // `upto` bytes of the element, then `last`, then `size` bytes of the job from `net` on.
@@ -112,6 +119,103 @@ pub fn port_at(ports: &[u32], k: usize) -> Isolated
         net: net.at,
         size: net.len,
     }
+}
+
+// The strategy of the port of row k.
+pub fn strategy_at(ports: &[u32], k: usize) -> usize
+    requires { ⌜ k < 256 ⌝ }
+    ensures { λ r. ⌜ r ≡ portRow (now (ports .entry)) k .strategy ⌝ }
+{
+    place(ports, 5 * (4 * k + 3))
+}
+
+// The part of the job that the port of row k ends with.
+fn part_at<'a>(job: &'a [u8], ports: &[u32], k: usize) -> &'a [u8]
+    requires { ⌜ k < 256 ⌝ }
+    ensures { λ r. ⌜ now r ≡ take (portRow (now (ports .entry)) k .len) (drop (portRow (now (ports .entry)) k .at) (now (job .entry))) ⌝ }
+{
+    let i = 5 * (4 * k + 2);
+    part(job, place(ports, i), place(ports, i + 1))
+}
+
+// Whether both have a last byte and these differ.
+fn ends_apart(u: &[u8], v: &[u8]) -> bool
+    ensures { λ r. ⌜ Apart (now (u .entry)) (now (v .entry)) r ⌝ }
+{
+    if u.len() == 0 {
+        return false;
+    }
+    if v.len() == 0 {
+        return false;
+    }
+    let i = u.len() - 1;
+    let j = v.len() - 1;
+    if u[i] == v[j] {
+        return false;
+    }
+    true
+}
+
+// Whether two words, read in any form, surely differ: by a byte before which no backslash stands.
+fn words_apart(files: &[u8], area: &[u8], s: Span, t: Span) -> bool
+    ensures { λ r. ⌜ WordsApart (now (files .entry) ++ now (area .entry)) s t r ⌝ }
+{
+    let mut x = s;
+    let mut y = t;
+    loop {
+        match first(files, area, x) {
+            Got::No => return false,
+            Got::Yes(p, u) => match first(files, area, y) {
+                Got::No => return false,
+                Got::Yes(q, v) => {
+                    if (p == b'\\') | (q == b'\\') {
+                        return false;
+                    }
+                    if p != q {
+                        return true;
+                    }
+                    x = u;
+                    y = v;
+                }
+            },
+        }
+    }
+}
+
+// Whether two names have the same scope, by its place, and a slash behind it in both or in none.
+fn one_scope(a: Name, b: Name) -> bool
+    ensures { λ r. ⌜ r ≡ oneScope a b ⌝ }
+{
+    let s = a.scope;
+    let t = b.scope;
+    ((s.at == t.at) & (s.len == t.len)) & ((a.sep & b.sep) | ((!a.sep) & (!b.sep)))
+}
+
+// Whether two names in one scope surely differ, whatever stands behind them.
+fn names_apart(files: &[u8], area: &[u8], a: Name, b: Name) -> bool
+    ensures { λ r. ⌜ NamesApart (now (files .entry) ++ now (area .entry)) a b r ⌝ }
+{
+    if !one_scope(a, b) {
+        return false;
+    }
+    let v = a.word;
+    let w = b.word;
+    words_apart(files, area, v, w)
+}
+
+// Whether the port of row k surely is another one: by the last byte of its name, or by its element.
+pub fn is_other(job: &[u8], files: &[u8], area: &[u8], ports: &[u32], k: usize, x: Isolated) -> bool
+    requires { ⌜ k < 256 ⌝ }
+    ensures { λ r. ⌜ Other (now (job .entry)) (now (files .entry) ++ now (area .entry)) x (portRow (now (ports .entry)) k) r ⌝ }
+{
+    let u = part(job, x.at, x.len);
+    let v = part_at(job, ports, k);
+    if ends_apart(u, v) {
+        return true;
+    }
+    let e = x.element;
+    let f = row(ports, 4 * k);
+    names_apart(files, area, e, f)
 }
 
 // The port as a text: its instance and its name.

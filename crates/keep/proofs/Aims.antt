@@ -33,6 +33,7 @@ use Rattle.format.specs.Args.{argOf, nameArg, wrappedArg}
 use Rattle.format.specs.Laws.{name-arg, plain-arg}
 use Rattle.format.specs.declared.arg.Arg.{Arg}
 use Rattle.isolated.specs.Table.{Fits, portRow, portPut, portRef, netRef, Kept, kept, keptOf, keptFrom, keptIn, keysOf}
+use Rattle.isolated.specs.Others.{Other}
 use Rattle.isolated.specs.Laws.{kept-next, kept-none, kept-long, put-kept}
 use Rattle.isolated.specs.declared.Isolated.{Isolated}
 use Rattle.keep.specs.Gains.{Aim, Gain, stay, notPlain, gainFrom, gainOf}
@@ -83,12 +84,12 @@ module _ (job mem : Bytes) (t : List ℕ) (n : ℕ) (key : Bytes) where
     unfolding any
     seek-end h = let z : n - k ≡ 0 = omega arith in sym (inv .left ∙ rw (z, kept-none job mem t k))
 
-    module _ (h : k < n) (x : Isolated) (e : x ≡ portRow t k) (y : Ref) (f : y ≡ portRef x) (b : Bool) (g : b ≡ same key (textOf job mem y)) where
+    module _ (h : k < n) (b : Bool) (g : b ≡ same key (textOf job mem (portRef (portRow t k)))) where
       opened : isIn key (keysOf (keptIn job mem t n)) ≡ b || isIn key (keysOf (keptFrom job mem t (k + 1) (n - (k + 1))))
       unfolding any
       opened =
           let z : n - k ≡ suc (n - (k + 1)) = omega arith in
-          inv .left ∙ rw (z, kept-next job mem t k (n - (k + 1)), g, f, e)
+          inv .left ∙ rw (z, kept-next job mem t k (n - (k + 1)), g)
 
       pub seek-here : b ≡ true → true ≡ isIn key (keysOf (keptIn job mem t n))
       seek-here d = sym (opened ∙ rw d)
@@ -97,6 +98,28 @@ module _ (job mem : Bytes) (t : List ℕ) (n : ℕ) (key : Bytes) where
       seek-on d = record { before = omega arith; left = opened ∙ rw d }
 
 pub ruleset seeks = (needs, seek-start, seek-end, seek-here, seek-on)
+
+-- row k is surely another one
+pub seek-other : (job mem : Bytes) (t : List ℕ) (n k : ℕ) (x : Isolated) (p : Ref) (r : Bool) → Seeks job mem t n (textOf job mem p) k → k < n → p ≡ portRef x → Other job mem x (portRow t k) r → r ≡ true → Seeks job mem t n (textOf job mem p) (k + 1)
+seek-other job mem t n k x p r inv h e o d =
+    let b : false ≡ same (textOf job mem p) (textOf job mem (portRef (portRow t k))) = o .is d ∙ sym (ap (λ (q : Ref). same (textOf job mem q) (textOf job mem (portRef (portRow t k)))) e) in
+    seek-on job mem t n (textOf job mem p) k inv h false b refl
+
+pub row-few : (n k : ℕ) → n ≤ 256 → k < n → k < 256
+row-few n k f h = omega arith
+
+pub row-more : (n k : ℕ) → n ≤ 256 → k < n → k + 1 < 2 ^ 64
+row-more n k f h = omega arith
+
+pub row-left : (n k : ℕ) → k < n → n - (k + 1) < n - k
+row-left n k h = omega arith
+
+-- ---- whether row k is this port
+
+pub row-same : (job mem : Bytes) (p : Ref) (t : List ℕ) (k : ℕ) (y : Isolated) (q : Ref) (r : Bool) → y ≡ portRow t k → q ≡ portRef y → r ≡ same (textOf job mem p) (textOf job mem q) → r ≡ same (textOf job mem p) (textOf job mem (portRef (portRow t k)))
+row-same job mem p t k y q r e f g = g ∙ rw (f, e)
+
+pub ruleset rows = (needs, row-same)
 
 -- ---- a port more
 

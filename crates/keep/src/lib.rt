@@ -3,10 +3,11 @@ ghost use Prim.Native.Nat.{_+_, _≤_, _<_, _^_};
 ghost use mathlib.Core.Path.{_≡_};
 ghost use mathlib.Core.List.{_++_};
 ghost use lib.ListN.{length};
+ghost use Rattle.text.specs.Compare.{same};
 ghost use Rattle.design.specs.Lists.{isIn};
 ghost use Rattle.names.specs.Name.{nameOf};
 ghost use Rattle.refs.specs.Text.{textOf};
-ghost use Rattle.isolated.specs.Table.{Fits, keptIn, keysOf};
+ghost use Rattle.isolated.specs.Table.{Fits, portRow, portRef, keptIn, keysOf};
 ghost use Rattle.keep.specs.Gains.{notPlain, gainOf};
 ghost use Rattle.keep.specs.Held.{heldSpan, heldName, heldPart};
 ghost use Rattle.keep.specs.Covered.{more, refusedCover, countedCover, warnedCover, Ready, Remarked, KeepSeen, withNet, aimOf, Answer};
@@ -15,6 +16,7 @@ use format::arg::name as name_arg;
 use format::arg::wrapped;
 use format::fill::fill2;
 use isolated::Isolated;
+use isolated::is_other;
 use isolated::port;
 use isolated::port_at;
 use isolated::put;
@@ -71,15 +73,35 @@ pub fn held_part(job: &[u8], s: Part) -> Part
     }
 }
 
-// Whether a port is isolated already.
-fn is_covered(job: &[u8], files: &[u8], area: &[u8], ports: &[u32], n: usize, p: Ref) -> bool
-    requires { ⌜ n ≤ 256 ⌝ }
+// Whether the port of row k is this one, as a text.
+fn is_row(job: &[u8], files: &[u8], area: &[u8], ports: &[u32], k: usize, p: Ref) -> bool
+    requires { ⌜ k < 256 ⌝ }
+    ensures { λ r. ⌜ r ≡ same (textOf (now (job .entry)) (now (files .entry) ++ now (area .entry)) p) (textOf (now (job .entry)) (now (files .entry) ++ now (area .entry)) (portRef (portRow (now (ports .entry)) k))) ⌝ }
+{
+    let x = port_at(ports, k);
+    same_refs(job, files, area, p, port(x))
+}
+
+// Whether a port, which as a text is p, is isolated already.
+fn is_covered(
+    job: &[u8],
+    files: &[u8],
+    area: &[u8],
+    ports: &[u32],
+    n: usize,
+    x: Isolated,
+    p: Ref,
+) -> bool
+    requires { ⌜ (n ≤ 256) × (p ≡ portRef x) ⌝ }
     ensures { λ r. ⌜ r ≡ isIn (textOf (now (job .entry)) (now (files .entry) ++ now (area .entry)) p) (keysOf (keptIn (now (job .entry)) (now (files .entry) ++ now (area .entry)) (now (ports .entry)) n)) ⌝ }
 {
     let mut k = 0;
     while k < n {
-        let x = port_at(ports, k);
-        if same_refs(job, files, area, p, port(x)) {
+        if is_other(job, files, area, ports, k, x) {
+            k += 1;
+            continue;
+        }
+        if is_row(job, files, area, ports, k, p) {
             return true;
         }
         k += 1;
@@ -217,7 +239,7 @@ pub fn aim(
 {
     let p = port(x);
     let n = c.ports;
-    if is_covered(job, files, area, ports, n, p) {
+    if is_covered(job, files, area, ports, n, x, p) {
         return c;
     }
     match net {

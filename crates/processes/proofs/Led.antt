@@ -10,11 +10,14 @@ use Rattle.text.specs.Scan.{any}
 use Rattle.model.specs.Records.{Isolation as Isolationʳ}
 use Rattle.store.specs.declared.state.Isolations.{Isolations}
 use Rattle.isolated.specs.Table.{portRow}
-use Rattle.isolated.specs.declared.Isolated.{Isolated}
 use Rattle.alike.specs.Strategies.{strategyAt, areAlike}
-use Rattle.alike.specs.Ruled.{Ruled, row-small, row-strategy}
+use Rattle.alike.specs.Ruled.{Ruled, row-small}
 use Rattle.alike.specs.Numbers.{numbersFrom, numbersIn}
 use Rattle.processes.specs.Ports.{isLike}
+
+-- the strategy of row k
+pub number-small : (mem : Bytes) (t : Isolations) (ports : List ℕ) (n : ℕ) → Ruled mem t ports n → (k : ℕ) → k < n → (j : ℕ) → j ≡ portRow ports k .strategy → j < 32
+number-small mem t ports n r k h j e = rw e (r .strategies k h)
 
 -- none of the first k is like it, nor is s
 pub record Seeks (f : ℕ → Isolationʳ) (ports : List ℕ) (n i k s : ℕ) : Type 0 where
@@ -30,7 +33,7 @@ module _ (mem : Bytes) (t : Isolations) (ports : List ℕ) (n i k s : ℕ) (inv 
   unfolding any numbersFrom
   seek-end h = let z : n - k ≡ 0 = omega arith in sym (inv .left ∙ rw z)
 
-  module _ (h : k < n) (x : Isolated) (e : x ≡ portRow ports k) (b : Bool) (g : b ≡ areAlike (strategyAt mem t i) (strategyAt mem t (x .strategy))) where
+  module _ (h : k < n) (j : ℕ) (e : j ≡ portRow ports k .strategy) (b : Bool) (g : b ≡ areAlike (strategyAt mem t i) (strategyAt mem t j)) where
     opened : any (isLike (strategyAt mem t) i) (numbersIn ports n) ≡ b || any (isLike (strategyAt mem t) i) (numbersFrom ports (k + 1) (n - (k + 1)))
     unfolding any numbersFrom
     opened = let z : n - k ≡ suc (n - (k + 1)) = omega arith in inv .left ∙ rw (z, g, e)
@@ -38,13 +41,13 @@ module _ (mem : Bytes) (t : Isolations) (ports : List ℕ) (n i k s : ℕ) (inv 
     pub seek-here : b ≡ true → true ≡ any (isLike (strategyAt mem t) i) (numbersIn ports n)
     seek-here d = sym (opened ∙ rw d)
 
-    pub seek-on : b ≡ false → Seeks (strategyAt mem t) ports n i (k + 1) (x .strategy)
+    pub seek-on : b ≡ false → Seeks (strategyAt mem t) ports n i (k + 1) j
     seek-on d = record { before = omega arith; unlike = λ l. sym g ∙ d; left = opened ∙ rw d }
 
-  pub seek-skip : (h : k < n) (x : Isolated) → x ≡ portRow ports k → Ruled mem t ports n → x .strategy ≡ s → Seeks (strategyAt mem t) ports n i (k + 1) s
-  seek-skip h x e r d =
-      let l : s < 32 = rw d at (row-strategy mem t ports n r k h x e) in
-      let g : false ≡ areAlike (strategyAt mem t i) (strategyAt mem t (x .strategy)) = sym (ap (λ (j : ℕ). areAlike (strategyAt mem t i) (strategyAt mem t j)) d ∙ inv .unlike l) in
-      rw d at (seek-on h x e false g refl)
+  pub seek-skip : (h : k < n) (j : ℕ) → j ≡ portRow ports k .strategy → Ruled mem t ports n → j ≡ s → Seeks (strategyAt mem t) ports n i (k + 1) s
+  seek-skip h j e r d =
+      let l : s < 32 = rw d at (number-small mem t ports n r k h j e) in
+      let g : false ≡ areAlike (strategyAt mem t i) (strategyAt mem t j) = sym (ap (λ (m : ℕ). areAlike (strategyAt mem t i) (strategyAt mem t m)) d ∙ inv .unlike l) in
+      rw d at (seek-on h j e false g refl)
 
-pub ruleset seeks = (needs, row-small, row-strategy, seek-end, seek-here, seek-on, seek-skip)
+pub ruleset seeks = (needs, row-small, number-small, seek-end, seek-here, seek-on, seek-skip)

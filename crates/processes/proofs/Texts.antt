@@ -8,7 +8,7 @@ use borrow.Author.Needs.{needs}
 use Rattle.text.specs.Ascii.{Bytes, ascii}
 use Rattle.text.specs.Compare.{same}
 use Rattle.text.specs.Scan.{any}
-use Rattle.text.specs.Sames.{same-eq, both}
+use Rattle.text.specs.Sames.{same-eq, same-refl, both}
 use Rattle.out.specs.Bytewise.{dotted}
 use Rattle.out.specs.Emit.{Out, _▸_, emit, emit-append, _⊕_, emit-⊕, wrote, _then_}
 use Rattle.out.specs.Fill.{fill, filled, adds, turns, arg, pick}
@@ -19,12 +19,12 @@ use Rattle.store.specs.declared.state.Isolations.{Isolations}
 use Rattle.texts.specs.Isolation.{Isolated as Isolatedʳ, activeOf, alike, leaders, clampOn, clampOff, process, processes}
 use Rattle.isolated.specs.Table.{portRow, Kept, keptOf, keptFrom, keptIn}
 use Rattle.isolated.specs.Laws.{kept-next, kept-none}
-use Rattle.isolated.specs.declared.Isolated.{Isolated}
 use Rattle.alike.specs.Strategies.{strategyAt, signalOf, areAlike}
 use Rattle.alike.specs.Shown.{shownBy, shown, shown-alike}
-use Rattle.alike.specs.Ruled.{Ruled, row-small, row-strategy}
+use Rattle.alike.specs.Ruled.{Ruled, row-small}
 use Rattle.alike.specs.Numbers.{numbersFrom, numbersIn, numbers-one}
 use Rattle.processes.specs.Ports.{isLike, portText, portsText, headText, processText}
+use Rattle.processes.proofs.Led.{number-small}
 
 -- ---- the text of a process
 
@@ -104,24 +104,33 @@ any-snoc t (y ∷ l) x = ap (λ (b : Bool). t y || b) (any-snoc t l x) ∙ assoc
     assoc true b c = refl
     assoc false b c = refl
 
+or-true : (b : Bool) → b || true ≡ true
+or-true true = refl
+or-true false = refl
+
+self-like : (f : ℕ → Isolationʳ) (i : ℕ) → isLike f i i ≡ true
+unfolding areAlike
+self-like f i = rw (same-refl (dotted (signalOf (f i))), same-refl (activeOf (f i)))
+
 -- the ports before are in order too
 ruled-front : (mem : Bytes) (t : Isolations) (ports : List ℕ) (n k : ℕ) → Ruled mem t ports n → k < n → Ruled mem t ports k
 ruled-front mem t ports n k r h = record { few = omega (arith, r .few); strategies = λ j l. r .strategies j (omega arith); clamps = λ j l. r .clamps j (omega arith) }
 
--- what is left to write, written from here, is the answer w
-pub record Leads (job mem : Bytes) (scope : List Bytes) (top : Bytes) (t : Isolations) (ports : List ℕ) (n : ℕ) (w o : Out) (k : ℕ) : Type 0 where
+-- what is left to write, written from here, is the answer w; s is a strategy like one of those before
+pub record Leads (job mem : Bytes) (scope : List Bytes) (top : Bytes) (t : Isolations) (ports : List ℕ) (n : ℕ) (w o : Out) (k s : ℕ) : Type 0 where
   pub ruled : Ruled mem t ports n
   pub before : k ≤ n
+  pub led : s < 32 → any (isLike (strategyAt mem t) s) (numbersIn ports k) ≡ true
   pub seen : List Isolatedʳ
   pub tells : Tells scope top (strategyAt mem t) seen (numbersIn ports k)
   pub keeps : emit o (each (process (map (shown scope top (strategyAt mem t)) (keptIn job mem ports n))) (leaders seen (map (shown scope top (strategyAt mem t)) (keptFrom job mem ports k (n - k))))) ≡ w
 
 module _ (job mem : Bytes) (scope : List Bytes) (top : Bytes) (t : Isolations) (ports : List ℕ) (n : ℕ) where
-  pub leads-start : (o : Out) → Ruled mem t ports n → Leads job mem scope top t ports n (emit o (processes (map (shown scope top (strategyAt mem t)) (keptIn job mem ports n)))) o 0
+  pub leads-start : (o : Out) → Ruled mem t ports n → Leads job mem scope top t ports n (emit o (processes (map (shown scope top (strategyAt mem t)) (keptIn job mem ports n)))) o 0 32
   unfolding any numbersFrom
-  leads-start o r = let z : n - 0 ≡ n = omega arith in record { ruled = r; before = omega arith; seen = []; tells = record { tells = λ k. refl }; keeps = rw z }
+  leads-start o r = let z : n - 0 ≡ n = omega arith in record { ruled = r; before = omega arith; led = λ h. absurd (omega (arith, h)); seen = []; tells = record { tells = λ k. refl }; keeps = rw z }
 
-  module _ (w o : Out) (k : ℕ) (inv : Leads job mem scope top t ports n w o k) where
+  module _ (w o : Out) (k s : ℕ) (inv : Leads job mem scope top t ports n w o k s) where
     pub leads-end : n ≤ k → o ≡ w
     unfolding leaders each emit
     leads-end h = let z : n - k ≡ 0 = omega arith in rw (z, kept-none job mem ports k) at (inv .keeps)
@@ -132,10 +141,10 @@ module _ (job mem : Bytes) (scope : List Bytes) (top : Bytes) (t : Isolations) (
     pub leads-front : k < n → Ruled mem t ports k
     leads-front h = ruled-front mem t ports n k (inv .ruled) h
 
-    pub leads-number : k < n → (x : Isolated) → x ≡ portRow ports k → x .strategy < 32
-    leads-number h x e = row-strategy mem t ports n (inv .ruled) k h x e
+    pub leads-number : k < n → (i : ℕ) → i ≡ portRow ports k .strategy → i < 32
+    leads-number h i e = number-small mem t ports n (inv .ruled) k h i e
 
-    module _ (h : k < n) (x : Isolated) (e : x ≡ portRow ports k) (b : Bool) (g : b ≡ any (isLike (strategyAt mem t) (x .strategy)) (numbersIn ports k)) where
+    module _ (h : k < n) (i : ℕ) (e : i ≡ portRow ports k .strategy) (b : Bool) (g : b ≡ any (isLike (strategyAt mem t) i) (numbersIn ports k)) where
       abbrev f : ℕ → Isolationʳ
       f = strategyAt mem t
 
@@ -156,8 +165,12 @@ module _ (job mem : Bytes) (scope : List Bytes) (top : Bytes) (t : Isolations) (
       more : (i : ℕ) → any (isLike f i) (numbersIn ports (k + 1)) ≡ any (isLike f i) (numbersIn ports k) || isLike f i (portRow ports k .strategy)
       more i = rw (numbers-one ports k) (any-snoc (isLike f i) (numbersIn ports k) (portRow ports k .strategy))
 
-      pub leads-other : b ≡ true → Leads job mem scope top t ports n w o (k + 1)
-      leads-other d = record { ruled = inv .ruled; before = omega arith; seen = inv .seen; tells = record { tells = λ y. inv .tells .tells y ∙ sym (more (y .strategy) ∙ go (y .strategy) (isLike f (y .strategy) (portRow ports k .strategy)) refl) }; keeps = rw d at opened }
+      -- its own strategy is like one of them
+      own : any (isLike f i) (numbersIn ports (k + 1)) ≡ true
+      own = more i ∙ rw (← e, self-like f i) (or-true (any (isLike f i) (numbersIn ports k)))
+
+      pub leads-other : b ≡ true → Leads job mem scope top t ports n w o (k + 1) i
+      leads-other d = record { ruled = inv .ruled; before = omega arith; led = λ _. own; seen = inv .seen; tells = record { tells = λ y. inv .tells .tells y ∙ sym (more (y .strategy) ∙ go (y .strategy) (isLike f (y .strategy) (portRow ports k .strategy)) refl) }; keeps = rw d at opened }
         where
           go : (i : ℕ) (c : Bool) → isLike f i (portRow ports k .strategy) ≡ c → any (isLike f i) (numbersIn ports k) || c ≡ any (isLike f i) (numbersIn ports k)
           go i true q = let u : any (isLike f i) (numbersIn ports k) ≡ true = any-by scope top f i (portRow ports k .strategy) q (numbersIn ports k) ∙ sym (rw e at g) ∙ d in rw u
@@ -167,13 +180,14 @@ module _ (job mem : Bytes) (scope : List Bytes) (top : Bytes) (t : Isolations) (
               or-false true = refl
               or-false false = refl
 
-      pub leads-one : b ≡ false → (o′ : Out) → o′ ≡ emit o (processText scope top (strategyAt mem t) (keptIn job mem ports n) (x .strategy)) → Leads job mem scope top t ports n w o′ (k + 1)
+      pub leads-one : b ≡ false → (o′ : Out) → o′ ≡ emit o (processText scope top (strategyAt mem t) (keptIn job mem ports n) i) → Leads job mem scope top t ports n w o′ (k + 1) i
       unfolding any each
       leads-one d o′ q =
           let p : o′ ≡ emit o (process (map (shown scope top f) (keptIn job mem ports n)) (shown scope top f row)) = (rw e at q) ∙ ap (emit o) (process-is scope top f (keptIn job mem ports n) row) in
           record {
             ruled = inv .ruled;
             before = omega arith;
+            led = λ _. own;
             seen = shown scope top f row ∷ inv .seen;
             tells = record { tells = λ y. rw (shown-alike scope top (f (y .strategy)) (f (row .strategy)) y row, inv .tells .tells y, more (y .strategy)) (swap (isLike f (y .strategy) (row .strategy)) (any (isLike f (y .strategy)) (numbersIn ports k))) };
             keeps = rw p (rw (d, emit-append) at opened);
@@ -185,4 +199,10 @@ module _ (job mem : Bytes) (scope : List Bytes) (top : Bytes) (t : Isolations) (
           swap false true = refl
           swap false false = refl
 
-pub ruleset leads = (needs, leads-row, leads-front, leads-number, leads-end, leads-other, leads-one)
+    pub leads-skip : (h : k < n) (i : ℕ) → i ≡ portRow ports k .strategy → i ≡ s → Leads job mem scope top t ports n w o (k + 1) s
+    leads-skip h i e d =
+        let l : s < 32 = rw d at (leads-number h i e) in
+        let g : true ≡ any (isLike (strategyAt mem t) i) (numbersIn ports k) = sym (rw d (inv .led l)) in
+        rw d at (leads-other h i e true g refl)
+
+pub ruleset leads = (needs, leads-row, leads-front, leads-number, leads-end, leads-other, leads-one, leads-skip)

@@ -23,6 +23,7 @@ use Rattle.alike.specs.Strategies.{strategyAt, signalOf, areAlike}
 use Rattle.alike.specs.Ruled.{Ruled, row-small, row-strategy, row-clamp}
 use Rattle.portargs.specs.Args.{netArg, portArg, clampArg, strategyArg, signalArg, activeArg, net-is, port-is, clamp-is, strategy-is, signal-is, active-is}
 use Rattle.processes.specs.Ports.{isLike, portText, portsText, headText}
+use Rattle.processes.proofs.Led.{number-small}
 
 -- ---- the head
 
@@ -81,12 +82,15 @@ module _ (job mem : Bytes) (scope : List Bytes) (top tpl : Bytes) (t : Isolation
   pub writes-clamp : k < n → (x : Isolated) → x ≡ portRow ports k → isClamp (lowered (strategyAt mem t (x .strategy) .clamp)) ≡ true
   writes-clamp h x e = row-clamp mem t ports n (inv .ruled) k h x e
 
-  module _ (h : k < n) (x : Isolated) (e : x ≡ portRow ports k) (b : Bool) (g : b ≡ areAlike (strategyAt mem t i) (strategyAt mem t (x .strategy))) where
-    opened : emit o (each (portText tpl scope top (strategyAt mem t)) (cond b (keptOf job mem x ∷ those (λ (y : Kept). isLike (strategyAt mem t) i (y .strategy)) (keptFrom job mem ports (k + 1) (n - (k + 1)))) (those (λ (y : Kept). isLike (strategyAt mem t) i (y .strategy)) (keptFrom job mem ports (k + 1) (n - (k + 1)))))) ≡ w
+  pub writes-numbered : k < n → (j : ℕ) → j ≡ portRow ports k .strategy → j < 32
+  writes-numbered h j e = number-small mem t ports n (inv .ruled) k h j e
+
+  module _ (h : k < n) (j : ℕ) (e : j ≡ portRow ports k .strategy) (b : Bool) (g : b ≡ areAlike (strategyAt mem t i) (strategyAt mem t j)) where
+    opened : emit o (each (portText tpl scope top (strategyAt mem t)) (cond b (keptOf job mem (portRow ports k) ∷ those (λ (y : Kept). isLike (strategyAt mem t) i (y .strategy)) (keptFrom job mem ports (k + 1) (n - (k + 1)))) (those (λ (y : Kept). isLike (strategyAt mem t) i (y .strategy)) (keptFrom job mem ports (k + 1) (n - (k + 1)))))) ≡ w
     unfolding portsText those
     opened = let z : n - k ≡ suc (n - (k + 1)) = omega arith in rw (g, e) (rw (z, kept-next job mem ports k (n - (k + 1))) at (inv .keeps))
 
-    pub writes-other : not b ≡ true → Writes job mem scope top tpl t ports n i w o (k + 1) (x .strategy)
+    pub writes-other : not b ≡ true → Writes job mem scope top tpl t ports n i w o (k + 1) j
     unfolding portsText
     writes-other d = record { template = inv .template; ruled = inv .ruled; number = inv .number; before = omega arith; unlike = λ l. sym g ∙ is-not b d; keeps = rw (is-not b d) at opened }
       where
@@ -94,18 +98,18 @@ module _ (job mem : Bytes) (scope : List Bytes) (top tpl : Bytes) (t : Isolation
         is-not true e = sym e
         is-not false e = refl
 
-    pub writes-one : not b ≡ false → (o′ : Out) → o′ ≡ emit o (portText tpl scope top (strategyAt mem t) (keptOf job mem x)) → Writes job mem scope top tpl t ports n i w o′ (k + 1) s
+    pub writes-one : not b ≡ false → (x : Isolated) → x ≡ portRow ports k → (o′ : Out) → o′ ≡ emit o (portText tpl scope top (strategyAt mem t) (keptOf job mem x)) → Writes job mem scope top tpl t ports n i w o′ (k + 1) s
     unfolding portsText each
-    writes-one d o′ q = record { template = inv .template; ruled = inv .ruled; number = inv .number; before = omega arith; unlike = inv .unlike; keeps = rw q (rw (is-true b d, emit-append) at opened) }
+    writes-one d x p o′ q = record { template = inv .template; ruled = inv .ruled; number = inv .number; before = omega arith; unlike = inv .unlike; keeps = rw q (rw p (rw (is-true b d, emit-append) at opened)) }
       where
         is-true : (b : Bool) → not b ≡ false → b ≡ true
         is-true true e = refl
         is-true false e = sym e
 
-  pub writes-skip : (h : k < n) (x : Isolated) → x ≡ portRow ports k → x .strategy ≡ s → Writes job mem scope top tpl t ports n i w o (k + 1) s
-  writes-skip h x e d =
-      let l : s < 32 = rw d at (writes-number h x e) in
-      let g : false ≡ areAlike (strategyAt mem t i) (strategyAt mem t (x .strategy)) = sym (ap (λ (j : ℕ). areAlike (strategyAt mem t i) (strategyAt mem t j)) d ∙ inv .unlike l) in
-      rw d at (writes-other h x e false g refl)
+  pub writes-skip : (h : k < n) (j : ℕ) → j ≡ portRow ports k .strategy → j ≡ s → Writes job mem scope top tpl t ports n i w o (k + 1) s
+  writes-skip h j e d =
+      let l : s < 32 = rw d at (writes-numbered h j e) in
+      let g : false ≡ areAlike (strategyAt mem t i) (strategyAt mem t j) = sym (ap (λ (m : ℕ). areAlike (strategyAt mem t i) (strategyAt mem t m)) d ∙ inv .unlike l) in
+      rw d at (writes-other h j e false g refl)
 
-pub ruleset writes = (needs, writes-row, writes-number, writes-clamp, writes-end, writes-other, writes-one, writes-skip)
+pub ruleset writes = (needs, writes-row, writes-number, writes-numbered, writes-clamp, writes-end, writes-other, writes-one, writes-skip)

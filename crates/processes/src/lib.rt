@@ -14,11 +14,12 @@ ghost use Rattle.alike.specs.Shown.{shown};
 ghost use Rattle.alike.specs.Numbers.{numbersIn};
 ghost use Rattle.alike.specs.Ruled.{Ruled};
 ghost use Rattle.processes.specs.Ports.{isLike, portText, portsText, headText, processText};
-use alike::alike;
+use alike::alike_rows;
 use format::fill::fill2;
 use format::fill::fill4;
 use isolated::Isolated;
 use isolated::port_at;
+use isolated::strategy_at;
 use out::emit::put;
 use portargs::active_arg;
 use portargs::clamp_arg;
@@ -33,18 +34,20 @@ fn is_led(files: &[u8], area: &[u8], t: Isolations, ports: &[u32], n: usize, i: 
     requires { ⌜ Ruled (now files ++ now area) t (now ports) n × (i < 32) ⌝ }
     ensures { λ r. ⌜ r ≡ any (isLike (strategyAt (now (files .entry) ++ now (area .entry)) t) i) (numbersIn (now (ports .entry)) n) ⌝ }
 {
+    let a = t.all[i];
     let mut k = 0;
     let mut s = 32;
     while k < n {
-        let x = port_at(ports, k);
-        if x.strategy == s {
+        let j = strategy_at(ports, k);
+        if j == s {
             k += 1;
             continue;
         }
-        if alike(files, area, t, i, x.strategy) {
+        let b = t.all[j];
+        if alike_rows(files, area, a, b) {
             return true;
         }
-        s = x.strategy;
+        s = j;
         k += 1;
     }
     false
@@ -94,20 +97,23 @@ fn each_port(
     requires { ⌜ (isTemplate 4 (now tpl) ≡ true) × (Ruled (now files ++ now area) t (now ports) n × (i < 32)) ⌝ }
     ensures { λ r. ⌜ now (out .exit) ▸ r ≡ emit (now (out .entry) ▸ at) (portsText (now (tpl .entry)) (parts (now (over .entry)) from) (now (top .entry)) (strategyAt (now (files .entry) ++ now (area .entry)) t) i (keptIn (now (job .entry)) (now (files .entry) ++ now (area .entry)) (now (ports .entry)) n)) ⌝ }
 {
+    let a = t.all[i];
     let mut o = at;
     let mut k = 0;
     let mut s = 32;
     while k < n {
+        let j = strategy_at(ports, k);
+        if j == s {
+            k += 1;
+            continue;
+        }
+        let b = t.all[j];
+        if !alike_rows(files, area, a, b) {
+            s = j;
+            k += 1;
+            continue;
+        }
         let x = port_at(ports, k);
-        if x.strategy == s {
-            k += 1;
-            continue;
-        }
-        if !alike(files, area, t, i, x.strategy) {
-            s = x.strategy;
-            k += 1;
-            continue;
-        }
         o = put_port(out, o, tpl, job, files, area, over, from, top, t, x);
         k += 1;
     }
@@ -219,9 +225,14 @@ pub fn processes(
 {
     let mut o = at;
     let mut k = 0;
+    let mut s = 32;
     while k < n {
-        let x = port_at(ports, k);
-        let i = x.strategy;
+        let i = strategy_at(ports, k);
+        if i == s {
+            k += 1;
+            continue;
+        }
+        s = i;
         if is_led(files, area, t, ports, k, i) {
             k += 1;
             continue;

@@ -1,3 +1,4 @@
 pub mod Parted
 pub mod Slashes
 pub mod Turns
+pub mod Off

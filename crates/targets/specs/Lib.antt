@@ -1,3 +1,4 @@
 pub mod Instance
 pub mod Seen
 pub mod Textual
+pub mod Off

@@ -7,6 +7,7 @@ ghost use Rattle.jobindex.specs.Index.{moduleRow};
 ghost use Rattle.names.specs.Name.{nameOf};
 ghost use Rattle.names.specs.Parts.{parts, behind};
 ghost use Rattle.refs.specs.Text.{textOf};
+ghost use Rattle.targets.specs.Off.{WordOff, beginsPlain, TextOff};
 ghost use Rattle.targets.specs.Seen.{SlashSeen, partIs, DownSeen, nowherePlace, PlaceSeen};
 use jobindex::Span;
 use lines::InstAt;
@@ -14,6 +15,9 @@ use names::name::Name;
 use refs::Ref;
 use refs::Step;
 use refs::next;
+use spans::span::Got;
+use spans::span::Span as Word;
+use spans::span::first;
 
 // The last slash of a name: whether there is one, how many bytes stand up to it and with it, and what is left behind it.
 pub struct Slash {
@@ -76,8 +80,8 @@ pub fn last_slash(files: &[u8], area: &[u8], e: Name) -> Slash
     }
 }
 
-// Whether the first part of a text is w.
-fn first_part(job: &[u8], files: &[u8], area: &[u8], r: Ref, w: &[u8]) -> Part
+// Whether the first part of a text is w, byte by byte.
+fn stepped_part(job: &[u8], files: &[u8], area: &[u8], r: Ref, w: &[u8]) -> Part
     ensures { λ p. ⌜ partIs (now (job .entry)) (now (files .entry) ++ now (area .entry)) p ≡ behind (now (w .entry)) (parts (textOf (now (job .entry)) (now (files .entry) ++ now (area .entry)) r)) ⌝ }
 {
     let mut x = r;
@@ -106,6 +110,61 @@ fn first_part(job: &[u8], files: &[u8], area: &[u8], r: Ref, w: &[u8]) -> Part
             Part::Other
         }
     }
+}
+
+// Whether a word, read in any form, surely is not w up to a slash: by a byte before which no backslash stands.
+fn word_off(files: &[u8], area: &[u8], s: Word, w: &[u8]) -> bool
+    ensures { λ r. ⌜ WordOff (now (files .entry) ++ now (area .entry)) s (now (w .entry)) r ⌝ }
+{
+    let mut x = s;
+    let mut i = 0;
+    while i < w.len() {
+        match first(files, area, x) {
+            Got::No => return false,
+            Got::Yes(b, u) => {
+                if (b == b'\\') | (b == b'/') {
+                    return false;
+                }
+                if b != w[i] {
+                    return true;
+                }
+                x = u;
+                i += 1;
+            }
+        }
+    }
+    false
+}
+
+// Whether a text begins with a word.
+fn begins_plain(r: Ref) -> bool
+    ensures { λ b. ⌜ b ≡ beginsPlain r ⌝ }
+{
+    let n = r.name;
+    let s = n.scope;
+    (!r.cut) & ((s.len == 0) & (!n.sep))
+}
+
+// Whether the first part of a text surely is not w.
+fn text_off(files: &[u8], area: &[u8], r: Ref, w: &[u8]) -> bool
+    ensures { λ b. ⌜ TextOff (now (files .entry) ++ now (area .entry)) r (now (w .entry)) b ⌝ }
+{
+    if !begins_plain(r) {
+        return false;
+    }
+    let n = r.name;
+    let v = n.word;
+    word_off(files, area, v, w)
+}
+
+// Whether the first part of a text is w.
+fn first_part(job: &[u8], files: &[u8], area: &[u8], r: Ref, w: &[u8]) -> Part
+    ensures { λ p. ⌜ partIs (now (job .entry)) (now (files .entry) ++ now (area .entry)) p ≡ behind (now (w .entry)) (parts (textOf (now (job .entry)) (now (files .entry) ++ now (area .entry)) r)) ⌝ }
+{
+    if text_off(files, area, r, w) {
+        return Part::Other;
+    }
+    stepped_part(job, files, area, r, w)
 }
 
 // The first instance of module k whose name is the first part of a text, dimensions not looked at.
