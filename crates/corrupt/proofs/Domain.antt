@@ -34,24 +34,6 @@ element-path : (e : Bytes) → elementPath [] e ≡ dotted e
 element-path [] = refl
 element-path (b ∷ e) = refl
 
--- what is lent, once the flags are cleared
-pub domain-cleared : (job : Bytes) (index : List ℕ) (count k : ℕ) (table : List ℕ) (files area : Bytes) (n m prefix : ℕ) (tail text : Bytes) (ends ends′ : List ℕ) → DomainGiven job index count k table files area n m prefix tail text ends → length ends′ ≡ length ends → DomainGiven job index count k table files area n m prefix tail text ends′
-domain-cleared job index count k table files area n m prefix tail text ends ends′ g e =
-    record {
-      few = g .few;
-      row = g .row;
-      job-small = g .job-small;
-      memory-small = g .memory-small;
-      entries-few = g .entries-few;
-      elements-few = g .elements-few;
-      prefix-small = g .prefix-small;
-      tail-long = g .tail-long;
-      text-long = g .text-long;
-      ends-long = omega (arith, g .ends-long, e);
-      short = g .short;
-      tabled = g .tabled;
-    }
-
 -- the elements from row i on are left
 pub record Elements (job : Bytes) (index : List ℕ) (count k : ℕ) (table : List ℕ) (files area : Bytes) (n : ℕ) (entries : List Bytes) (elements : List ℕ) (m prefix : ℕ) (tail₀ text₀ : Bytes) (ends₀ : List ℕ) (total : ℕ) (all : List Bytes) (text : Bytes) (ends : List ℕ) (w : Walk) (i : ℕ) : Type 0 where
   pub turn : Turn prefix total all w text ends
@@ -69,10 +51,10 @@ module _ (job : Bytes) (index : List ℕ) (count k : ℕ) (table : List ℕ) (fi
   abbrev mem : Bytes
   mem = files ++ area
 
-  pub elements-start : DomainGiven job index count k table files area n m prefix tail₀ text₀ ends₀ → (w : Walk) → w ≡ nowhere
+  pub elements-start : DomainGiven job index count k table files area n m prefix tail₀ text₀ ends₀ → (stamp : ℕ) (w : Walk) → w ≡ nowhere stamp
       → Elements job index count k table files area n entries elements m prefix tail₀ text₀ ends₀ (domainEntered d base [] entries (tableNames mem elements m)) (domainList d base [] entries (tableNames mem elements m)) text₀ ends₀ w 0
   unfolding domainEntered domainList cut cost sumOver Ascends
-  elements-start g w ew =
+  elements-start g stamp w ew =
       rw ew (record {
         turn = record {
           ready = record {
@@ -85,7 +67,7 @@ module _ (job : Bytes) (index : List ℕ) (count k : ℕ) (table : List ℕ) (fi
             entered-few = omega arith;
             text-long = g .text-long;
             ends-long = g .ends-long;
-            flagged = flagged-none ends₀;
+            flagged = flagged-none stamp ends₀;
             small = g .prefix-small;
           };
           entered-left = rw (sub-zero m) (omega arith);

@@ -30,6 +30,11 @@ pub marked-none : (marks : Bytes) → Marked marks []
 unfolding any
 marked-none marks = record { says = λ p z. refl }
 
+pub marked-empty : (mem : Bytes) (table : List ℕ) (n : ℕ) (marks : Bytes) → n ≡ 0 → Marked marks (tableNames mem table n)
+marked-empty mem table n marks h = rw (h, names-none mem table 0) (marked-none marks)
+
+pub ruleset empties = (needs, marked-empty)
+
 map-append : {A B : Type 0} (f : A → B) (xs ys : List A) → map f (xs ++ ys) ≡ map f xs ++ map f ys
 map-append f [] ys = refl
 map-append f (x ∷ xs) ys = ap (λ l. f x ∷ l) (map-append f xs ys)

@@ -78,7 +78,7 @@ module _ (job : Bytes) (table : List ℕ) (k : ℕ) (mem : Bytes) (e : Name) (el
       all = addAll (pathsOf text ends (s .count)) (map below (namesOf job table k))
 
       abbrev entering : Walk
-      entering = record { over = false; entered = s .entered + 1; count = s .count; end = s .end; used = s .used }
+      entering = record { over = false; entered = s .entered + 1; count = s .count; end = s .end; used = s .used; stamp = s .stamp }
 
       pub enter-fits : (s .entered ≡ 4096 → ⊥) → s .entered + 1 < 2 ^ 64
       enter-fits m = omega (arith, rd .entered-few)

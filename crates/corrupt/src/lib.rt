@@ -62,6 +62,7 @@ fn own(
         count: s.count,
         end: s.end,
         used: s.used,
+        stamp: s.stamp,
     };
     let number = pathnumber::number_on(h, tail);
     let z = modtable::name_count(table, k);
@@ -192,13 +193,13 @@ fn marked_paths(
     tail: &mut [u8],
     text: &mut [u8],
     ends: &mut [u32],
+    stamp: u32,
     marks: &[u8],
 ) -> Walk
     requires { ⌜ DomainGiven (now job) (now index) count k (now table) (now files) (now area) n m prefix (now tail) (now text) (now ends) × Marked (now marks) (tableNames (now files ++ now area) (now retained) n) ⌝ }
     ensures { λ r. ⌜ Answer prefix (domainEntered (modules (now (job .entry)) (now (index .entry)) count) (moduleRow (now (job .entry)) (now (index .entry)) k) [] (entriesBelow below (tableNames (now (files .entry) ++ now (area .entry)) (now (retained .entry)) n)) (tableNames (now (files .entry) ++ now (area .entry)) (now (elements .entry)) m)) (domainList (modules (now (job .entry)) (now (index .entry)) count) (moduleRow (now (job .entry)) (now (index .entry)) k) [] (entriesBelow below (tableNames (now (files .entry) ++ now (area .entry)) (now (retained .entry)) n)) (tableNames (now (files .entry) ++ now (area .entry)) (now (elements .entry)) m)) r (now (text .exit)) (now (ends .exit)) ⌝ }
 {
-    out::clear::clear_nums(ends, 1024);
-    let mut w = listing::start();
+    let mut w = listing::start(stamp);
     let mut i = 0;
     while i < m {
         let e = nametable::row(elements, i);
@@ -240,7 +241,8 @@ fn marked_paths(
 }
 
 // The paths that a domain loses, whose elements are the first m names of `elements` and are looked up from module k. `retained` has n entries;
-// `below` says that the scope is not the top, and `prefix` what its path adds to each path. No flag behind the ends is set at first.
+// `below` says that the scope is not the top, and `prefix` what its path adds to each path. `stamp` tells the flags of
+// this walk from those of the walks before it.
 pub fn domain_paths(
     job: &[u8],
     index: &[u32],
@@ -258,10 +260,33 @@ pub fn domain_paths(
     tail: &mut [u8],
     text: &mut [u8],
     ends: &mut [u32],
+    stamp: u32,
 ) -> Walk
     requires { ⌜ DomainGiven (now job) (now index) count k (now table) (now files) (now area) n m prefix (now tail) (now text) (now ends) ⌝ }
     ensures { λ r. ⌜ Answer prefix (domainEntered (modules (now (job .entry)) (now (index .entry)) count) (moduleRow (now (job .entry)) (now (index .entry)) k) [] (entriesBelow below (tableNames (now (files .entry) ++ now (area .entry)) (now (retained .entry)) n)) (tableNames (now (files .entry) ++ now (area .entry)) (now (elements .entry)) m)) (domainList (modules (now (job .entry)) (now (index .entry)) count) (moduleRow (now (job .entry)) (now (index .entry)) k) [] (entriesBelow below (tableNames (now (files .entry) ++ now (area .entry)) (now (retained .entry)) n)) (tableNames (now (files .entry) ++ now (area .entry)) (now (elements .entry)) m)) r (now (text .exit)) (now (ends .exit)) ⌝ }
 {
+    if n == 0 {
+        return marked_paths(
+            job,
+            index,
+            count,
+            k,
+            table,
+            files,
+            area,
+            retained,
+            n,
+            below,
+            elements,
+            m,
+            prefix,
+            tail,
+            text,
+            ends,
+            stamp,
+            b"",
+        );
+    }
     let mut marks: [u8; 32768] = [0; 32768];
     marks::mark(files, area, retained, n, &mut marks);
     marked_paths(
@@ -281,6 +306,7 @@ pub fn domain_paths(
         tail,
         text,
         ends,
+        stamp,
         &marks,
     )
 }

@@ -17,7 +17,7 @@ pub struct Loss {
     pub elements: usize,
 }
 
-// What a domain loses: its elements into a table, the listed paths into text and ends.
+// What a domain loses: its elements into a table, the listed paths into text and ends. `stamp` is no earlier walk's, so that fewer paths are compared.
 pub fn lost<'a>(
     job: &[u8],
     nums: &[u32],
@@ -34,6 +34,7 @@ pub fn lost<'a>(
     tail: &mut [u8],
     text: &mut [u8],
     ends: &mut [u32],
+    stamp: u32,
 ) -> Loss
     requires { ⌜ OfWalk (now job) (now nums) count k (now table) (now files) (now area) kept d prefix (now tail) (now text) (now ends) × (325 ≤ length (now elements)) ⌝ }
     ensures { λ r. ⌜ Loses (modules (now (job .entry)) (now (nums .entry)) count) (moduleRow (now (job .entry)) (now (nums .entry)) k) (now (files .entry) ++ now (area .entry)) (tableNames (now (files .entry) ++ now (area .entry)) (now (retained .entry)) kept) d prefix (now (elements .exit)) (now (text .exit)) (now (ends .exit)) r ⌝ }
@@ -56,6 +57,7 @@ pub fn lost<'a>(
         tail,
         text,
         ends,
+        stamp,
     );
     Loss {
         walk: w,

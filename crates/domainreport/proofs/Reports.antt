@@ -12,7 +12,7 @@ use Rattle.spans.specs.Span.{bytes}
 use Rattle.spans.specs.declared.span.Span.{Span}
 use Rattle.names.specs.Name.{nameOf, Makes}
 use Rattle.names.specs.declared.name.Name.{Name}
-use Rattle.nametable.specs.Table.{tableNames}
+use Rattle.nametable.specs.Table.{tableNames, names-none}
 use Rattle.design.specs.Lists.{those}
 use Rattle.design.specs.Paths.{retainedPath}
 use Rattle.store.specs.Strings.{spanOf, string, belowOf}
@@ -41,6 +41,15 @@ pub line-is : (mem : Bytes) (t : Retentions) (domain : Stored) (x : Name) (es : 
 line-is mem t domain x es power ground n scope table table′ k o o′ h ex ns =
     let e : nameOf mem x ≡ string mem domain = rw ex (stored-is mem domain) in
     h ∙ ap (λ (l : List Bytes). emit o (poweredText (nameOf mem x) es power ground n (map (retainedPath scope) l))) (ns .are) ∙ ap (λ (b : Bytes). emit o (poweredText b es power ground n (map (retainedPath scope) (ownEntries mem t domain)))) e
+
+own-none : (mem : Bytes) (t : Retentions) (domain : Stored) → t .n ≡ 0 → ownEntries mem t domain ≡ []
+unfolding those flatMap
+own-none mem t domain h = rw h
+
+pub line-without : (mem : Bytes) (t : Retentions) (domain : Stored) (x : Name) (es : List Bytes) (power ground : Bytes) (n : ℕ) (scope : List Bytes) (table : List ℕ) (o o′ : Out) → o′ ≡ emit o (poweredText (nameOf mem x) es power ground n (map (retainedPath scope) (tableNames mem table 0))) → x ≡ storedName domain → t .n ≡ 0 → o′ ≡ emit o (poweredText (string mem domain) es power ground n (map (retainedPath scope) (ownEntries mem t domain)))
+line-without mem t domain x es power ground n scope table o o′ h ex z =
+    let e : nameOf mem x ≡ string mem domain = rw ex (stored-is mem domain) in
+    h ∙ ap (λ (l : List Bytes). emit o (poweredText (nameOf mem x) es power ground n (map (retainedPath scope) l))) (names-none mem table 0 ∙ sym (own-none mem t domain z)) ∙ ap (λ (b : Bytes). emit o (poweredText b es power ground n (map (retainedPath scope) (ownEntries mem t domain)))) e
 
 pub bare-is : (mem : Bytes) (domain : Stored) (x : Name) (o o′ : Out) → o′ ≡ emit o (unpoweredText (nameOf mem x)) → x ≡ storedName domain → o′ ≡ emit o (unpoweredText (string mem domain))
 bare-is mem domain x o o′ h ex = let e : nameOf mem x ≡ string mem domain = rw ex (stored-is mem domain) in h ∙ ap (λ (b : Bytes). emit o (unpoweredText b)) e

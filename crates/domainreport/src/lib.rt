@@ -88,6 +88,24 @@ pub fn powered_line<'a>(
     requires { ⌜ OfReport (now files) (now area) t × (m ≤ 65536) ⌝ }
     ensures { λ r. ⌜ now (out .exit) ▸ r ≡ emit (now (out .entry) ▸ at) (poweredText (string (now (files .entry) ++ now (area .entry)) domain) (tableNames (now (files .entry) ++ now (area .entry)) (now (elements .entry)) m) (nameOf (now (files .entry) ++ now (area .entry)) power) (nameOf (now (files .entry) ++ now (area .entry)) ground) n (map (retainedPath (parts (now (over .entry)) from)) (ownEntries (now (files .entry) ++ now (area .entry)) t domain))) ⌝ }
 {
+    if t.n == 0 {
+        return domainline::powered_line(
+            out,
+            at,
+            files,
+            area,
+            over,
+            from,
+            name_of(domain),
+            elements,
+            m,
+            power,
+            ground,
+            n,
+            elements,
+            0,
+        );
+    }
     let mut own: [u32; 5120] = [0; 5120];
     powered_by(
         out,

@@ -32,6 +32,7 @@ use Rattle.store.specs.declared.stored.MaybeBelow.{MaybeBelow}
 use Rattle.store.specs.declared.stored.MaybeBelow.the-variants.{Not as Not-below, Given as Given-below}
 use Rattle.store.specs.declared.state.Domain.{Domain}
 use Rattle.store.specs.declared.state.Isolations.{Isolations}
+use Rattle.store.specs.declared.state.Retentions.{Retentions}
 use Rattle.store.specs.declared.state.State.{State}
 use Rattle.setting.specs.Stands.{Stands}
 use Rattle.isolated.specs.Table.{keptIn}
@@ -51,28 +52,28 @@ use Rattle.domains.specs.One.{OfOne, OfTexts, Texts, Bare, Tells, Suppli
 
 -- ---- the texts, by names
 
-pub texts-glue : (files area : Bytes) (s : State) (ports : List ℕ) (isolated m : ℕ) (ends : List ℕ) (n : ℕ) → OfTexts files area s ports isolated m ends n → OfGlue (files ++ area) (s .isolations) ports isolated × (n ≤ length ends)
-texts-glue files area s ports isolated m ends n h = (h .glue, h .paths)
+pub texts-glue : (files area : Bytes) (xs : Isolations) (rs : Retentions) (ports : List ℕ) (isolated m : ℕ) (ends : List ℕ) (n : ℕ) → OfTexts files area xs rs ports isolated m ends n → OfGlue (files ++ area) xs ports isolated × (n ≤ length ends)
+texts-glue files area xs rs ports isolated m ends n h = (h .glue, h .paths)
 
-pub texts-report : (files area : Bytes) (s : State) (ports : List ℕ) (isolated m : ℕ) (ends : List ℕ) (n : ℕ) → OfTexts files area s ports isolated m ends n → OfReport files area (s .retentions) × (m ≤ 65536)
-texts-report files area s ports isolated m ends n h = (h .report, h .elements)
+pub texts-report : (files area : Bytes) (xs : Isolations) (rs : Retentions) (ports : List ℕ) (isolated m : ℕ) (ends : List ℕ) (n : ℕ) → OfTexts files area xs rs ports isolated m ends n → OfReport files area rs × (m ≤ 65536)
+texts-report files area xs rs ports isolated m ends n h = (h .report, h .elements)
 
-pub texts-are : (mem : Bytes) (scope : List Bytes) (s : State) (ports : List ℕ) (isolated : ℕ) (d : Domain) (p q : Below) (elements paths : List Bytes) (n : ℕ) (g : Out) (glue : Bytes) (o : Out) (report : Bytes) (x y : Name) (a b : ℕ)
+pub texts-are : (mem : Bytes) (scope : List Bytes) (xs : Isolations) (rs : Retentions) (ports : List ℕ) (isolated : ℕ) (d : Domain) (p q : Below) (elements paths : List Bytes) (n : ℕ) (g : Out) (glue : Bytes) (o : Out) (report : Bytes) (x y : Name) (a b : ℕ)
     → nameOf mem x ≡ belowOf mem p → nameOf mem y ≡ belowOf mem q
-    → glue ▸ a ≡ emit g (glueText (string mem (d .name)) (nameOf mem x) (nameOf mem y) (each (checkText scope (strategyAt mem (s .isolations)) (string mem (d .name))) (ownIn mem (s .isolations) (d .name) ports isolated)) paths)
-    → report ▸ b ≡ emit o (poweredText (string mem (d .name)) elements (nameOf mem x) (nameOf mem y) n (map (retainedPath scope) (ownEntries mem (s .retentions) (d .name))))
-    → Texts mem scope s ports isolated d p q elements paths n g glue o report (record { over = false; glue = a; report = b })
-texts-are mem scope s ports isolated d p q elements paths n g glue o report x y a b ex ey eg er =
+    → glue ▸ a ≡ emit g (glueText (string mem (d .name)) (nameOf mem x) (nameOf mem y) (each (checkText scope (strategyAt mem xs) (string mem (d .name))) (ownIn mem xs (d .name) ports isolated)) paths)
+    → report ▸ b ≡ emit o (poweredText (string mem (d .name)) elements (nameOf mem x) (nameOf mem y) n (map (retainedPath scope) (ownEntries mem rs (d .name))))
+    → Texts mem scope xs rs ports isolated d p q elements paths n g glue o report (record { over = false; glue = a; report = b })
+texts-are mem scope xs rs ports isolated d p q elements paths n g glue o report x y a b ex ey eg er =
     record {
       over = refl;
       glue-is =
           eg
-          ∙ ap (λ (z : Bytes). emit g (glueText (string mem (d .name)) z (nameOf mem y) (each (checkText scope (strategyAt mem (s .isolations)) (string mem (d .name))) (ownIn mem (s .isolations) (d .name) ports isolated)) paths)) ex
-          ∙ ap (λ (z : Bytes). emit g (glueText (string mem (d .name)) (belowOf mem p) z (each (checkText scope (strategyAt mem (s .isolations)) (string mem (d .name))) (ownIn mem (s .isolations) (d .name) ports isolated)) paths)) ey;
+          ∙ ap (λ (z : Bytes). emit g (glueText (string mem (d .name)) z (nameOf mem y) (each (checkText scope (strategyAt mem xs) (string mem (d .name))) (ownIn mem xs (d .name) ports isolated)) paths)) ex
+          ∙ ap (λ (z : Bytes). emit g (glueText (string mem (d .name)) (belowOf mem p) z (each (checkText scope (strategyAt mem xs) (string mem (d .name))) (ownIn mem xs (d .name) ports isolated)) paths)) ey;
       report-is =
           er
-          ∙ ap (λ (z : Bytes). emit o (poweredText (string mem (d .name)) elements z (nameOf mem y) n (map (retainedPath scope) (ownEntries mem (s .retentions) (d .name))))) ex
-          ∙ ap (λ (z : Bytes). emit o (poweredText (string mem (d .name)) elements (belowOf mem p) z n (map (retainedPath scope) (ownEntries mem (s .retentions) (d .name))))) ey;
+          ∙ ap (λ (z : Bytes). emit o (poweredText (string mem (d .name)) elements z (nameOf mem y) n (map (retainedPath scope) (ownEntries mem rs (d .name))))) ex
+          ∙ ap (λ (z : Bytes). emit o (poweredText (string mem (d .name)) elements (belowOf mem p) z n (map (retainedPath scope) (ownEntries mem rs (d .name))))) ey;
     }
 
 pub bare-line : (mem : Bytes) (d : Domain) (g : ℕ) (o : Out) (report : Bytes) (b : ℕ) → report ▸ b ≡ emit o (unpoweredText (string mem (d .name))) → Bare mem d g o report (record { over = false; glue = g; report = b })
@@ -141,7 +142,7 @@ module _ (job : Bytes) (nums : List ℕ) (count k : ℕ) (table : List ℕ) (fil
     at-row = row-mem (moduleRow job nums) count k (h .row)
 
     -- what its texts ask
-    pub texts-asked : l .walk .over ≡ false → OfTexts files area s ports isolated (l .elements) ends (l .walk .count)
+    pub texts-asked : l .walk .over ≡ false → OfTexts files area (s .isolations) (s .retentions) ports isolated (l .elements) ends (l .walk .count)
     texts-asked e =
         record {
           glue = record { ruled = h .ruled; sized = h .orders .shaped .isolations };
@@ -181,7 +182,7 @@ module _ (job : Bytes) (nums : List ℕ) (count k : ℕ) (table : List ℕ) (fil
                 };
           }
 
-      pub supplied-texts : (r : Told) → Texts (files ++ area) (parts path from) s ports isolated d p q (tableNames (files ++ area) elements (l .elements)) (below (parts path from) (pathsOf text ends (l .walk .count))) (l .walk .count) g glue o report r → l .walk .over ≡ false → SuppliedTold job nums count k files area path from top s ports isolated d p q g glue o report r
+      pub supplied-texts : (r : Told) → Texts (files ++ area) (parts path from) (s .isolations) (s .retentions) ports isolated d p q (tableNames (files ++ area) elements (l .elements)) (below (parts path from) (pathsOf text ends (l .walk .count))) (l .walk .count) g glue o report r → l .walk .over ≡ false → SuppliedTold job nums count k files area path from top s ports isolated d p q g glue o report r
       supplied-texts r x e =
           record {
             told = λ t st.

@@ -16,6 +16,8 @@ use Rattle.store.specs.View.{domainOf}
 use Rattle.store.specs.Order.{ofDomain}
 use Rattle.store.specs.declared.stored.Below.{Below}
 use Rattle.store.specs.declared.state.Domain.{Domain}
+use Rattle.store.specs.declared.state.Isolations.{Isolations}
+use Rattle.store.specs.declared.state.Retentions.{Retentions}
 use Rattle.store.specs.declared.state.State.{State}
 use Rattle.made.specs.Made.{reachOf}
 use Rattle.setting.specs.Stands.{Stands}
@@ -36,18 +38,18 @@ pub record OfOne (files area : Bytes) (d : Domain) : Type 0 where
   pub few : length (domainOf (files ++ area) d .elements) ≤ 65
 
 -- of the stored records, m elements and n listed paths
-pub record OfTexts (files area : Bytes) (s : State) (ports : List ℕ) (isolated m : ℕ) (ends : List ℕ) (n : ℕ) : Type 0 where
-  pub glue : OfGlue (files ++ area) (s .isolations) ports isolated
-  pub report : OfReport files area (s .retentions)
+pub record OfTexts (files area : Bytes) (xs : Isolations) (rs : Retentions) (ports : List ℕ) (isolated m : ℕ) (ends : List ℕ) (n : ℕ) : Type 0 where
+  pub glue : OfGlue (files ++ area) xs ports isolated
+  pub report : OfReport files area rs
   pub elements : m ≤ 65536
   pub paths : n ≤ length ends
 
 -- ---- what is left, by stored names: the texts with both supplies, the line without
 
-pub record Texts (mem : Bytes) (scope : List Bytes) (s : State) (ports : List ℕ) (isolated : ℕ) (d : Domain) (p g : Below) (elements paths : List Bytes) (n : ℕ) (o : Out) (glue : Bytes) (o′ : Out) (report : Bytes) (r : Told) : Type 0 where
+pub record Texts (mem : Bytes) (scope : List Bytes) (xs : Isolations) (rs : Retentions) (ports : List ℕ) (isolated : ℕ) (d : Domain) (p g : Below) (elements paths : List Bytes) (n : ℕ) (o : Out) (glue : Bytes) (o′ : Out) (report : Bytes) (r : Told) : Type 0 where
   pub over : r .over ≡ false
-  pub glue-is : glue ▸ r .glue ≡ emit o (glueText (string mem (d .name)) (belowOf mem p) (belowOf mem g) (each (checkText scope (strategyAt mem (s .isolations)) (string mem (d .name))) (ownIn mem (s .isolations) (d .name) ports isolated)) paths)
-  pub report-is : report ▸ r .report ≡ emit o′ (poweredText (string mem (d .name)) elements (belowOf mem p) (belowOf mem g) n (map (retainedPath scope) (ownEntries mem (s .retentions) (d .name))))
+  pub glue-is : glue ▸ r .glue ≡ emit o (glueText (string mem (d .name)) (belowOf mem p) (belowOf mem g) (each (checkText scope (strategyAt mem xs) (string mem (d .name))) (ownIn mem xs (d .name) ports isolated)) paths)
+  pub report-is : report ▸ r .report ≡ emit o′ (poweredText (string mem (d .name)) elements (belowOf mem p) (belowOf mem g) n (map (retainedPath scope) (ownEntries mem rs (d .name))))
 
 pub record Bare (mem : Bytes) (d : Domain) (glue : ℕ) (o : Out) (report : Bytes) (r : Told) : Type 0 where
   pub over : r .over ≡ false

@@ -16,7 +16,10 @@ use domainpaths::lost;
 use domainreport::below_name;
 use domainreport::powered_line;
 use domainreport::unpowered_line;
+use modtable::part::low;
 use store::state::Domain;
+use store::state::Isolations;
+use store::state::Retentions;
 use store::state::State;
 use store::stored::Below;
 use store::stored::MaybeBelow;
@@ -36,7 +39,8 @@ fn texts<'a>(
     path: &[u8],
     from: usize,
     top: &[u8],
-    s: State,
+    xs: Isolations,
+    rs: Retentions,
     ports: &[u32],
     isolated: usize,
     d: Domain,
@@ -51,13 +55,12 @@ fn texts<'a>(
     report: &mut [u8],
     at: Told,
 ) -> Told
-    requires { ⌜ OfTexts (now files) (now area) s (now ports) isolated m (now ends) n ⌝ }
-    ensures { λ r. ⌜ Texts (now (files .entry) ++ now (area .entry)) (parts (now (path .entry)) from) s (now (ports .entry)) isolated d p g (tableNames (now (files .entry) ++ now (area .entry)) (now (elements .entry)) m) (below (parts (now (path .entry)) from) (pathsOf (now (text .entry)) (now (ends .entry)) n)) n (now (glue .entry) ▸ at .glue) (now (glue .exit)) (now (report .entry) ▸ at .report) (now (report .exit)) r ⌝ }
+    requires { ⌜ OfTexts (now files) (now area) xs rs (now ports) isolated m (now ends) n ⌝ }
+    ensures { λ r. ⌜ Texts (now (files .entry) ++ now (area .entry)) (parts (now (path .entry)) from) xs rs (now (ports .entry)) isolated d p g (tableNames (now (files .entry) ++ now (area .entry)) (now (elements .entry)) m) (below (parts (now (path .entry)) from) (pathsOf (now (text .entry)) (now (ends .entry)) n)) n (now (glue .entry) ▸ at .glue) (now (glue .exit)) (now (report .entry) ▸ at .report) (now (report .exit)) r ⌝ }
 {
     let power = below_name(files, area, p);
     let ground = below_name(files, area, g);
     let name = d.name;
-    let xs = s.isolations;
     let a = powered_glue(
         glue,
         at.glue,
@@ -77,7 +80,6 @@ fn texts<'a>(
         power,
         ground,
     );
-    let rs = s.retentions;
     let b = powered_line(
         report,
         at.report,
@@ -132,6 +134,7 @@ fn supplied_by<'a>(
     requires { ⌜ (OfDomains (now job) (now nums) count k (now table) (now files) (now area) (now path) from prefix s (now retained) kept (now ports) isolated × OfOne (now files) (now area) d) × (WalkRoom (now tail) (now text) (now ends) × (325 ≤ length (now elements))) ⌝ }
     ensures { λ r. ⌜ SuppliedTold (now (job .entry)) (now (nums .entry)) count k (now (files .entry)) (now (area .entry)) (now (path .entry)) from (now (top .entry)) s (now (ports .entry)) isolated d p g (now (glue .entry) ▸ at .glue) (now (glue .exit)) (now (report .entry) ▸ at .report) (now (report .exit)) r ⌝ }
 {
+    let stamp = low(at.report);
     let l = lost(
         job,
         nums,
@@ -148,6 +151,7 @@ fn supplied_by<'a>(
         tail,
         text,
         ends,
+        stamp,
     );
     let w = l.walk;
     if w.over {
@@ -157,6 +161,8 @@ fn supplied_by<'a>(
             report: 0,
         };
     }
+    let xs = s.isolations;
+    let rs = s.retentions;
     texts(
         job,
         files,
@@ -164,7 +170,8 @@ fn supplied_by<'a>(
         path,
         from,
         top,
-        s,
+        xs,
+        rs,
         ports,
         isolated,
         d,

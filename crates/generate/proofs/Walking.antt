@@ -7,7 +7,7 @@ use lib.ListN.{length}
 use Rattle.text.specs.Ascii.{Bytes}
 use Rattle.store.specs.declared.state.State.{State}
 use Rattle.store.specs.declared.state.Retentions.{Retentions}
-use Rattle.modtable.specs.Table.{Tabled}
+use Rattle.modtable.specs.Table.{names-at, Tabled}
 use Rattle.modtable.specs.Making.{MakeGiven}
 use Rattle.alike.specs.Ruled.{Ruled}
 use Rattle.domainlists.specs.Lists.{allEntries, OfRetentions, Names}
@@ -17,8 +17,17 @@ use Rattle.generate.specs.Generates.{Asks}
 use Rattle.generate.specs.Steps.{Prefixed, Retains}
 
 module _ (job : Bytes) (nums : List ℕ) (count k : ℕ) (files area path : Bytes) (s : State) (a : Asks job nums count k files area path s) where
-  pub make-asked : (inputs table : List ℕ) → 384 ≤ length inputs → 73984 ≤ length table → MakeGiven job nums count inputs table
+  make-asked : (inputs table : List ℕ) → 384 ≤ length inputs → names-at count ≤ length table → MakeGiven job nums count inputs table
   make-asked inputs table hi ht = record { inputs-long = hi; few = a .few; long = ht; small = omega (arith, a .job-short); limited = a .within }
+
+  pub make-few : (inputs table : List ℕ) → 384 ≤ length inputs → count ≤ 8 → 4624 ≤ length table → MakeGiven job nums count inputs table
+  make-few inputs table hi h ht = make-asked inputs table hi (omega (arith, h, ht))
+
+  pub make-some : (inputs table : List ℕ) → 384 ≤ length inputs → count ≤ 40 → 23120 ≤ length table → MakeGiven job nums count inputs table
+  make-some inputs table hi h ht = make-asked inputs table hi (omega (arith, h, ht))
+
+  pub make-many : (inputs table : List ℕ) → 384 ≤ length inputs → 73984 ≤ length table → MakeGiven job nums count inputs table
+  make-many inputs table hi ht = make-asked inputs table hi (omega (arith, a .few, ht))
 
   module _ (rs : Retentions) (e : rs ≡ s .retentions) where
     pub retained-asked : (kept : List ℕ) → 5120 ≤ length kept → OfRetentions files area rs kept

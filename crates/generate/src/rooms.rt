@@ -1,4 +1,5 @@
 // The domains, by a table of the modules, the retained entries, and room for the walks.
+ghost use Prim.Native.Nat.{_≤_};
 ghost use mathlib.Core.Path.{_≡_};
 ghost use mathlib.Core.Bool.{false};
 ghost use mathlib.Core.List.{_++_};
@@ -116,8 +117,96 @@ fn over_table<'a>(
     )
 }
 
-// The glue and the report lines of all domains. `ports` has m isolated ports.
-pub fn walked<'a>(
+// The glue and the report lines of all domains, of at most 8 modules. `ports` has m isolated ports.
+fn walked_few<'a>(
+    job: &[u8],
+    nums: &[u32],
+    count: usize,
+    k: usize,
+    files: &'a [u8],
+    area: &'a [u8],
+    path: &[u8],
+    from: usize,
+    top: &[u8],
+    s: State,
+    ports: &[u32],
+    m: usize,
+    glue: &mut [u8],
+    report: &mut [u8],
+    at: Told,
+) -> Told
+    requires { ⌜ (Asks (now job) (now nums) count k (now files) (now area) (now path) s × (count ≤ 8)) × (Ruled (now files ++ now area) (s .isolations) (now ports) m × (at .over ≡ false)) ⌝ }
+    ensures { λ r. ⌜ AllTold (now (job .entry)) (now (nums .entry)) count k (now (files .entry)) (now (area .entry)) (now (path .entry)) from (now (top .entry)) s (now (ports .entry)) m (now (glue .entry) ▸ at .glue) (now (glue .exit)) (now (report .entry) ▸ at .report) (now (report .exit)) r ⌝ }
+{
+    let mut inputs: [u32; 384] = [0; 384];
+    let mut table: [u32; 4624] = [0; 4624];
+    make(job, nums, count, &mut inputs, &mut table);
+    over_table(
+        job,
+        nums,
+        count,
+        k,
+        &table,
+        files,
+        area,
+        path,
+        from,
+        top,
+        s,
+        ports,
+        m,
+        glue,
+        report,
+        at,
+    )
+}
+
+// The same, of at most 40 modules.
+fn walked_some<'a>(
+    job: &[u8],
+    nums: &[u32],
+    count: usize,
+    k: usize,
+    files: &'a [u8],
+    area: &'a [u8],
+    path: &[u8],
+    from: usize,
+    top: &[u8],
+    s: State,
+    ports: &[u32],
+    m: usize,
+    glue: &mut [u8],
+    report: &mut [u8],
+    at: Told,
+) -> Told
+    requires { ⌜ (Asks (now job) (now nums) count k (now files) (now area) (now path) s × (count ≤ 40)) × (Ruled (now files ++ now area) (s .isolations) (now ports) m × (at .over ≡ false)) ⌝ }
+    ensures { λ r. ⌜ AllTold (now (job .entry)) (now (nums .entry)) count k (now (files .entry)) (now (area .entry)) (now (path .entry)) from (now (top .entry)) s (now (ports .entry)) m (now (glue .entry) ▸ at .glue) (now (glue .exit)) (now (report .entry) ▸ at .report) (now (report .exit)) r ⌝ }
+{
+    let mut inputs: [u32; 384] = [0; 384];
+    let mut table: [u32; 23120] = [0; 23120];
+    make(job, nums, count, &mut inputs, &mut table);
+    over_table(
+        job,
+        nums,
+        count,
+        k,
+        &table,
+        files,
+        area,
+        path,
+        from,
+        top,
+        s,
+        ports,
+        m,
+        glue,
+        report,
+        at,
+    )
+}
+
+// The same, of all that a job can have.
+fn walked_many<'a>(
     job: &[u8],
     nums: &[u32],
     count: usize,
@@ -146,6 +235,84 @@ pub fn walked<'a>(
         count,
         k,
         &table,
+        files,
+        area,
+        path,
+        from,
+        top,
+        s,
+        ports,
+        m,
+        glue,
+        report,
+        at,
+    )
+}
+
+// The same, of a job's modules.
+pub fn walked<'a>(
+    job: &[u8],
+    nums: &[u32],
+    count: usize,
+    k: usize,
+    files: &'a [u8],
+    area: &'a [u8],
+    path: &[u8],
+    from: usize,
+    top: &[u8],
+    s: State,
+    ports: &[u32],
+    m: usize,
+    glue: &mut [u8],
+    report: &mut [u8],
+    at: Told,
+) -> Told
+    requires { ⌜ Asks (now job) (now nums) count k (now files) (now area) (now path) s × (Ruled (now files ++ now area) (s .isolations) (now ports) m × (at .over ≡ false)) ⌝ }
+    ensures { λ r. ⌜ AllTold (now (job .entry)) (now (nums .entry)) count k (now (files .entry)) (now (area .entry)) (now (path .entry)) from (now (top .entry)) s (now (ports .entry)) m (now (glue .entry) ▸ at .glue) (now (glue .exit)) (now (report .entry) ▸ at .report) (now (report .exit)) r ⌝ }
+{
+    if count <= 8 {
+        return walked_few(
+            job,
+            nums,
+            count,
+            k,
+            files,
+            area,
+            path,
+            from,
+            top,
+            s,
+            ports,
+            m,
+            glue,
+            report,
+            at,
+        );
+    }
+    if count <= 40 {
+        return walked_some(
+            job,
+            nums,
+            count,
+            k,
+            files,
+            area,
+            path,
+            from,
+            top,
+            s,
+            ports,
+            m,
+            glue,
+            report,
+            at,
+        );
+    }
+    walked_many(
+        job,
+        nums,
+        count,
+        k,
         files,
         area,
         path,

@@ -136,3 +136,15 @@ module _ (job mem : Bytes) (warn : Bool) (at : ℕ) (out₀ : Bytes) (ports₀ :
         go false e =
             turn-end job mem warn (startAt at) out₀ (isolationGain d m ds is []) r out′ ports′ stay
             (turn-next job mem warn (startAt at) out₀ (isolationGain d m ds is []) c out ports (roundGain d m ds false 0 is) then (roundGain d m ds false 0 is) stay last r out′ ports′ b e) (λ l. refl)
+
+-- ---- no strategies
+
+module _ (d : List Module) (m : Module) (ds : List Domainʳ) (mem : Bytes) (t : Isolations) (none : t .n ≡ 0) where
+  gain-none : (l : List Kept) → isolationGain d m ds (map (isolationOf mem) (take (t .n) (t .all))) l ≡ stay l
+  unfolding isolationGain roundGain
+  gain-none l = rw none
+
+  pub without-strategies : (job : Bytes) (warn : Bool) (at : ℕ) (out : Bytes) (ports : List ℕ) → 5120 ≤ length ports → Answer job mem warn (startAt at) out (isolationGain d m ds (map (isolationOf mem) (take (t .n) (t .all))) []) (startAt at) out ports
+  without-strategies job warn at out ports room =
+      turn-end job mem warn (startAt at) out (isolationGain d m ds (map (isolationOf mem) (take (t .n) (t .all))) []) (startAt at) out ports (isolationGain d m ds (map (isolationOf mem) (take (t .n) (t .all))))
+      (rw (kept-none job mem ports 0) at (turn-start job mem warn (startAt at) out ports (isolationGain d m ds (map (isolationOf mem) (take (t .n) (t .all)))) (start-ready at ports room))) gain-none

@@ -271,6 +271,9 @@ pub fn isolation<'a>(
         warnings: 0,
         at: at,
     };
+    if t.n == 0 {
+        return c;
+    }
     let a = round(
         out,
         warn,

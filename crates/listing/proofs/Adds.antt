@@ -68,8 +68,8 @@ pub ruleset lefts = (needs, left-start, left-none, left-here, left-on)
 
 -- ---- by the flags
 
-pub flag-unset : (path text : Bytes) (ends : List ℕ) (count flag : ℕ) → flag ≡ flagPlace path → Flagged ends (pathsOf text ends count) → (x : ℕ) → x ≡ getD ends flag 0 → x ≡ 0 → false ≡ isIn path (pathsOf text ends count)
-flag-unset path text ends count flag ef fl x ex z = sym (fl path (rw (← ef, ← ex) z))
+pub flag-unset : (path text : Bytes) (stamp : ℕ) (ends : List ℕ) (count flag : ℕ) → flag ≡ flagPlace path → Flagged stamp ends (pathsOf text ends count) → (x : ℕ) → x ≡ getD ends flag 0 → (x ≡ stamp → ⊥) → false ≡ isIn path (pathsOf text ends count)
+flag-unset path text stamp ends count flag ef fl x ex z = sym (fl path (rw (← ef, ← ex) z))
 
 pub ruleset flags = (needs, flag-unset)
 
@@ -149,12 +149,12 @@ module _ (mem : Bytes) (e : Name) (elen : ℕ) (tail name : Bytes) (flag prefix 
         end-is = omega (arith, path-long)
 
         abbrev ends′ : List ℕ
-        ends′ = set (set ends (s .count) end) flag 1
+        ends′ = set (set ends (s .count) end) flag (s .stamp)
 
         ends-are : take (s .count + 1) ends′ ≡ take (s .count) ends ++ (end ∷ [])
         ends-are =
             ap (λ n. take n ends′) (add-one (s .count))
-            ∙ take-set-le (suc (s .count)) (set ends (s .count) end) flag 1 (omega (arith, rd .few, m, g .flag-is))
+            ∙ take-set-le (suc (s .count)) (set ends (s .count) end) flag (s .stamp) (omega (arith, rd .few, m, g .flag-is))
             ∙ take-suc-set ends (s .count) end new-room
 
         new-paths : pathsOf text′ ends′ (s .count + 1) ≡ old ++ (path ∷ [])
@@ -165,7 +165,7 @@ module _ (mem : Bytes) (e : Name) (elen : ℕ) (tail name : Bytes) (flag prefix 
             ∙ ap (λ (x : List Bytes). x ++ (path ∷ [])) (cut-same text text′ 0 (take (s .count) ends) (s .end) (rd .ascends) (front-kept text text′ path (s .end) o room f))
 
         abbrev made : Walk
-        made = record { over = false; entered = s .entered; count = s .count + 1; end = end; used = s .used + (prefix + (elen + (length tail + length name))) }
+        made = record { over = false; entered = s .entered; count = s .count + 1; end = end; used = s .used + (prefix + (elen + (length tail + length name))); stamp = s .stamp }
 
         pub new-put : Answer prefix (s .entered) (old ++ (path ∷ [])) made text′ ends′
         new-put =
@@ -179,8 +179,8 @@ module _ (mem : Bytes) (e : Name) (elen : ℕ) (tail name : Bytes) (flag prefix 
                 few = omega (arith, rd .few, m);
                 entered-few = rd .entered-few;
                 text-long = omega (arith, rd .text-long, kept);
-                ends-long = omega (arith, rd .ends-long, length-set ends (s .count) end, length-set (set ends (s .count) end) flag 1);
-                flagged = rw (new-paths, g .flag-is) (flagged-on ends old path (s .count) end (rd .flagged) (omega (arith, rd .few, m)) (rd .ends-long));
+                ends-long = omega (arith, rd .ends-long, length-set ends (s .count) end, length-set (set ends (s .count) end) flag (s .stamp));
+                flagged = rw (new-paths, g .flag-is) (flagged-on (s .stamp) ends old path (s .count) end (rd .flagged) (omega (arith, rd .few, m)) (rd .ends-long));
                 small = rd .small;
               };
               entered-is = λ q. refl;
@@ -196,7 +196,7 @@ module _ (mem : Bytes) (e : Name) (elen : ℕ) (tail name : Bytes) (sz : Sized m
   pub count-fits : s .count ≤ length ends
   count-fits = omega (arith, rd .few, rd .ends-long)
 
-  pub flags-stand : Flagged ends (pathsOf text ends (s .count))
+  pub flags-stand : Flagged (s .stamp) ends (pathsOf text ends (s .count))
   flags-stand = rd .flagged
 
   module _ (x : ℕ) (ex : x ≡ number num name) where

@@ -45,9 +45,9 @@ flag-count = 16384
 abbrev pub flagPlace : Bytes → ℕ
 flagPlace p = most-paths + number 0 p % flag-count
 
--- a path whose flag is not set is none of the list
-abbrev pub Flagged : List ℕ → List Bytes → Type 0
-Flagged ends ps = (p : Bytes) → getD ends (flagPlace p) 0 ≡ 0 → isIn p ps ≡ false
+-- a path whose flag has not the walk's stamp is none of the list
+abbrev pub Flagged : ℕ → List ℕ → List Bytes → Type 0
+Flagged stamp ends ps = (p : Bytes) → (getD ends (flagPlace p) 0 ≡ stamp → ⊥) → isIn p ps ≡ false
 
 -- ---- the limits
 
@@ -63,11 +63,11 @@ pub record Within (prefix v : ℕ) (ps : List Bytes) : Type 0 where
 
 -- ---- how far a walk has come
 
-abbrev pub nowhere : Walk
-nowhere = record { over = false; entered = 0; count = 0; end = 0; used = 0 }
+abbrev pub nowhere : ℕ → Walk
+nowhere stamp = record { over = false; entered = 0; count = 0; end = 0; used = 0; stamp = stamp }
 
 abbrev pub past : Walk
-past = record { over = true; entered = 0; count = 0; end = 0; used = 0 }
+past = record { over = true; entered = 0; count = 0; end = 0; used = 0; stamp = 0 }
 
 -- a walk that has passed no limit, with its list in the text and the ends
 pub record Ready (prefix : ℕ) (s : Walk) (text : Bytes) (ends : List ℕ) : Type 0 where
@@ -80,7 +80,7 @@ pub record Ready (prefix : ℕ) (s : Walk) (text : Bytes) (ends : List ℕ) : Ty
   pub entered-few : s .entered ≤ most-entered
   pub text-long : most-path-bytes ≤ length text
   pub ends-long : most-paths + flag-count ≤ length ends
-  pub flagged : Flagged ends (pathsOf text ends (s .count))
+  pub flagged : Flagged (s .stamp) ends (pathsOf text ends (s .count))
   pub small : prefix < 2 ^ 32
 
 -- for a path that the list does not have

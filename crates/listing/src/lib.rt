@@ -1,5 +1,5 @@
-// The paths that a walk lists: one behind the other in a lent text, with their ends in lent numbers; behind the ends stand flags, one of which is set for
-// each listed path, by the path's number. A path is added where the list does not have it yet, within the limits of a domain's walk.
+// The paths that a walk lists: one behind the other in a lent text, with their ends in lent numbers; behind the ends stand flags, one of which gets the
+// walk's stamp for each listed path, by the path's number. A path is added where the list does not have it yet, within the limits of a domain's walk.
 ghost use mathlib.Core.Path.{_≡_};
 ghost use mathlib.Core.List.{[], _∷_, _++_};
 ghost use Prim.Native.Nat.{_≤_};
@@ -16,18 +16,19 @@ use text::part::part;
 use text::part::place;
 
 // How far a walk has come: whether it passed a limit; else the modules entered, the number of its paths, where the last one ends, and the bytes
-// of all with what the scope's path adds to each.
+// of all with what the scope's path adds to each; and what it sets flags to.
 pub struct Walk {
     pub over: bool,
     pub entered: usize,
     pub count: usize,
     pub end: usize,
     pub used: usize,
+    pub stamp: u32,
 }
 
 // Before the first module.
-pub fn start() -> Walk
-    ensures { λ r. ⌜ r ≡ nowhere ⌝ }
+pub fn start(stamp: u32) -> Walk
+    ensures { λ r. ⌜ r ≡ nowhere stamp ⌝ }
 {
     Walk {
         over: false,
@@ -35,6 +36,7 @@ pub fn start() -> Walk
         count: 0,
         end: 0,
         used: 0,
+        stamp,
     }
 }
 
@@ -48,6 +50,7 @@ pub fn refused() -> Walk
         count: 0,
         end: 0,
         used: 0,
+        stamp: 0,
     }
 }
 
@@ -80,7 +83,7 @@ fn listed(
     false
 }
 
-// The same, where the flags may be asked first: a path whose flag is not set is not listed.
+// The same, where the flags may be asked first: a path whose flag has not the stamp is not listed.
 fn flagged(
     files: &[u8],
     area: &[u8],
@@ -89,14 +92,15 @@ fn flagged(
     tail: &[u8],
     name: &[u8],
     flag: usize,
+    stamp: u32,
     text: &[u8],
     ends: &[u32],
     count: usize,
 ) -> bool
-    requires { ⌜ Sized (now files ++ now area) e elen (now tail) (now name) × ((count ≤ length (now ends)) × ((flag ≡ flagPlace (dotted (nameOf (now files ++ now area) e) ++ (now tail ++ now name))) × Flagged (now ends) (pathsOf (now text) (now ends) count))) ⌝ }
+    requires { ⌜ Sized (now files ++ now area) e elen (now tail) (now name) × ((count ≤ length (now ends)) × ((flag ≡ flagPlace (dotted (nameOf (now files ++ now area) e) ++ (now tail ++ now name))) × Flagged stamp (now ends) (pathsOf (now text) (now ends) count))) ⌝ }
     ensures { λ r. ⌜ r ≡ isIn (dotted (nameOf (now (files .entry) ++ now (area .entry)) e) ++ (now (tail .entry) ++ now (name .entry))) (pathsOf (now (text .entry)) (now (ends .entry)) count) ⌝ }
 {
-    if num(ends, flag) == 0 {
+    if num(ends, flag) != stamp {
         return false;
     }
     listed(files, area, e, elen, tail, name, text, ends, count)
@@ -120,6 +124,7 @@ fn add_new(
     ensures { λ r. ⌜ Answer prefix (s .entered) (pathsOf (now (text .entry)) (now (ends .entry)) (s .count) ++ ((dotted (nameOf (now (files .entry) ++ now (area .entry)) e) ++ (now (tail .entry) ++ now (name .entry))) ∷ [])) r (now (text .exit)) (now (ends .exit)) ⌝ }
 {
     let count = s.count;
+    let stamp = s.stamp;
     if count == 1024 {
         return refused();
     }
@@ -132,13 +137,14 @@ fn add_new(
     let end = from + len;
     paths::path::put_path(text, from, files, area, e, tail, name);
     ends[count] = end as u32;
-    ends[flag] = 1;
+    ends[flag] = stamp;
     Walk {
         over: false,
         entered: s.entered,
         count: count + 1,
         end,
         used,
+        stamp,
     }
 }
 
@@ -162,7 +168,20 @@ pub fn add(
 {
     let flag = 1024 + pathnumber::number_on(number, name) % 16384;
     let count = s.count;
-    if flagged(files, area, e, elen, tail, name, flag, text, ends, count) {
+    let stamp = s.stamp;
+    if flagged(
+        files,
+        area,
+        e,
+        elen,
+        tail,
+        name,
+        flag,
+        stamp,
+        text,
+        ends,
+        count,
+    ) {
         return s;
     }
     add_new(

@@ -7,7 +7,7 @@ use Rattle.text.specs.Ascii.{Bytes}
 use Rattle.jobindex.specs.Index.{num, moduleRow, rows}
 use Rattle.lookup.specs.Rows.{modules}
 use Rattle.design.specs.Ports.{inputPorts, losable}
-use Rattle.modtable.specs.Table.{names-at, ways-at, way-place, table-size, namesOf, waysOf, inputIn, waysDown}
+use Rattle.modtable.specs.Table.{names-at, ways-at, way-place, namesOf, waysOf, inputIn, waysDown}
 
 -- "per module ports 64, declarations 128, instances 64": a module loses at most 192 names, and has at most 192 non-output ports
 pub record Limited (job : Bytes) (index : List ℕ) (k : ℕ) : Type 0 where
@@ -32,7 +32,7 @@ pub record InputsPut (job : Bytes) (index : List ℕ) (k : ℕ) (inputs : List �
 pub record NamesGiven (job : Bytes) (index : List ℕ) (k : ℕ) (inputs : List ℕ) (n : ℕ) (table : List ℕ) : Type 0 where
   pub put : InputsPut job index k inputs n
   pub row : k < 128
-  pub long : table-size ≤ length table
+  pub long : names-at (k + 1) ≤ length table
   pub small : length job < 2 ^ 32
   pub few : length (losable (moduleRow job index k)) ≤ 192
 
@@ -46,7 +46,7 @@ pub record NamesPut (job : Bytes) (index : List ℕ) (k : ℕ) (table table′ :
 pub record WaysGiven (job : Bytes) (index : List ℕ) (count k : ℕ) (table : List ℕ) : Type 0 where
   pub count-few : count ≤ 128
   pub row : k < 128
-  pub long : table-size ≤ length table
+  pub long : names-at (k + 1) ≤ length table
   pub small : length job < 2 ^ 32
   pub few : length (moduleRow job index k .insts) ≤ 64
 
@@ -61,6 +61,6 @@ pub record WaysPut (job : Bytes) (index : List ℕ) (count k : ℕ) (table table
 pub record MakeGiven (job : Bytes) (index : List ℕ) (count : ℕ) (inputs table : List ℕ) : Type 0 where
   pub inputs-long : 384 ≤ length inputs
   pub few : count ≤ 128
-  pub long : table-size ≤ length table
+  pub long : names-at count ≤ length table
   pub small : length job < 2 ^ 32
   pub limited : (k : ℕ) → k < count → Limited job index k

@@ -31,9 +31,6 @@ ways-at k = 578 * k + 385
 abbrev pub way-place : ℕ → ℕ → ℕ
 way-place k j = 578 * k + 386 + 3 * j
 
-abbrev pub table-size : ℕ
-table-size = 73984
-
 -- ---- what the numbers stand for
 
 -- a part of the job

@@ -13,9 +13,8 @@ ghost use Rattle.names.specs.Name.{named};
 ghost use Rattle.nametable.specs.Table.{rowPut, Stores, tableNames};
 ghost use Rattle.walk.specs.Walk.{domainList, domainEntered};
 ghost use Rattle.paths.specs.Pieces.{entriesBelow};
-ghost use Rattle.listing.specs.Listing.{Answer as Listing·Answer};
 ghost use Rattle.corrupt.specs.Corrupt.{DomainGiven};
-ghost use Rattle.walkc.specs.Counted.{moduleCount, walkBy};
+ghost use Rattle.walkc.specs.Counted.{moduleCount, Walked};
 use job::Answer;
 use names::name::Name;
 use spans::span::Span;
@@ -100,7 +99,7 @@ pub extern "C" fn walkc_paths(
     used: &mut usize,
 ) -> bool
     requires { ⌜ DomainGiven (now job) (now index) count k (now modules) (now files) (now area) n m prefix (now tail) (now text) (now ends) ⌝ }
-    ensures { λ r. ⌜ Listing·Answer prefix (domainEntered (Rows·modules (now (job .entry)) (now (index .entry)) count) (moduleRow (now (job .entry)) (now (index .entry)) k) [] (entriesBelow below (tableNames (now (files .entry) ++ now (area .entry)) (now (retained .entry)) n)) (tableNames (now (files .entry) ++ now (area .entry)) (now (elements .entry)) m)) (domainList (Rows·modules (now (job .entry)) (now (index .entry)) count) (moduleRow (now (job .entry)) (now (index .entry)) k) [] (entriesBelow below (tableNames (now (files .entry) ++ now (area .entry)) (now (retained .entry)) n)) (tableNames (now (files .entry) ++ now (area .entry)) (now (elements .entry)) m)) (walkBy r (now (entered .exit)) (now (paths .exit)) (now (end .exit)) (now (used .exit))) (now (text .exit)) (now (ends .exit)) ⌝ }
+    ensures { λ r. ⌜ Walked prefix (domainEntered (Rows·modules (now (job .entry)) (now (index .entry)) count) (moduleRow (now (job .entry)) (now (index .entry)) k) [] (entriesBelow below (tableNames (now (files .entry) ++ now (area .entry)) (now (retained .entry)) n)) (tableNames (now (files .entry) ++ now (area .entry)) (now (elements .entry)) m)) (domainList (Rows·modules (now (job .entry)) (now (index .entry)) count) (moduleRow (now (job .entry)) (now (index .entry)) k) [] (entriesBelow below (tableNames (now (files .entry) ++ now (area .entry)) (now (retained .entry)) n)) (tableNames (now (files .entry) ++ now (area .entry)) (now (elements .entry)) m)) r (now (entered .exit)) (now (paths .exit)) (now (end .exit)) (now (used .exit)) (now (text .exit)) (now (ends .exit)) ⌝ }
 {
     let w = corrupt::domain_paths(
         job,
@@ -119,6 +118,7 @@ pub extern "C" fn walkc_paths(
         tail,
         text,
         ends,
+        1,
     );
     *entered = w.entered;
     *paths = w.count;

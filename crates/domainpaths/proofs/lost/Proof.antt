@@ -14,4 +14,4 @@ lost-spec =
     (λ c. search needs)  -- same-length-2
     (λ c. search needs)  -- same-length-3
     (λ c. search needs)  -- same-length-4
-    (λ c. search walk-loses))  -- returns
+    (λ c. walk-loses _ _ _ _ _ _ _ _ _ _ _ _ _ (c .before .before .before .before .before .before .before .before .before .before .before .before .before .before .before .before .before .before .before .before .before .before .before .before .before .pre .0) _ _ _ _ _ _ _ _ _ (c .before .before .before .before .before .before .domain-paths .ensures) (c .before .before .before .before .before .before .before .before .before .before .before .before .before .domain-elements .ensures)))  -- returns

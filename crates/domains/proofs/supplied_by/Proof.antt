@@ -5,21 +5,22 @@ use Rattle.domains.proofs.supplied_by.Statement.{statement}
 use Rattle.domains.proofs.supplied_by.Tie as tie
 
 lost-requires : tie.Need-lost-requires
-lost-requires c κs = (walk-asked _ _ _ _ _ _ _ _ _ _ _ _ _ _ _ (c .before .before .before .before .before .before .before .before .before .before .before .before .before .before .before .before .before .before .before .pre .0 .0) _ _ _ _ (c .before .before .before .before .before .before .before .before .before .before .before .before .before .before .before .before .before .before .before .pre .0 .1) (c .before .before .before .before .before .before .before .before .before .before .before .before .before .before .before .before .before .before .before .pre .1 .0), c .before .before .before .before .before .before .before .before .before .before .before .before .before .before .before .before .before .before .before .pre .1 .1)
+lost-requires c κs = (walk-asked _ _ _ _ _ _ _ _ _ _ _ _ _ _ _ (c .before .before .before .before .before .before .before .before .before .before .before .before .before .before .before .before .before .before .before .before .pre .0 .0) _ _ _ _ (c .before .before .before .before .before .before .before .before .before .before .before .before .before .before .before .before .before .before .before .before .pre .0 .1) (c .before .before .before .before .before .before .before .before .before .before .before .before .before .before .before .before .before .before .before .before .pre .1 .0), c .before .before .before .before .before .before .before .before .before .before .before .before .before .before .before .before .before .before .before .before .pre .1 .1)
 
 returns : tie.Need-returns
-returns c = supplied-over _ _ _ _ _ _ _ _ _ _ _ _ _ _ _ (c .before .before .before .before .before .before .before .before .before .before .before .before .before .before .before .before .before .before .before .before .before .before .before .before .before .before .before .before .before .before .pre .0 .0) _ _ _ _ _ (c .before .before .before .before .before .before .before .before .before .before .lost .ensures) _ _ _ _ _ _ _ (c .if1 .taken)
+returns c = supplied-over _ _ _ _ _ _ _ _ _ _ _ _ _ _ _ (c .before .before .before .before .before .before .before .before .before .before .before .before .before .before .before .before .before .before .before .before .before .before .before .before .before .before .before .before .before .before .before .pre .0 .0) _ _ _ _ _ (c .before .before .before .before .before .before .before .before .before .before .lost .ensures) _ _ _ _ _ _ _ (c .if1 .taken)
 
 texts-requires : tie.Need-texts-requires
-texts-requires c κs = texts-asked _ _ _ _ _ _ _ _ _ _ _ _ _ _ _ (c .before .before .before .before .before .before .before .before .before .before .before .before .before .before .before .before .before .before .before .before .before .before .before .before .before .before .before .before .before .before .before .before .before .before .before .pre .0 .0) _ _ _ _ _ (c .before .before .before .before .before .before .before .before .before .before .before .before .before .before .before .lost .ensures) (c .before .before .before .before .before .if1 .left)
+texts-requires c κs = texts-asked _ _ _ _ _ _ _ _ _ _ _ _ _ _ _ (c .before .before .before .before .before .before .before .before .before .before .before .before .before .before .before .before .before .before .before .before .before .before .before .before .before .before .before .before .before .before .before .before .before .before .before .before .before .before .pre .0 .0) _ _ _ _ _ (c .before .before .before .before .before .before .before .before .before .before .before .before .before .before .before .before .before .lost .ensures) (c .before .before .before .before .before .before .before .if1 .left)
 
 returns-2 : tie.Need-returns-2
-returns-2 c = supplied-texts _ _ _ _ _ _ _ _ _ _ _ _ _ _ _ (c .before .before .before .before .before .before .before .before .before .before .before .before .before .before .before .before .before .before .before .before .before .before .before .before .before .before .before .before .before .before .before .before .before .before .before .before .before .before .before .before .pre .0 .0) _ _ _ _ _ (c .before .before .before .before .before .before .before .before .before .before .before .before .before .before .before .before .before .before .before .before .lost .ensures) _ _ _ _ _ _ _ _ (c .before .before .before .before .texts .ensures) (c .before .before .before .before .before .before .before .before .before .before .if1 .left)
+returns-2 c = supplied-texts _ _ _ _ _ _ _ _ _ _ _ _ _ _ _ (c .before .before .before .before .before .before .before .before .before .before .before .before .before .before .before .before .before .before .before .before .before .before .before .before .before .before .before .before .before .before .before .before .before .before .before .before .before .before .before .before .before .before .before .pre .0 .0) _ _ _ _ _ (c .before .before .before .before .before .before .before .before .before .before .before .before .before .before .before .before .before .before .before .before .before .before .lost .ensures) _ _ _ _ _ _ _ _ (c .before .before .before .before .texts .ensures) (c .before .before .before .before .before .before .before .before .before .before .before .before .if1 .left)
 
 pub supplied-by-spec : {M : Type 1} → statement M
 supplied-by-spec =
     tie.close
     (tie.spec
+    (λ c κs. search needs)  -- low-requires
     lost-requires
     (λ c. search needs)  -- same-length
     (λ c. search needs)  -- same-length-2

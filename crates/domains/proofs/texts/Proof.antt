@@ -5,13 +5,13 @@ use Rattle.domains.proofs.texts.Statement.{statement}
 use Rattle.domains.proofs.texts.Tie as tie
 
 powered-glue-requires : tie.Need-powered-glue-requires
-powered-glue-requires c κs = texts-glue _ _ _ _ _ _ _ _ (c .before .before .before .before .before .before .before .before .before .before .before .before .before .before .before .before .pre)
+powered-glue-requires c κs = texts-glue _ _ _ _ _ _ _ _ _ (c .before .before .before .before .before .before .before .before .before .before .before .before .before .before .before .pre)
 
 powered-line-requires : tie.Need-powered-line-requires
-powered-line-requires c κs = texts-report _ _ _ _ _ _ _ _ (c .before .before .before .before .before .before .before .before .before .before .before .before .before .before .before .before .before .before .before .before .before .pre)
+powered-line-requires c κs = texts-report _ _ _ _ _ _ _ _ _ (c .before .before .before .before .before .before .before .before .before .before .before .before .before .before .before .before .before .before .before .pre)
 
 returns : tie.Need-returns
-returns c = texts-are _ _ _ _ _ _ _ _ _ _ _ _ _ _ _ _ _ _ _ (c .before .before .before .before .before .before .before .before .before .before .before .before .below-name .ensures) (c .before .before .before .before .before .before .before .before .before .before .before .below-name2 .ensures) (c .before .before .before .before .before .before .before .powered-glue .ensures) (c .before .before .powered-line .ensures)
+returns c = texts-are _ _ _ _ _ _ _ _ _ _ _ _ _ _ _ _ _ _ _ _ (c .before .before .before .before .before .before .before .before .before .before .below-name .ensures) (c .before .before .before .before .before .before .before .before .before .below-name2 .ensures) (c .before .before .before .before .before .before .powered-glue .ensures) (c .before .before .powered-line .ensures)
 
 pub texts-spec : {M : Type 1} → statement M
 texts-spec =

@@ -1,5 +1,4 @@
 -- `generate::rooms::walked` meets its contract. Assumes nothing.
-use Rattle.generate.proofs.Walking.{make-asked}
 use borrow.Author.Needs.{needs}
 use Rattle.generate.proofs.rooms.walked.Statement.{statement}
 use Rattle.generate.proofs.rooms.walked.Tie as tie
@@ -8,11 +7,15 @@ pub walked-spec : {M : Type 1} → statement M
 walked-spec =
     tie.close
     (tie.spec
-    (λ c. search needs)  -- slice-aggregate-make
-    (λ c. search needs)  -- slice-aggregate-make-2
-    (λ c κs. let a = c .before .before .before .before .before .before .before .before .before .before .before .args in make-asked (a .job .now) (a .nums .now) (a .count) (a .k) (a .files .now) (a .area .now) (a .path .now) (a .s) (c .before .before .before .before .before .before .before .before .before .before .before .pre .0) _ _ (search needs) (search needs))  -- make-requires
-    (λ c. search needs)  -- slice-aggregate-over-table
-    (λ c κs. search needs)  -- over-table-requires
+    (λ c κs. search needs)  -- walked-few-requires
     (λ c. search needs)  -- same-length
     (λ c. search needs)  -- same-length-2
-    (λ c. search needs))  -- returns
+    (λ c. search needs)  -- returns
+    (λ c κs. search needs)  -- walked-some-requires
+    (λ c. search needs)  -- same-length-3
+    (λ c. search needs)  -- same-length-4
+    (λ c. search needs)  -- returns-2
+    (λ c κs. search needs)  -- walked-many-requires
+    (λ c. search needs)  -- same-length-5
+    (λ c. search needs)  -- same-length-6
+    (λ c. search needs))  -- returns-3
