@@ -32,12 +32,12 @@ module _ (job : Bytes) (nums : List ℕ) (count k : ℕ) (files area path : Byte
     pub bodied-walks : (report : Bytes) (r : Texts) → u .over ≡ true → r ≡ stoppedBy 13 → Bodied job nums count k files area path from top s glue₀ glue end o report r
     bodied-walks report r h e t st pkg₀ pkg report₀ ep er = staged-over glue₀ glue pkg₀ pkg report₀ report r t (domain-over t (told t st .over h)) e
 
-    module _ (on : u .over ≡ false) (report : Bytes) (x : Warned) (tl : AllTailed job nums count k files area path from top s (report₁ ▸ u .report) report x) where
+    module _ (on : u .over ≡ false) (report : Bytes) (x : Warned) (tl : AllTailed (c .warnings) job nums count k files area path from top s (report₁ ▸ u .report) report x) where
       -- too many warnings
       pub bodied-warnings : (r : Texts) → 512 < x .count → r ≡ stoppedBy 13 → Bodied job nums count k files area path from top s glue₀ glue end o report r
       bodied-warnings r h e t st pkg₀ pkg report₀ ep er =
           let few : length (texts.isolation t .ports) ≤ 256 = iso path from top t st .few go in
-          staged-over glue₀ glue pkg₀ pkg report₀ report r t (too-many-warnings t (told t st .fits on) few (tl t st few .many h)) e
+          staged-over glue₀ glue pkg₀ pkg report₀ report r t (too-many-warnings t (told t st .fits on) few (tl t st few (iso path from top t st .count go) .many h)) e
 
       -- within all limits
       pub bodied-texts : (r : Texts) → GlueFronts job nums files area path from top s ports (c .ports) (glue₀ ▸ 0) g₁ → x .count ≤ 512 → r ≡ record { number = 0; glue = u .glue; pkg = end; report = x .at } → Bodied job nums count k files area path from top s glue₀ glue end o report r
@@ -47,7 +47,7 @@ module _ (job : Bytes) (nums : List ℕ) (count k : ℕ) (files area path : Byte
           let d : DomainsTold t (texts.isolation t .ports) g₁ glue (out₁ ▸ c .at) report₁ u = subst (λ (ps : List texts.Isolated). DomainsTold t ps g₁ glue (out₁ ▸ c .at) report₁ u) (i .ports-are go) (told t st) in
           let g₁-is : g₁ ≡ emit (emit (emit (emit (glue₀ ▸ 0) firstLine) (netBlocks t)) (each (switchGlue t) (t .records .switches))) (texts.processes (texts.isolation t .ports)) =
           gf count k t st ∙ ap (λ (ps : List texts.Isolated). emit (emit (emit (emit (glue₀ ▸ 0) firstLine) (netBlocks t)) (each (switchGlue t) (t .records .switches))) (texts.processes ps)) (i .ports-are go) in
-          let w : Warns t (emit (emit (report₁ ▸ u .report) (each shifterLine (t .records .shifters))) (each tableLine (t .records .tables))) report x = tl t st few in
+          let w : Warns t (emit (emit (report₁ ▸ u .report) (each shifterLine (t .records .shifters))) (each tableLine (t .records .tables))) report x = tl t st few (i .count go) in
           rw e
           (staged-fits glue₀ glue pkg₀ pkg report₀ report (record { number = 0; glue = u .glue; pkg = end; report = x .at }) t (all-within t (told t st .fits on) few (w .few h))
           record {

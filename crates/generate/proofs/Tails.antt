@@ -3,8 +3,9 @@ use Prim.Native.Nat.{ℕ, _+_, _≤_, _^_}
 use native.Mathlib.Omega.{arith}
 use mathlib.Core.Path.{_≡_, refl, sym, ap, subst, _∙_}
 use mathlib.Core.Bool.{true, false}
-use mathlib.Core.List.{List, _++_, map, flatMap}
+use mathlib.Core.List.{List, [], _∷_, _++_, map, flatMap}
 use lib.ListN.{length, take}
+use borrow.Author.Needs.{needs}
 use Rattle.text.specs.Ascii.{Bytes}
 use Rattle.out.specs.Emit.{Out, _▸_, emit}
 use Rattle.out.specs.Items.{each}
@@ -43,7 +44,7 @@ use Rattle.keep.specs.declared.Cover.{Cover}
 use Rattle.isolation.specs.Asked.{Isolated}
 use Rattle.generate.specs.Generates.{Asks}
 use Rattle.generate.specs.Pieces.{domainRemarks, warning-pieces, warning-count}
-use Rattle.generate.specs.Steps.{AllIsolated, Warns, AllWarned, beforeWarnings, AllTailed}
+use Rattle.generate.specs.Steps.{AllIsolated, Warns, QuietWarned, AllWarned, AllRemarked, beforeWarnings, AllTailed}
 
 -- ---- what is asked
 
@@ -69,6 +70,9 @@ module _ (job : Bytes) (nums : List ℕ) (count k : ℕ) (files area path : Byte
 -- the sum is small
 pub sum-low : (n b c : ℕ) (o o′ : Out) (ws : List Bytes) → switches.Told (2 ^ 54) o n ws o′ b → n ≤ 2 ^ 58 → c ≤ 513 → b + c ≤ 2 ^ 60
 sum-low n b c o o′ ws t h g = omega (arith, t .few)
+
+pub part-low : (n b : ℕ) (o o′ : Out) (ws : List Bytes) → switches.Told (2 ^ 54) o n ws o′ b → n ≤ 2 ^ 58 → b ≤ 2 ^ 60
+part-low n b o o′ ws t h = omega (arith, t .few)
 
 -- ---- what is told
 module _ (job : Bytes) (nums : List ℕ) (count k : ℕ) (files area path : Bytes) (from : ℕ) (top : Bytes) (s : State) (g : Asks job nums count k files area path s) where
@@ -114,13 +118,45 @@ module _ (job : Bytes) (nums : List ℕ) (count k : ℕ) (files area path : Byte
         many = λ l. omega (arith, n, n₂, n₄, i .count q, l);
       }
 
+  -- the same where isolation has none
+  no-lines : (t : Setting) (o : Out) (ws : List Bytes) → length ws ≡ 0 → o ≡ emit o (each warningLine ws)
+  unfolding emit each
+  no-lines t o [] e = refl
+  no-lines t o (w ∷ ws) e = absurd (omega arith)
+
+  pub all-quiet : (f : Fill) → f ≡ s .fill → (xs : Switches) → xs ≡ s .switches → (ds : Domains) → ds ≡ s .domains → (o o₁ o₂ : Out) (b : ℕ) (report : Bytes) (r : Warned)
+      → o₁ ≡ emit o (each warningLine (map (warningText (files ++ area)) (warningsIn (rowsIn nums (f .rows)))))
+      → switches.Told (2 ^ 54) o₁ (f .warnings) (switches.remarks (scopeSetting (parts path from)) (map (switchIn (files ++ area) nums) (take (xs .n) (xs .all)))) o₂ b
+      → domains.Told 2080 o₂ b (flatMap (λ (d : Domain). domains.remarks (modules job nums count) (moduleRow job nums k) (domainOf (files ++ area) d)) (take (ds .n) (ds .all))) (report ▸ r .at) (r .count)
+      → QuietWarned job nums count k files area path from top s o report r
+  all-quiet f ef xs ex ds ed o o₁ o₂ b report r e₁ e₂ e₄ t st none =
+      let w₁ : o₁ ≡ emit o (each warningLine (t .records .warnings)) = e₁ ∙ ap (emit o) (read-told t st f ef) in
+      let w₂ : o₂ ≡ emit o₁ (each warningLine (switchWarnings t)) = e₂ .text ∙ ap (λ (l : List Bytes). emit o₁ (each warningLine l)) (switch-told t st xs ex) in
+      let w₄ : report ▸ r .at ≡ emit o₂ (each warningLine (domainRemarks t)) = e₄ .text ∙ ap (λ (l : List Bytes). emit o₂ (each warningLine l)) (domain-told t st ds ed) in
+      let n₁ : f .warnings ≡ length (t .records .warnings) = ap (λ (x : Fill). x .warnings) ef ∙ sym (warnings-count (files ++ area) (storeOf nums s) s (t .records .log) t (st .records-are) (g .orders .shaped)) in
+      let n₂ : b ≡ f .warnings + length (switchWarnings t) = e₂ .count ∙ ap (λ (l : List Bytes). f .warnings + length l) (switch-told t st xs ex) in
+      let n₄ : r .count ≡ b + length (domainRemarks t) = e₄ .count ∙ ap (λ (l : List Bytes). b + length l) (domain-told t st ds ed) in
+      let n : f .warnings + (length (switchWarnings t) + (length (texts.isolation t .warnings) + length (domainRemarks t))) ≡ length (warningsOf t) = warning-count t (f .warnings) (length (switchWarnings t)) (length (texts.isolation t .warnings)) (length (domainRemarks t)) n₁ refl refl refl in
+      record {
+        text = warning-pieces t o o₁ o₂ o₂ (report ▸ r .at) w₁ w₂ (no-lines t o₂ (texts.isolation t .warnings) none) w₄;
+        few = λ l. omega (arith, n, n₂, n₄, none, l);
+        many = λ l. omega (arith, n, n₂, n₄, none, l);
+      }
+
+  -- ---- by their number
+  pub remarked-none : (n : ℕ) (o : Out) (report : Bytes) (r : Warned) → n ≡ 0 → QuietWarned job nums count k files area path from top s o report r → AllRemarked n job nums count k files area path from top s o report r
+  remarked-none n o report r e h t st few q = h t st (omega (arith, e, q))
+
+  pub remarked-all : (n : ℕ) (o : Out) (report : Bytes) (r : Warned) → AllWarned job nums count k files area path from top s o report r → AllRemarked n job nums count k files area path from top s o report r
+  remarked-all n o report r h t st few q = h t st few
+
   -- ---- the end of the report
-  pub all-tailed : (f : Fill) → f ≡ s .fill → (xs : Shifters) → xs ≡ s .shifters → (ts : Tables) → ts ≡ s .tables → (o o₁ o₂ : Out) (report : Bytes) (r : Warned)
+  pub all-tailed : (n : ℕ) (f : Fill) → f ≡ s .fill → (xs : Shifters) → xs ≡ s .shifters → (ts : Tables) → ts ≡ s .tables → (o o₁ o₂ : Out) (report : Bytes) (r : Warned)
       → o₁ ≡ emit o (each shifterLine (map (shifterOf (files ++ area)) (take (xs .n) (xs .all))))
       → o₂ ≡ emit o₁ (each tableLine (numbered (tableOf (files ++ area) (rowsIn nums (f .rows))) 0 (take (ts .n) (ts .all))))
-      → AllWarned job nums count k files area path from top s o₂ report r
-      → AllTailed job nums count k files area path from top s o report r
-  all-tailed f ef xs ex ts et o o₁ o₂ report r e₁ e₂ h t st few =
+      → AllRemarked n job nums count k files area path from top s o₂ report r
+      → AllTailed n job nums count k files area path from top s o report r
+  all-tailed n f ef xs ex ts et o o₁ o₂ report r e₁ e₂ h t st few q =
       let w₁ : o₁ ≡ emit o (each shifterLine (t .records .shifters)) =
       e₁
       ∙ ap (λ (x : Shifters). emit o (each shifterLine (map (shifterOf (files ++ area)) (take (x .n) (x .all))))) ex
@@ -131,4 +167,6 @@ module _ (job : Bytes) (nums : List ℕ) (count k : ℕ) (files area path : Byte
       ∙ ap (λ (x : Tables). emit o₁ (each tableLine (numbered (tableOf (files ++ area) (rowsIn nums (s .fill .rows))) 0 (take (x .n) (x .all))))) et
       ∙ ap (emit o₁) (tables-seen (files ++ area) nums s (t .records .log) t (st .records-are))
       ∙ ap (λ (x : Out). emit x (each tableLine (t .records .tables))) w₁ in
-      subst (λ (x : Out). Warns t x report r) w₂ (h t st few)
+      subst (λ (x : Out). Warns t x report r) w₂ (h t st few q)
+
+pub ruleset remarked = (needs, remarked-none, remarked-all)

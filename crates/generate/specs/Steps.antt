@@ -1,5 +1,5 @@
 -- What the steps of generation ask and leave, for every setting that the values stand for. Assumes nothing.
-use Prim.Native.Nat.{ℕ, _+_, _≤_, _<_, _^_}
+use Prim.Native.Nat.{ℕ, _+_, _≤_, _<_, _^_, min}
 use mathlib.Core.Path.{_≡_}
 use mathlib.Core.Bool.{Bool}
 use mathlib.Core.List.{List, [], _++_}
@@ -83,12 +83,22 @@ abbrev pub AllWarned : Bytes → List ℕ → ℕ → ℕ → Bytes → Bytes �
 AllWarned job nums count k files area path from top s o report r =
     (t : Setting) → Stands job nums count k files area path from top s t → length (texts.isolation t .ports) ≤ 256 → Warns t o report r
 
+-- where isolation has no warning
+abbrev pub QuietWarned : Bytes → List ℕ → ℕ → ℕ → Bytes → Bytes → Bytes → ℕ → Bytes → State → Out → Bytes → Warned → Type 0
+QuietWarned job nums count k files area path from top s o report r =
+    (t : Setting) → Stands job nums count k files area path from top s t → length (texts.isolation t .warnings) ≡ 0 → Warns t o report r
+
+-- where it is known how many there are of isolation
+abbrev pub AllRemarked : ℕ → Bytes → List ℕ → ℕ → ℕ → Bytes → Bytes → Bytes → ℕ → Bytes → State → Out → Bytes → Warned → Type 0
+AllRemarked n job nums count k files area path from top s o report r =
+    (t : Setting) → Stands job nums count k files area path from top s t → length (texts.isolation t .ports) ≤ 256 → n ≡ min (length (texts.isolation t .warnings)) 513 → Warns t o report r
+
 abbrev pub beforeWarnings : Setting → Out → Out
 beforeWarnings t o = emit (emit o (each shifterLine (t .records .shifters))) (each tableLine (t .records .tables))
 
-abbrev pub AllTailed : Bytes → List ℕ → ℕ → ℕ → Bytes → Bytes → Bytes → ℕ → Bytes → State → Out → Bytes → Warned → Type 0
-AllTailed job nums count k files area path from top s o report r =
-    (t : Setting) → Stands job nums count k files area path from top s t → length (texts.isolation t .ports) ≤ 256 → Warns t (beforeWarnings t o) report r
+abbrev pub AllTailed : ℕ → Bytes → List ℕ → ℕ → ℕ → Bytes → Bytes → Bytes → ℕ → Bytes → State → Out → Bytes → Warned → Type 0
+AllTailed n job nums count k files area path from top s o report r =
+    (t : Setting) → Stands job nums count k files area path from top s t → length (texts.isolation t .ports) ≤ 256 → n ≡ min (length (texts.isolation t .warnings)) 513 → Warns t (beforeWarnings t o) report r
 
 -- ---- from the isolation on: the answer, where the package ends at `end`, and what stands in front of the report is the setting's
 

@@ -114,6 +114,7 @@ fn bodies_by<'a>(
         from,
         top,
         s,
+        c.warnings,
     );
     if 512 < x.count {
         return stopped(13);

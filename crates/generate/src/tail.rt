@@ -3,7 +3,7 @@ ghost use Prim.Native.Nat.{_≤_};
 ghost use lib.ListN.{length};
 ghost use Rattle.out.specs.Emit.{_▸_};
 ghost use Rattle.generate.specs.Generates.{Asks};
-ghost use Rattle.generate.specs.Steps.{AllWarned, AllTailed};
+ghost use Rattle.generate.specs.Steps.{QuietWarned, AllWarned, AllRemarked, AllTailed};
 use super::isolate::isolate;
 use domainwarnings::Warned;
 use domainwarnings::domain_warnings;
@@ -67,8 +67,8 @@ fn warnings_by<'a>(
     domain_warnings(report, d, job, nums, count, k, files, area, domains)
 }
 
-// The same with a table of its own.
-fn warnings<'a>(
+// The warnings where isolation has none: of reading, of switches, of domains.
+fn quiet_warnings<'a>(
     report: &mut [u8],
     at: usize,
     job: &[u8],
@@ -83,8 +83,59 @@ fn warnings<'a>(
     s: State,
 ) -> Warned
     requires { ⌜ Asks (now job) (now nums) count k (now files) (now area) (now path) s ⌝ }
-    ensures { λ r. ⌜ AllWarned (now (job .entry)) (now (nums .entry)) count k (now (files .entry)) (now (area .entry)) (now (path .entry)) from (now (top .entry)) s (now (report .entry) ▸ at) (now (report .exit)) r ⌝ }
+    ensures { λ r. ⌜ QuietWarned (now (job .entry)) (now (nums .entry)) count k (now (files .entry)) (now (area .entry)) (now (path .entry)) from (now (top .entry)) s (now (report .entry) ▸ at) (now (report .exit)) r ⌝ }
 {
+    let fill = s.fill;
+    let switches = s.switches;
+    let domains = s.domains;
+    let a = read_warnings(report, at, files, area, nums, fill.rows);
+    let o = switchwarnings::Warned {
+        at: a,
+        count: fill.warnings,
+    };
+    let b = switch_warnings(report, o, job, files, area, nums, path, from, top, switches);
+    let d = Warned {
+        at: b.at,
+        count: b.count,
+    };
+    domain_warnings(report, d, job, nums, count, k, files, area, domains)
+}
+
+// The warnings behind `at`; isolation has `remarks` of them, and is not gone over again where that is none.
+fn warnings<'a>(
+    report: &mut [u8],
+    at: usize,
+    job: &[u8],
+    nums: &[u32],
+    count: usize,
+    k: usize,
+    files: &'a [u8],
+    area: &'a [u8],
+    path: &[u8],
+    from: usize,
+    top: &[u8],
+    s: State,
+    remarks: usize,
+) -> Warned
+    requires { ⌜ Asks (now job) (now nums) count k (now files) (now area) (now path) s ⌝ }
+    ensures { λ r. ⌜ AllRemarked remarks (now (job .entry)) (now (nums .entry)) count k (now (files .entry)) (now (area .entry)) (now (path .entry)) from (now (top .entry)) s (now (report .entry) ▸ at) (now (report .exit)) r ⌝ }
+{
+    if remarks == 0 {
+        return quiet_warnings(
+            report,
+            at,
+            job,
+            nums,
+            count,
+            k,
+            files,
+            area,
+            path,
+            from,
+            top,
+            s,
+        );
+    }
     let mut ports: [u32; 5120] = [0; 5120];
     warnings_by(
         report,
@@ -103,7 +154,7 @@ fn warnings<'a>(
     )
 }
 
-// The lines of shifters and tables and the warnings, behind `at`.
+// The lines of shifters and tables and the warnings, behind `at`; isolation has `remarks` warnings.
 pub fn tail<'a>(
     report: &mut [u8],
     at: usize,
@@ -117,9 +168,10 @@ pub fn tail<'a>(
     from: usize,
     top: &[u8],
     s: State,
+    remarks: usize,
 ) -> Warned
     requires { ⌜ Asks (now job) (now nums) count k (now files) (now area) (now path) s ⌝ }
-    ensures { λ r. ⌜ AllTailed (now (job .entry)) (now (nums .entry)) count k (now (files .entry)) (now (area .entry)) (now (path .entry)) from (now (top .entry)) s (now (report .entry) ▸ at) (now (report .exit)) r ⌝ }
+    ensures { λ r. ⌜ AllTailed remarks (now (job .entry)) (now (nums .entry)) count k (now (files .entry)) (now (area .entry)) (now (path .entry)) from (now (top .entry)) s (now (report .entry) ▸ at) (now (report .exit)) r ⌝ }
 {
     let fill = s.fill;
     let shifters = s.shifters;
@@ -139,5 +191,6 @@ pub fn tail<'a>(
         from,
         top,
         s,
+        remarks,
     )
 }

@@ -66,7 +66,7 @@ map-fault false a w new go h = tt
 module _ (j : Job) (line rest : Bytes) where
   top-fault : MaybeFault (topLine j line rest)
   unfolding topLine
-  top-fault = 
+  top-fault =
       when-fault (startsWith (ascii "top=") line) _ (checked-fault {A = Bytes} (when (isName (drop (length (ascii "top=")) line)) (drop (length (ascii "top=")) line)) true (any-value)
       (λ n. on Due.due-override (record { top = n; override = j .override; start = j .start; files = j .files; modules = j .modules }) rest) (λ x. tt {0}))
 
@@ -76,55 +76,55 @@ module _ (j : Job) (line rest : Bytes) where
 
   start-fault : MaybeFault (startLine j line rest)
   unfolding startLine
-  start-fault = 
+  start-fault =
       when-fault (startsWith (ascii "start=") line) _ (checked-fault {A = Bytes} (when (isPath (drop (length (ascii "start=")) line)) (drop (length (ascii "start=")) line)) true (any-value)
       (λ p. on Due.due-file (record { top = j .top; override = j .override; start = p; files = j .files; modules = j .modules }) rest) (λ x. tt {0}))
 
   file-fault : MaybeFault (fileLine j line rest)
   unfolding fileLine fileRead
-  file-fault = 
+  file-fault =
       map-fault {A = Bytes} (startsWith (ascii "file=") line) (when (isPath (drop (length (ascii "file=")) line)) (drop (length (ascii "file=")) line)) (ltb (length (map (λ (f : File). f .path) (j .files))) most-files) (λ p. not (any (λ q. same q p) (map (λ (f : File). f .path) (j .files))))
       (λ p. on (Due.due-bytes p) j rest) (λ x. tt {0})
 
   bytes-fault : (p : Bytes) → MaybeFault (bytesLine p j line rest)
   unfolding bytesLine
-  bytes-fault p = 
+  bytes-fault p =
       when-fault (startsWith (ascii "bytes=") line) _ (checked-fault {A = ℕ} (when (isDecimal (drop (length (ascii "bytes=")) line) && isBody (valueFrom 0 (drop (length (ascii "bytes=")) line)) rest) (valueFrom 0 (drop (length (ascii "bytes=")) line))) true (any-value)
       (λ n. on Due.due-more (withFiles j (j .files ++ (record { path = p; body = take n rest } ∷ []))) (drop (n + 1) rest)) (λ x. tt {0}))
 
   module-fault : MaybeFault (moduleLine j line rest)
   unfolding moduleLine moduleRead
-  module-fault = 
+  module-fault =
       map-fault {A = Bytes} (startsWith (ascii "module=") line) (when (isName (drop (length (ascii "module=")) line)) (drop (length (ascii "module=")) line)) (ltb (length (map (λ (m : Module). m .name) (j .modules))) most-modules) (λ n. not (any (λ m. same m n) (map (λ (m : Module). m .name) (j .modules))))
       (λ n. on (Due.due-style n) j rest) (λ x. tt {0})
 
   style-fault : (n : Bytes) → MaybeFault (styleLine n j line rest)
   unfolding styleLine
-  style-fault n = 
+  style-fault n =
       when-fault (startsWith (ascii "style=") line) _ (checked-fault {A = Style} (styleOf (drop (length (ascii "style=")) line)) true (any-value)
       (λ s. on Due.due-ports (withModules j (j .modules ++ (record { name = n; style = s; ports = []; decls = []; insts = [] } ∷ []))) rest) (λ x. tt {0}))
 
   port-fault : MaybeFault (portLine j line rest)
   unfolding portLine
-  port-fault = 
+  port-fault =
       when-fault (startsWith (ascii "port=") line) _ (checked-fault {A = Port} (portOf (thisModule j .style) (fields (drop (length (ascii "port=")) line))) (ltb (length (thisModule j .ports)) most-ports) (any-value)
       (λ p. on Due.due-ports (withModules j (onLast (addPort p) (j .modules))) rest) (λ x. tt {0}))
 
   decl-fault : MaybeFault (declLine j line rest)
   unfolding declLine
-  decl-fault = 
+  decl-fault =
       when-fault (startsWith (ascii "decl=") line) _ (checked-fault {A = Decl} (declOf (fields (drop (length (ascii "decl=")) line))) (ltb (length (thisModule j .decls)) most-decls) (any-value)
       (λ d. on Due.due-decls (withModules j (onLast (addDecl d) (j .modules))) rest) (λ x. tt {0}))
 
   inst-fault : MaybeFault (instLine j line rest)
   unfolding instLine instRead
-  inst-fault = 
+  inst-fault =
       map-fault {A = Inst} (startsWith (ascii "inst=") line) (instOf (fields (drop (length (ascii "inst=")) line))) (ltb (length (map (λ (k : Inst). k .name) (thisModule j .insts))) most-insts) (λ i. not (any (λ n. same n (i .name)) (map (λ (k : Inst). k .name) (thisModule j .insts))))
       (λ i. on Due.due-insts (withModules j (onLast (addInst i) (j .modules))) rest) (λ x. tt {0})
 
   conn-fault : MaybeFault (connLine j line rest)
   unfolding connLine
-  conn-fault = 
+  conn-fault =
       when-fault (startsWith (ascii "conn=") line) _ (checked-fault {A = Conn} (connOf (fields (drop (length (ascii "conn=")) line))) (ltb (length (thisInst j .conns)) most-conns) (any-value)
       (λ c. on Due.due-insts (withModules j (onLast (λ m. withInsts m (onLast (addConn c) (m .insts))) (j .modules))) rest) (λ x. tt {0}))
 

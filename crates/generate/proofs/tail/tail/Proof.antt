@@ -13,4 +13,4 @@ tail-spec =
     (λ c κs. let a = c .before .before .before .before .before .before .before .before .before .before .before .before .before .before .before .args in tables-asked (a .job .now) (a .nums .now) (a .count) (a .k) (a .files .now) (a .area .now) (a .path .now) (a .s) (c .before .before .before .before .before .before .before .before .before .before .before .before .before .before .before .pre) (a .s .fill) (a .s .tables) refl refl)  -- table-lines-requires
     (λ c κs. search needs)  -- warnings-requires
     (λ c. search needs)  -- same-length
-    (λ c. let a = c .before .before .before .before .before .before .before .before .before .before .before .before .before .before .before .before .before .before .before .before .before .before .args in all-tailed (a .job .now) (a .nums .now) (a .count) (a .k) (a .files .now) (a .area .now) (a .path .now) (a .from) (a .top .now) (a .s) (c .before .before .before .before .before .before .before .before .before .before .before .before .before .before .before .before .before .before .before .before .before .before .pre) (a .s .fill) refl (a .s .shifters) refl (a .s .tables) refl _ _ _ _ _ (c .before .before .before .before .before .before .before .before .before .before .shifter-lines .ensures) (c .before .before .before .before .before .before .table-lines .ensures) (c .before .before .warnings .ensures)))  -- returns
+    (λ c. let a = c .before .before .before .before .before .before .before .before .before .before .before .before .before .before .before .before .before .before .before .before .before .before .args in all-tailed (a .job .now) (a .nums .now) (a .count) (a .k) (a .files .now) (a .area .now) (a .path .now) (a .from) (a .top .now) (a .s) (c .before .before .before .before .before .before .before .before .before .before .before .before .before .before .before .before .before .before .before .before .before .before .pre) (a .remarks) (a .s .fill) refl (a .s .shifters) refl (a .s .tables) refl _ _ _ _ _ (c .before .before .before .before .before .before .before .before .before .before .shifter-lines .ensures) (c .before .before .before .before .before .before .table-lines .ensures) (c .before .before .warnings .ensures)))  -- returns
