@@ -2,33 +2,26 @@
 ghost use Rattle.loads.specs.Loads.{Loading, Loaded, Restores};
 use args::argument::name;
 use filepaths::find_file;
-use scopes::go::Out;
+use scopes::go::Place;
+use scopes::go::Went;
 use scopes::go::load_scope;
-use store::state::State;
-use store::state::with_scope;
-use store::state::with_top;
-use store::stored::Maybe;
 
-// The state s behind a load, with the scope and the design top that the loader m had.
-pub fn restored(m: State, s: State) -> State
-    ensures { λ r. ⌜ Restores m s r ⌝ }
-{
-    let h = m.head;
-    let scope = h.scope;
-    let top = h.top;
-    let u = with_scope(s, scope);
-    match top {
-        Maybe::Not => u,
-        Maybe::Given(t) => with_top(u, Maybe::Given(t)),
-    }
-}
-
-// What a load needs before it reads: the state in its scope, or the refusal, and the file.
+// What a load needs before it reads: the refusal's number and its scope, and the file.
 pub struct Load {
-    pub out: Out,
+    pub went: Went,
     pub file: usize,
 }
 
+// The refusal of a load, or its file.
+fn told(tag: usize, p: Place, file: usize) -> Load {
+    let w = Went { tag: tag, place: p };
+    Load {
+        went: w,
+        file: file,
+    }
+}
+
+// A load up to its file: the scope that it enters, and the file that it names; `left` loads may still be nested.
 pub fn before_load(
     job: &[u8],
     files: &[u8],
@@ -37,28 +30,23 @@ pub fn before_load(
     count: usize,
     words: &[u32],
     n: usize,
-    s: State,
+    p: Place,
     k: usize,
     left: usize,
-) -> Load
-    requires { ⌜ Loading (now job) (now files) (now area) (now nums) (now words) count n k left s ⌝ }
-    ensures { λ r. ⌜ Loaded (now (job .entry)) (now (files .entry)) (now (area .entry)) (now (area .exit)) (now (nums .entry)) count (now (words .entry)) n k left s r ⌝ }
-{
-    let r = load_scope(files, area, words, n, s);
-    if r.tag != 0 {
-        return Load { out: r, file: 0 };
+) -> Load {
+    let w = load_scope(files, area, words, n, p);
+    let q = w.place;
+    if w.tag != 0 {
+        return told(w.tag, q, 0);
     }
-    let u = r.state;
     if left == 0 {
-        let o = Out { tag: 8, state: u };
-        return Load { out: o, file: 0 };
+        return told(8, q, 0);
     }
-    let e = u.fill.end;
+    let e = q.end;
     let named = name(files, &area[..e], words, n);
     let f = find_file(job, nums, count, k, files, &area[..e], named);
     if f == count {
-        let o = Out { tag: 9, state: u };
-        return Load { out: o, file: 0 };
+        return told(9, q, 0);
     }
-    Load { out: r, file: f }
+    told(0, q, f)
 }

@@ -17,16 +17,16 @@ use args::argument::last_positional;
 use enter::enter;
 use lists::Count;
 use lists::entries;
-use made::Made;
+use made::Brief;
+use made::Deed;
 use names::name::alone;
 use names::put::put_name;
 use out::emit::put;
-use scopes::go::Out;
-use scopes::go::set_scope;
 use statecmds::add_port_state;
 use statecmds::create_power_switch;
+use store::row::Row;
 use store::row::put_row;
-use store::state::State;
+use store::stored::Stored;
 
 // Whether the command is within the limits of commands and lists, and how many entries there are with it.
 pub fn counted<'a>(
@@ -47,122 +47,56 @@ pub fn counted<'a>(
     entries(files, area, words, n, c, before)
 }
 
-// The answer of a command, with its row in the store.
-fn stored(nums: &mut [u32], r: Made) -> Out
-    requires { ⌜ RowRoom (now nums) r ⌝ }
-    ensures { λ o. ⌜ Stores (now (nums .entry)) (now (nums .exit)) r o ⌝ }
-{
-    let s = r.state;
-    let row = r.row;
-    if r.tag != 0 {
-        return Out { tag: 10, state: s };
+// The row of what a command did, in the store behind `rows` others; a warning is none where there are 256.
+pub fn put_deed(nums: &mut [u32], rows: usize, warnings: usize, d: Deed) {
+    match d {
+        Deed::Row(r) => put_row(nums, rows, r),
+        Deed::Warning(kind, name) => {
+            if warnings < 256 {
+                let z = Stored { at: 0, len: 0 };
+                let r = Row {
+                    kind: kind,
+                    scope: z,
+                    name: name,
+                    value: z,
+                };
+                put_row(nums, rows, r);
+            }
+        }
+        _ => {}
     }
-    if row.kind == 0 {
-        return Out { tag: 0, state: s };
-    }
-    put_row(nums, s.fill.rows - 1, row);
-    Out { tag: 0, state: s }
-}
-
-// A command that writes neither the area nor the log nor words of states.
-fn others<'a>(
-    files: &'a [u8],
-    area: &'a [u8],
-    nums: &mut [u32],
-    words: &[u32],
-    n: usize,
-    s: State,
-    c: usize,
-) -> Out
-    requires { ⌜ Others (now files) (now area) (now nums) (now words) n c s ⌝ }
-    ensures { λ r. ⌜ ((log : Bytes) → Ran (now (files .entry)) (now (area .entry)) (now (area .entry)) (now (nums .entry)) (now (nums .exit)) log log s r (λ text. acted (namedBy c) (lineAt (now (files .entry)) (now (area .entry)) (now (words .entry)) n s) (countedOf s) (modelAt (now (files .entry)) (now (area .entry)) (now (nums .entry)) s text))) ⌝ }
-{
-    let o = s.fill.end;
-    let r = enter(files, &area[..o], words, n, s, c);
-    stored(nums, r)
 }
 
 // puts.
-fn puts<'a>(
+pub fn puts<'a>(
     files: &'a [u8],
     area: &'a [u8],
     log: &mut [u8],
     words: &[u32],
     n: usize,
-    s: State,
-) -> Out
-    requires { ⌜ s .fill .end ≤ length (now area) ⌝ }
-    ensures { λ r. ⌜ ((nums : List ℕ) → Asks (now (files .entry)) (now (area .entry)) nums (now (words .entry)) n 1 s → Ran (now (files .entry)) (now (area .entry)) (now (area .entry)) nums nums (now (log .entry)) (now (log .exit)) s r (λ text. acted (namedBy 1) (lineAt (now (files .entry)) (now (area .entry)) (now (words .entry)) n s) (countedOf s) (modelAt (now (files .entry)) (now (area .entry)) nums s text))) ⌝ }
-{
-    let o = s.fill.end;
-    let w = last_positional(files, &area[..o], words, n);
-    let a = put(log, s.fill.log, b"[UPF] ");
-    let b = put_name(log, a, files, &area[..o], alone(w, 0));
-    let e = put(log, b, b"\n");
-    let mut u = s;
-    u.fill.log = e;
-    Out { tag: 0, state: u }
+    at: usize,
+) -> usize {
+    let w = last_positional(files, area, words, n);
+    let a = put(log, at, b"[UPF] ");
+    let b = put_name(log, a, files, area, alone(w, 0));
+    put(log, b, b"\n")
 }
 
-// create_power_switch.
-fn switch<'a>(
+// A command of number c that only adds records.
+pub fn plain<'a>(
     files: &'a [u8],
     area: &'a [u8],
     nums: &mut [u32],
     words: &[u32],
     n: usize,
-    s: State,
-) -> Out
-    requires { ⌜ Asks (now files) (now area) (now nums) (now words) n 21 s ⌝ }
-    ensures { λ r. ⌜ ((log : Bytes) → Ran (now (files .entry)) (now (area .entry)) (now (area .entry)) (now (nums .entry)) (now (nums .exit)) log log s r (λ text. acted (namedBy 21) (lineAt (now (files .entry)) (now (area .entry)) (now (words .entry)) n s) (countedOf s) (modelAt (now (files .entry)) (now (area .entry)) (now (nums .entry)) s text))) ⌝ }
-{
-    let o = s.fill.end;
-    let r = create_power_switch(files, &area[..o], words, n, nums, s);
-    stored(nums, r)
-}
-
-// add_port_state.
-fn port_state<'a>(
-    files: &'a [u8],
-    area: &'a [u8],
-    nums: &mut [u32],
-    words: &[u32],
-    n: usize,
-    s: State,
-) -> Out
-    requires { ⌜ Asks (now files) (now area) (now nums) (now words) n 27 s ⌝ }
-    ensures { λ r. ⌜ ((log : Bytes) → Ran (now (files .entry)) (now (area .entry)) (now (area .entry)) (now (nums .entry)) (now (nums .exit)) log log s r (λ text. acted (namedBy 27) (lineAt (now (files .entry)) (now (area .entry)) (now (words .entry)) n s) (countedOf s) (modelAt (now (files .entry)) (now (area .entry)) (now (nums .entry)) s text))) ⌝ }
-{
-    let o = s.fill.end;
-    let r = add_port_state(files, &area[..o], words, n, nums, s);
-    stored(nums, r)
-}
-
-// Command c of the table of names.
-pub fn plain(
-    files: &[u8],
-    area: &mut [u8],
-    nums: &mut [u32],
-    log: &mut [u8],
-    words: &[u32],
-    n: usize,
-    s: State,
+    b: Brief,
     c: usize,
-) -> Out
-    requires { ⌜ Asks (now files) (now area) (now nums) (now words) n c s ⌝ }
-    ensures { λ r. ⌜ Ran (now (files .entry)) (now (area .entry)) (now (area .exit)) (now (nums .entry)) (now (nums .exit)) (now (log .entry)) (now (log .exit)) s r (λ text. acted (namedBy c) (lineAt (now (files .entry)) (now (area .entry)) (now (words .entry)) n s) (countedOf s) (modelAt (now (files .entry)) (now (area .entry)) (now (nums .entry)) s text)) ⌝ }
-{
-    if c == 1 {
-        return puts(files, area, log, words, n, s);
-    }
-    if c == 4 {
-        return set_scope(files, area, words, n, s);
-    }
+) -> Deed {
     if c == 21 {
-        return switch(files, area, nums, words, n, s);
+        return create_power_switch(files, area, words, n, nums, b);
     }
     if c == 27 {
-        return port_state(files, area, nums, words, n, s);
+        return add_port_state(files, area, words, n, nums, b);
     }
-    others(files, area, nums, words, n, s, c)
+    enter(files, area, words, n, b, c)
 }
