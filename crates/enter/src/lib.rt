@@ -1,14 +1,11 @@
 // A command by its number in the table of names, where it writes neither the area nor the log nor words of states.
 ghost use mathlib.Core.List.{_++_};
-ghost use Prim.Native.Nat.{ℕ};
-ghost use lib.ListN.{length};
-ghost use Rattle.text.specs.Ascii.{Bytes};
 ghost use Rattle.spans.specs.Span.{bytes, pairAt};
 ghost use Rattle.args.specs.View.{wordsFrom};
 ghost use Rattle.model.specs.Numbers.{namedBy};
-ghost use Rattle.store.specs.View.{Store, modelOf};
-ghost use Rattle.made.specs.Made.{Room, Ready, Did};
-ghost use Rattle.enter.specs.Entered.{done, Enters};
+ghost use Rattle.model.specs.Records.{Model};
+ghost use Rattle.made.specs.Made.{Does};
+ghost use Rattle.enter.specs.Entered.{done, Entering, Told};
 use domaincmds::create_power_domain;
 use domaincmds::set_domain_supply_net;
 use isolationcmds::set_isolation;
@@ -31,32 +28,8 @@ use store::state::Tables;
 use tablecmds::add_pst_state;
 use tablecmds::create_pst;
 
-// What the command does to the records, where it looks up none; its words begin with its name.
+// What the command does to the records; its words begin with its name.
 pub fn enter<'a>(
-    files: &'a [u8],
-    area: &'a [u8],
-    words: &[u32],
-    n: usize,
-    b: Brief,
-    c: usize,
-) -> Deed {
-    match c {
-        0 => set(files, area, words, n, b),
-        3 => set_design_top(files, area, words, n, b),
-        5 => create_power_domain(files, area, words, n, b),
-        7 => create_supply_port(files, area, words, n, b),
-        8 => connect_supply_net(files, area, words, n, b),
-        24 => set_retention(files, area, words, n, b),
-        25 => Deed::Nothing,
-        26 => set_level_shifter(files, area, words, n, b),
-        28 => create_pst(files, area, words, n, b),
-        30 => unsupported(files, area, words),
-        _ => not_simulated(words),
-    }
-}
-
-// What the command does to the records, where it looks one up by its name.
-pub fn look<'a>(
     files: &'a [u8],
     area: &'a [u8],
     words: &[u32],
@@ -67,12 +40,26 @@ pub fn look<'a>(
     isolations: Isolations,
     tables: Tables,
     c: usize,
-) -> Deed {
+) -> Deed
+    requires { ⌜ Entering (now words) n c domains nets isolations tables ⌝ }
+    ensures { λ r. ⌜ Does (now (files .entry)) (now (area .entry)) (now (words .entry)) n (Told b domains nets isolations tables) r (λ (m : Model). done (namedBy c) m (bytes (now (files .entry) ++ now (area .entry)) (pairAt (now (words .entry)) 0)) (wordsFrom (now (files .entry) ++ now (area .entry)) (now (words .entry)) n 1)) ⌝ }
+{
     match c {
+        0 => set(files, area, words, n, b),
+        3 => set_design_top(files, area, words, n, b),
+        5 => create_power_domain(files, area, words, n, b),
         6 => create_supply_net(files, area, words, n, b, nets),
+        7 => create_supply_port(files, area, words, n, b),
+        8 => connect_supply_net(files, area, words, n, b),
         9 => set_domain_supply_net(files, area, words, n, b, domains),
         22 => set_isolation(files, area, words, n, b, isolations),
         23 => set_isolation_control(files, area, words, n, b, isolations),
-        _ => add_pst_state(files, area, words, n, b, tables),
+        24 => set_retention(files, area, words, n, b),
+        25 => Deed::Nothing,
+        26 => set_level_shifter(files, area, words, n, b),
+        28 => create_pst(files, area, words, n, b),
+        29 => add_pst_state(files, area, words, n, b, tables),
+        30 => unsupported(files, area, words),
+        _ => not_simulated(words),
     }
 }

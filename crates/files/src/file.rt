@@ -1,94 +1,43 @@
 // Files and their commands: reading a file and carrying out its load_upf lines call each other.
 ghost use Prim.Native.Nat.{_≤_, _<_};
+ghost use mathlib.Core.Path.{_≡_};
 ghost use Rattle.held.specs.Held.{Ran};
 ghost use Rattle.loads.specs.Steps.{commandReads, fileReads, Opening};
 ghost use Rattle.files.specs.Loads.{Loads};
 use cmdnames::number;
 use commands::next::Next;
 use commands::next::next_command;
-use enter::look;
+use deeds::done;
+use deeds::no_record;
+use deeds::refused;
+use deeds::rows_with;
+use deeds::warnings_with;
 use held::begun;
 use lists::Count;
+use loads::back;
 use loads::before_load;
-use made::Deed;
 use made::brief_of;
+use plain::act;
 use plain::counted;
-use plain::plain;
-use plain::put_deed;
 use plain::puts;
 use scopes::go::Out;
 use scopes::go::Place;
 use scopes::go::set_scope;
 use spans::span::pair;
+use store::state::Head;
 use store::state::State;
-use store::stored::Maybe;
+use store::stored::Stored;
 use text::part::place;
 
-// The state with the records that a command made.
-fn done(s: State, d: Deed) -> State {
-    let mut u = s;
-    match d {
-        Deed::Variable(a, b) => {
-            let i = u.variables.n;
-            u.variables.all[4 * i] = a.at;
-            u.variables.all[4 * i + 1] = a.len;
-            u.variables.all[4 * i + 2] = b.at;
-            u.variables.all[4 * i + 3] = b.len;
-            u.variables.n = i + 1;
-        }
-        Deed::Top(t) => u.head.top = t,
-        Deed::Domain(x) => {
-            let i = u.domains.n;
-            u.domains.all[i] = x;
-            u.domains.n = i + 1;
-        }
-        Deed::Net(x) => {
-            let i = u.nets.n;
-            u.nets.all[i] = x;
-            u.nets.n = i + 1;
-        }
-        Deed::Port(x) => {
-            let i = u.ports.n;
-            u.ports.all[i] = x;
-            u.ports.n = i + 1;
-        }
-        Deed::Isolation(x) => {
-            let i = u.isolations.n;
-            u.isolations.all[i] = x;
-            u.isolations.n = i + 1;
-        }
-        Deed::Retention(x) => {
-            let i = u.retentions.n;
-            u.retentions.all[i] = x;
-            u.retentions.n = i + 1;
-        }
-        Deed::Shifter(x) => {
-            let i = u.shifters.n;
-            u.shifters.all[i] = x;
-            u.shifters.n = i + 1;
-        }
-        Deed::Table(x) => {
-            let i = u.tables.n;
-            u.tables.all[i] = x;
-            u.tables.n = i + 1;
-        }
-        Deed::Supplied(i, x) => u.domains.all[i] = x,
-        Deed::Controlled(i, x) => u.isolations.all[i] = x,
-        Deed::Switch(x, e) => {
-            let i = u.switches.n;
-            u.switches.all[i] = x;
-            u.switches.n = i + 1;
-            u.fill.words = e;
-        }
-        Deed::PortState(x, e) => {
-            let i = u.portstates.n;
-            u.portstates.all[i] = x;
-            u.portstates.n = i + 1;
-            u.fill.words = e;
-        }
-        _ => {}
+// The head with another scope.
+fn in_scope(h: Head, scope: Stored) -> Head
+    ensures { λ r. ⌜ r ≡ record { scope = scope; top = h .top } ⌝ }
+{
+    let top = h.top;
+    Head {
+        scope: scope,
+        top: top,
     }
-    u
 }
 
 // File k, command by command, its words substituted with the variables known when it is opened.
@@ -144,7 +93,7 @@ pub fn read_file(
                     let b = before_load(job, files, area, nums, count, &words, n, p, k, left);
                     let w = b.went;
                     let q = w.place;
-                    u.head.scope = q.scope;
+                    u.head = in_scope(h, q.scope);
                     u.count.scopes = q.scopes;
                     u.fill.end = q.end;
                     if w.tag != 0 {
@@ -158,12 +107,7 @@ pub fn read_file(
                         return r;
                     }
                     u = r.state;
-                    u.head.scope = h.scope;
-                    let top = h.top;
-                    match top {
-                        Maybe::Given(t) => u.head.top = Maybe::Given(t),
-                        Maybe::Not => {}
-                    }
+                    u.head = back(h, u.head);
                     at = next;
                     continue;
                 }
@@ -180,7 +124,7 @@ pub fn read_file(
                 if c == 4 {
                     let w = set_scope(files, area, &words, n, p);
                     let q = w.place;
-                    u.head.scope = q.scope;
+                    u.head = in_scope(u.head, q.scope);
                     u.count.scopes = q.scopes;
                     u.fill.end = q.end;
                     if w.tag != 0 {
@@ -192,53 +136,31 @@ pub fn read_file(
                     continue;
                 }
                 let b = brief_of(u);
-                let d = if is_look(c) {
-                    look(
-                        files,
-                        &area[..e],
-                        &words,
-                        n,
-                        b,
-                        u.domains,
-                        u.nets,
-                        u.isolations,
-                        u.tables,
-                        c,
-                    )
-                } else {
-                    plain(files, &area[..e], nums, &words, n, b, c)
-                };
-                put_deed(nums, u.fill.rows, u.fill.warnings, d);
-                match d {
-                    Deed::Nothing => {}
-                    Deed::Full => return Out { tag: 10, state: u },
-                    Deed::Warning(_, _) => {
-                        if 256 <= u.fill.warnings {
-                            return Out { tag: 10, state: u };
-                        }
-                        let r = u.fill.rows + 1;
-                        let w = u.fill.warnings + 1;
-                        u.fill.rows = r;
-                        u.fill.warnings = w;
-                    }
-                    Deed::Row(_) => {
-                        let r = u.fill.rows + 1;
-                        u.fill.rows = r;
-                    }
-                    _ => u = done(u, d),
+                let d = act(
+                    files,
+                    &area[..e],
+                    nums,
+                    &words,
+                    n,
+                    b,
+                    u.fill.rows,
+                    u.fill.warnings,
+                    u.domains,
+                    u.nets,
+                    u.isolations,
+                    u.tables,
+                    c,
+                );
+                if refused(d, u.fill.warnings) {
+                    return Out { tag: 10, state: u };
                 }
+                u.fill.rows = rows_with(d, u.fill.rows);
+                u.fill.warnings = warnings_with(d, u.fill.warnings);
+                if no_record(d) {
+                    continue;
+                }
+                u = done(u, d);
             }
         }
-    }
-}
-
-fn is_look(c: usize) -> bool {
-    match c {
-        6 => true,
-        9 => true,
-        22 => true,
-        23 => true,
-        29 => true,
-        _ => false,
     }
 }

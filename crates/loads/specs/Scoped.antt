@@ -31,7 +31,7 @@ use Rattle.store.specs.declared.stored.Stored.{Stored}
 use Rattle.store.specs.declared.state.State.{State}
 use Rattle.made.specs.Made.{reachOf}
 use Rattle.scopes.specs.declared.go.Out.{Out}
-use Rattle.scopes.specs.Moves.{scopeFits, moved-to, Space, Line as Space·Line, In}
+use Rattle.scopes.specs.Moves.{scopeFits, moved-to, placeOf, Space, Line as Space·Line, In}
 use Rattle.held.specs.Grows.{bounded-more, bounded-ends}
 use Rattle.held.specs.Held.{memOf, modelAt, countedOf, Lends, Held, Worded}
 
@@ -57,10 +57,10 @@ words-grow files area area′ words n o e h g k w =
 
 -- ---- what moving the scope asks
 module _ (files area nums : List ℕ) (k : ℕ) (s : State) (v : Held files area nums k s) where
-  pub space : Space files area s
+  pub space : Space files area (placeOf s)
   space = record { counted = v .scopes; room = omega (arith, v .end, v .substituted, v .lends .area-long, v .scopes); scope = v .bounded .scope; small = v .lends .small }
 
-  pub scoping : (words : List ℕ) (n : ℕ) → Worded files words n s → Space·Line files area words n s
+  pub scoping : (words : List ℕ) (n : ℕ) → Worded files words n s → Space·Line files area words n (placeOf s)
   scoping words n w = record { space = space; line = w }
 
 -- ---- the order looks at the scope alone

@@ -1,3 +1,4 @@
 pub mod Asks
 pub mod Counted
 pub mod Stores
+pub mod Acts

@@ -10,10 +10,11 @@ ghost use Rattle.read.specs.Reading.{lineOf};
 ghost use Rattle.text.specs.Ascii.{Bytes};
 ghost use Rattle.held.specs.Held.{countedOf, modelAt, Ran};
 ghost use Rattle.loads.specs.Steps.{acted, lineAt};
-ghost use Rattle.plain.specs.Asks.{Lists, Asks, Others};
+ghost use Rattle.plain.specs.Acts.{Acting, Acts};
+ghost use Rattle.plain.specs.Asks.{Lists, Asks};
 ghost use Rattle.plain.specs.Counted.{countedIn};
-ghost use Rattle.plain.specs.Stores.{RowRoom, Stores};
 use args::argument::last_positional;
+use deeds::put_deed;
 use enter::enter;
 use lists::Count;
 use lists::entries;
@@ -24,9 +25,10 @@ use names::put::put_name;
 use out::emit::put;
 use statecmds::add_port_state;
 use statecmds::create_power_switch;
-use store::row::Row;
-use store::row::put_row;
-use store::stored::Stored;
+use store::state::Domains;
+use store::state::Isolations;
+use store::state::Nets;
+use store::state::Tables;
 
 // Whether the command is within the limits of commands and lists, and how many entries there are with it.
 pub fn counted<'a>(
@@ -47,26 +49,6 @@ pub fn counted<'a>(
     entries(files, area, words, n, c, before)
 }
 
-// The row of what a command did, in the store behind `rows` others; a warning is none where there are 256.
-pub fn put_deed(nums: &mut [u32], rows: usize, warnings: usize, d: Deed) {
-    match d {
-        Deed::Row(r) => put_row(nums, rows, r),
-        Deed::Warning(kind, name) => {
-            if warnings < 256 {
-                let z = Stored { at: 0, len: 0 };
-                let r = Row {
-                    kind: kind,
-                    scope: z,
-                    name: name,
-                    value: z,
-                };
-                put_row(nums, rows, r);
-            }
-        }
-        _ => {}
-    }
-}
-
 // puts.
 pub fn puts<'a>(
     files: &'a [u8],
@@ -82,21 +64,47 @@ pub fn puts<'a>(
     put(log, b, b"\n")
 }
 
-// A command of number c that only adds records.
-pub fn plain<'a>(
+// What command c does to the records, with its row in the store.
+pub fn act<'a>(
     files: &'a [u8],
     area: &'a [u8],
     nums: &mut [u32],
     words: &[u32],
     n: usize,
     b: Brief,
+    rows: usize,
+    warnings: usize,
+    domains: Domains,
+    nets: Nets,
+    isolations: Isolations,
+    tables: Tables,
     c: usize,
-) -> Deed {
+) -> Deed
+    requires { ⌜ Acting (now files) (now area) (now nums) (now words) n c rows warnings b domains nets isolations tables ⌝ }
+    ensures { λ r. ⌜ ((v : Acting (now (files .entry)) (now (area .entry)) (now (nums .entry)) (now (words .entry)) n c rows warnings b domains nets isolations tables) → Acts (now (files .entry)) (v .whole) (now (nums .entry)) (now (nums .exit)) (now (words .entry)) n c (v .state) r) ⌝ }
+{
     if c == 21 {
-        return create_power_switch(files, area, words, n, nums, b);
+        let d = create_power_switch(files, area, words, n, nums, b);
+        put_deed(nums, rows, warnings, d);
+        return d;
     }
     if c == 27 {
-        return add_port_state(files, area, words, n, nums, b);
+        let d = add_port_state(files, area, words, n, nums, b);
+        put_deed(nums, rows, warnings, d);
+        return d;
     }
-    enter(files, area, words, n, b, c)
+    let d = enter(
+        files,
+        area,
+        words,
+        n,
+        b,
+        domains,
+        nets,
+        isolations,
+        tables,
+        c,
+    );
+    put_deed(nums, rows, warnings, d);
+    d
 }

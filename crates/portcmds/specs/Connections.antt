@@ -27,7 +27,9 @@ use Rattle.store.specs.declared.stored.Stored.{Stored}
 use Rattle.store.specs.declared.row.Row.{Row}
 use Rattle.store.specs.declared.state.State.{State}
 use Rattle.made.specs.declared.Made.{Made}
-use Rattle.made.specs.Made.{rowMade, reachOf, Ready, Did}
+use Rattle.made.specs.declared.Brief.{Brief}
+use Rattle.made.specs.declared.Deed.the-variants as deed
+use Rattle.made.specs.Made.{briefOf, rowMade, reachOf, Ready, Did, Does}
 use Rattle.made.specs.Done.{did-row}
 use Rattle.made.specs.Asked.{list-found, found-by}
 
@@ -65,3 +67,9 @@ module _ (long : ℕ) (mem : Bytes) (words : List ℕ) (n : ℕ) (st : Store) (l
         (row-shaped st s row (v .shaped) (omega arith) (omega arith))
         (row-bounded (reachOf long) (length mem) st s row (v .bounded) (omega (arith, v .line, v .bounded .scope, a .within (reach long) (none-reach long), found-by mem words n (reach long) (none-reach long) (optionOf (ascii "-ports") ws) f q)))
         (record { kind = omega arith; at = omega (arith, v .small, v .bounded .scope, reach-end long (spanOf (s .head .scope))); len = omega (arith, v .shaped .scope) }))
+
+-- ---- its deed
+pub connected : (files area : Bytes) (words : List ℕ) (n : ℕ) (b : Brief) (r : Span) (f : Found) (x y : Stored) → Reads (files ++ area) words n (nameOf (wordsFrom (files ++ area) words n 1)) r → Finds (files ++ area) words n (optionOf (ascii "-ports") (wordsFrom (files ++ area) words n 1)) f → x ≡ storedOf r → y ≡ foundOr f → Does files area words n (λ (s : State). briefOf s ≡ b) (deed.Row (record { kind = 1; scope = b .scope; name = x; value = y })) (λ (m : Model). connect-command m (wordsFrom (files ++ area) words n 1))
+connected files area words n b r f x y a q ex ey s e =
+    rw (← (ap (λ (z : Brief). z .scope) e))
+    (record { fits = tt; did = λ st log v. connect-fine (length files) (files ++ area) words n st log s v r f a q x y (rowMade s (record { kind = 1; scope = s .head .scope; name = x; value = y })) ex ey refl })

@@ -1,5 +1,6 @@
 // create_supply_port, connect_supply_net.
 ghost use mathlib.Core.List.{List, _++_};
+ghost use mathlib.Core.Path.{_≡_};
 ghost use Prim.Native.Nat.{ℕ, _<_, _^_};
 ghost use Rattle.text.specs.Ascii.{Bytes};
 ghost use Rattle.spans.specs.Span.{pairs};

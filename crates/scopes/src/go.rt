@@ -1,4 +1,5 @@
 // The scope moved, where it is within the limits.
+ghost use mathlib.Core.Path.{_≡_};
 ghost use mathlib.Core.List.{_++_};
 ghost use lib.ListN.{take};
 ghost use Rattle.spans.specs.Span.{bytes};
@@ -9,7 +10,7 @@ ghost use Rattle.args.specs.View.{wordsFrom};
 ghost use Rattle.store.specs.Strings.{string};
 ghost use Rattle.scopes.specs.declared.target.Target.the-variants.{Below};
 ghost use Rattle.scopes.specs.Target.{targetOf};
-ghost use Rattle.scopes.specs.Moves.{scopeFits, Reaches, Goes, Line, Aims, Moves, Enters};
+ghost use Rattle.scopes.specs.Moves.{scopeFits, placeOf, outOf, Reaches, Goes, Line, Aims, Shifts, Moves, Leads};
 use super::target::Target;
 use super::target::entered;
 use super::target::moved;
@@ -45,8 +46,8 @@ pub struct Went {
 
 // The scope is a string that is there.
 fn go_to(files: &[u8], area: &[u8], p: Place, t: Span) -> Went
-    requires { ⌜ Reaches (now files) (now area) s t ⌝ }
-    ensures { λ r. ⌜ Goes (now (files .entry) ++ now (area .entry)) s t r (scopeFits (s .count .scopes) (bytes (now (files .entry) ++ now (area .entry)) t)) ⌝ }
+    requires { ⌜ Reaches (now files) (now area) p t ⌝ }
+    ensures { λ r. ⌜ Goes (now (files .entry) ++ now (area .entry)) p t r (scopeFits (p .scopes) (bytes (now (files .entry) ++ now (area .entry)) t)) ⌝ }
 {
     let n = size(files, area, t);
     let all = p.scopes;
@@ -63,8 +64,8 @@ fn go_to(files: &[u8], area: &[u8], p: Place, t: Span) -> Went
 
 // The scope is a name below the scope, written to the area.
 fn go_below(files: &[u8], area: &mut [u8], p: Place, name: Span) -> Went
-    requires { ⌜ Aims (now files) (now area) s name Below ⌝ }
-    ensures { λ r. ⌜ Moves (now (files .entry)) (now (area .entry)) (now (area .exit)) s (below (string (now (files .entry) ++ take (s .fill .end) (now (area .entry))) (s .head .scope)) (bytes (now (files .entry) ++ take (s .fill .end) (now (area .entry))) name)) r (scopeFits (s .count .scopes) (below (string (now (files .entry) ++ take (s .fill .end) (now (area .entry))) (s .head .scope)) (bytes (now (files .entry) ++ take (s .fill .end) (now (area .entry))) name))) ⌝ }
+    requires { ⌜ Aims (now files) (now area) p name Below ⌝ }
+    ensures { λ r. ⌜ Shifts (now (files .entry)) (now (area .entry)) (now (area .exit)) p (below (string (now (files .entry) ++ take (p .end) (now (area .entry))) (p .scope)) (bytes (now (files .entry) ++ take (p .end) (now (area .entry))) name)) r (scopeFits (p .scopes) (below (string (now (files .entry) ++ take (p .end) (now (area .entry))) (p .scope)) (bytes (now (files .entry) ++ take (p .end) (now (area .entry))) name))) ⌝ }
 {
     let scope = span(p.scope);
     let o = p.end;
@@ -93,8 +94,8 @@ fn go_below(files: &[u8], area: &mut [u8], p: Place, name: Span) -> Went
 }
 
 fn go(files: &[u8], area: &mut [u8], p: Place, name: Span, t: Target) -> Went
-    requires { ⌜ Aims (now files) (now area) s name t ⌝ }
-    ensures { λ r. ⌜ Moves (now (files .entry)) (now (area .entry)) (now (area .exit)) s (targetOf (now (files .entry) ++ take (s .fill .end) (now (area .entry))) (string (now (files .entry) ++ take (s .fill .end) (now (area .entry))) (s .head .scope)) (bytes (now (files .entry) ++ take (s .fill .end) (now (area .entry))) name) t) r (scopeFits (s .count .scopes) (targetOf (now (files .entry) ++ take (s .fill .end) (now (area .entry))) (string (now (files .entry) ++ take (s .fill .end) (now (area .entry))) (s .head .scope)) (bytes (now (files .entry) ++ take (s .fill .end) (now (area .entry))) name) t)) ⌝ }
+    requires { ⌜ Aims (now files) (now area) p name t ⌝ }
+    ensures { λ r. ⌜ Shifts (now (files .entry)) (now (area .entry)) (now (area .exit)) p (targetOf (now (files .entry) ++ take (p .end) (now (area .entry))) (string (now (files .entry) ++ take (p .end) (now (area .entry))) (p .scope)) (bytes (now (files .entry) ++ take (p .end) (now (area .entry))) name) t) r (scopeFits (p .scopes) (targetOf (now (files .entry) ++ take (p .end) (now (area .entry))) (string (now (files .entry) ++ take (p .end) (now (area .entry))) (p .scope)) (bytes (now (files .entry) ++ take (p .end) (now (area .entry))) name) t)) ⌝ }
 {
     match t {
         Target::At(x) => go_to(files, &area[..p.end], p, x),
@@ -104,8 +105,8 @@ fn go(files: &[u8], area: &mut [u8], p: Place, name: Span, t: Target) -> Went
 
 // set_scope.
 pub fn set_scope(files: &[u8], area: &mut [u8], words: &[u32], n: usize, p: Place) -> Went
-    requires { ⌜ Line (now files) (now area) (now words) n s ⌝ }
-    ensures { λ r. ⌜ Moves (now (files .entry)) (now (area .entry)) (now (area .exit)) s (Scope·moved (string (now (files .entry) ++ take (s .fill .end) (now (area .entry))) (s .head .scope)) (nameOf (wordsFrom (now (files .entry) ++ take (s .fill .end) (now (area .entry))) (now (words .entry)) n 1))) r (scopeFits (s .count .scopes) (Scope·moved (string (now (files .entry) ++ take (s .fill .end) (now (area .entry))) (s .head .scope)) (nameOf (wordsFrom (now (files .entry) ++ take (s .fill .end) (now (area .entry))) (now (words .entry)) n 1)))) ⌝ }
+    requires { ⌜ Line (now files) (now area) (now words) n p ⌝ }
+    ensures { λ r. ⌜ ((s : State) → placeOf s ≡ p → Moves (now (files .entry)) (now (area .entry)) (now (area .exit)) s (Scope·moved (string (now (files .entry) ++ take (s .fill .end) (now (area .entry))) (s .head .scope)) (nameOf (wordsFrom (now (files .entry) ++ take (s .fill .end) (now (area .entry))) (now (words .entry)) n 1))) (outOf s r) (scopeFits (s .count .scopes) (Scope·moved (string (now (files .entry) ++ take (s .fill .end) (now (area .entry))) (s .head .scope)) (nameOf (wordsFrom (now (files .entry) ++ take (s .fill .end) (now (area .entry))) (now (words .entry)) n 1))))) ⌝ }
 {
     let scope = span(p.scope);
     let o = p.end;
@@ -116,8 +117,8 @@ pub fn set_scope(files: &[u8], area: &mut [u8], words: &[u32], n: usize, p: Plac
 
 // The scope that a load enters.
 pub fn load_scope(files: &[u8], area: &mut [u8], words: &[u32], n: usize, p: Place) -> Went
-    requires { ⌜ Line (now files) (now area) (now words) n s ⌝ }
-    ensures { λ r. ⌜ Enters (now (files .entry)) (now (area .entry)) (now (area .exit)) s (optionOf (ascii "-scope") (wordsFrom (now (files .entry) ++ take (s .fill .end) (now (area .entry))) (now (words .entry)) n 1)) r ⌝ }
+    requires { ⌜ Line (now files) (now area) (now words) n p ⌝ }
+    ensures { λ r. ⌜ Leads (now (files .entry)) (now (area .entry)) (now (area .exit)) p (optionOf (ascii "-scope") (wordsFrom (now (files .entry) ++ take (p .end) (now (area .entry))) (now (words .entry)) n 1)) r ⌝ }
 {
     let scope = span(p.scope);
     let o = p.end;

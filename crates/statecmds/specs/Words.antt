@@ -17,6 +17,7 @@ use Rattle.store.specs.declared.stored.Stored.{Stored}
 use Rattle.store.specs.declared.state.Switch.{Switch}
 use Rattle.store.specs.declared.state.PortState.{PortState}
 use Rattle.store.specs.declared.state.State.{State}
+use Rattle.made.specs.Made.{words-set}
 
 -- the numbers with words put from the k-th on
 unfoldable pub wordsPut : List ℕ → ℕ → List Stored → List ℕ
@@ -26,10 +27,6 @@ wordsPut l k (w ∷ ws) = wordsPut (word-put l k w) (k + 1) ws
 -- the store with words more
 abbrev pub worded : Store → List Stored → Store
 worded st ws = record { rows = st .rows; words = st .words ++ ws }
-
--- the state with so many words
-abbrev pub words-set : State → ℕ → State
-words-set s k = record { head = s .head; count = s .count; fill = record { end = s .fill .end; log = s .fill .log; rows = s .fill .rows; words = k; warnings = s .fill .warnings }; domains = s .domains; nets = s .nets; ports = s .ports; switches = s .switches; isolations = s .isolations; retentions = s .retentions; shifters = s .shifters; portstates = s .portstates; tables = s .tables; variables = s .variables }
 
 -- ---- the numbers
 

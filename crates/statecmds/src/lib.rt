@@ -21,7 +21,6 @@ use args::state::state_at;
 use made::Brief;
 use made::Deed;
 use store::state::PortState;
-use store::state::State;
 use store::state::Switch;
 use store::stored::Below;
 use store::stored::Stored;
@@ -114,8 +113,8 @@ pub fn create_power_switch<'a>(
     nums: &mut [u32],
     b: Brief,
 ) -> Deed
-    requires { ⌜ WordRoom (ascii "-on_state") (ascii "-off_state") (now files ++ now area) (now words) n (now nums) s ⌝ }
-    ensures { λ r. ⌜ WordsDid (length (now (files .entry))) (now (files .entry) ++ now (area .entry)) (now (words .entry)) n (now (nums .entry)) (now (nums .exit)) s r (λ (m : Model). switch-command m (bytes (now (files .entry) ++ now (area .entry)) (pairAt (now (words .entry)) 0)) (wordsFrom (now (files .entry) ++ now (area .entry)) (now (words .entry)) n 1)) ⌝ }
+    requires { ⌜ WordRoom (ascii "-on_state") (ascii "-off_state") (now files ++ now area) (now words) n (now nums) b ⌝ }
+    ensures { λ r. ⌜ WordsDid (now (files .entry)) (now (area .entry)) (now (words .entry)) n (now (nums .entry)) (now (nums .exit)) b r (λ (m : Model). switch-command m (bytes (now (files .entry) ++ now (area .entry)) (pairAt (now (words .entry)) 0)) (wordsFrom (now (files .entry) ++ now (area .entry)) (now (words .entry)) n 1)) ⌝ }
 {
     if 32 <= b.switches {
         return Deed::Full;
@@ -157,8 +156,8 @@ pub fn add_port_state<'a>(
     nums: &mut [u32],
     b: Brief,
 ) -> Deed
-    requires { ⌜ WordRoom (ascii "-state") (ascii "-state") (now files ++ now area) (now words) n (now nums) s ⌝ }
-    ensures { λ r. ⌜ WordsDid (length (now (files .entry))) (now (files .entry) ++ now (area .entry)) (now (words .entry)) n (now (nums .entry)) (now (nums .exit)) s r (λ (m : Model). port-state-command m (bytes (now (files .entry) ++ now (area .entry)) (pairAt (now (words .entry)) 0)) (wordsFrom (now (files .entry) ++ now (area .entry)) (now (words .entry)) n 1)) ⌝ }
+    requires { ⌜ WordRoom (ascii "-state") (ascii "-state") (now files ++ now area) (now words) n (now nums) b ⌝ }
+    ensures { λ r. ⌜ WordsDid (now (files .entry)) (now (area .entry)) (now (words .entry)) n (now (nums .entry)) (now (nums .exit)) b r (λ (m : Model). port-state-command m (bytes (now (files .entry) ++ now (area .entry)) (pairAt (now (words .entry)) 0)) (wordsFrom (now (files .entry) ++ now (area .entry)) (now (words .entry)) n 1)) ⌝ }
 {
     if 32 <= b.portstates {
         return Deed::Full;
