@@ -41,7 +41,6 @@ use Rattle.held.specs.Held.{memOf, modelAt, countedOf, logOf, readingOf, Logged
 use Rattle.held.specs.Laws.{with-entries, entries-held, entries-model, lent-same, lent-two}
 use Rattle.loads.specs.Steps.{lineAt, countedOn, stepFrom, listsFit, countedOut, acted, loadAt, filesIn, commandReads, fileReads, Doing}
 use Rattle.loads.specs.Loads.{restored-by, Loading, Loaded, Refuses, Opens}
-use Rattle.loads.specs.declared.Load.{Load}
 use Rattle.loads.specs.Scoped.{line-is}
 use Rattle.loads.specs.Steps.{Opening}
 use Rattle.reader.specs.Command.{comes-refused, refused-is, done-is, reads-is, state-is, commands-fit, counted-held, counted-worded, counted-few}
@@ -126,38 +125,38 @@ module _ (job files area nums words : List ℕ) (count n k left : ℕ) (s : Stat
   step-is : (text : Bytes) → reads text ≡ stepFrom (loadAt (filesIn job nums count) left) (pathAt job nums k) load-upf (lineAt files area words n s) (countedOf s) (modelAt files area nums s text)
   step-is text = reads-is job files area nums words count n k left s v c ec text ∙ ap (λ (j : ℕ). stepFrom (loadAt (filesIn job nums count) left) (pathAt job nums k) (namedBy j) (lineAt files area words n s) (countedOf s) (modelAt files area nums s text)) two
 
-  module _ (area′ : List ℕ) (b : Load) (w₀ : Loaded job files area area′ nums count words n k left (x .state) b) where
-    w : Loaded job files area area′ nums count words n k left s b
+  module _ (area′ : List ℕ) (b : Out) (m : ℕ) (w₀ : Loaded job files area area′ nums count words n k left (x .state) b m) where
+    w : Loaded job files area area′ nums count words n k left s b m
     w = rw same-state at w₀
 
     lent-first : Lent (s .fill .end) area area′ nums nums
     lent-first = record { kept = w .kept; back = w .back; low = refl; high = refl }
 
-    pub load-refused : (log : List ℕ) → (b .out .tag ≡ 0 → ⊥) → Ran files area area′ nums nums log log s (b .out) reads
+    pub load-refused : (log : List ℕ) → (b .tag ≡ 0 → ⊥) → Ran files area area′ nums nums log log s b reads
     load-refused log h =
         record {
           held = λ q. absurd (h q);
           more = λ q. absurd (h q);
           lent = lent-first;
-          reads = λ log₀ text g. comes-refused files area′ nums log₀ log (b .out) (reads text) h (step-is text ∙ w .refuses h .is text);
+          reads = λ log₀ text g. comes-refused files area′ nums log₀ log b (reads text) h (step-is text ∙ w .refuses h .is text);
         }
 
-    module _ (h : b .out .tag ≡ 0) where
-      o : Opens job files area area′ nums count words n k left s b
+    module _ (h : b .tag ≡ 0) where
+      o : Opens job files area area′ nums count words n k left s b m
       o = w .opens h
 
       pub load-deep : 1 ≤ left
       load-deep = o .deep
 
-      pub load-opening : Opening job files area′ nums count (b .file) (left - 1) (b .out .state)
+      pub load-opening : Opening job files area′ nums count m (left - 1) (b .state)
       load-opening = record { filed = v .filed; held = o .held; file = o .file; depth = omega (arith, v .depth) }
 
-      module _ (area″ nums″ log log″ : List ℕ) (r : Out) (g : Ran files area′ area″ nums nums″ log log″ (b .out .state) r (fileReads job files area′ nums count (b .file) (left - 1) (b .out .state))) where
+      module _ (area″ nums″ log log″ : List ℕ) (r : Out) (g : Ran files area′ area″ nums nums″ log log″ (b .state) r (fileReads job files area′ nums count m (left - 1) (b .state))) where
         lent-all : Lent (s .fill .end) area area″ nums nums″
-        lent-all = lent-two (s .fill .end) (b .out .state .fill .end) area area′ area″ nums nums nums″ (o .more) lent-first (g .lent)
+        lent-all = lent-two (s .fill .end) (b .state .fill .end) area area′ area″ nums nums nums″ (o .more) lent-first (g .lent)
 
         abbrev d : Bytes → Reading
-        d text = fileReads job files area′ nums count (b .file) (left - 1) (b .out .state) text
+        d text = fileReads job files area′ nums count m (left - 1) (b .state) text
 
         comes : (log₀ text : Bytes) → Logged log₀ log (s .fill .log) text → Comes files area″ nums″ log₀ log″ r (d text)
         comes log₀ text q = g .reads log₀ text (rw (o .log) q)
