@@ -1,18 +1,16 @@
 // A command that loads nothing.
 ghost use mathlib.Core.Path.{_≡_};
 ghost use mathlib.Core.List.{List, _++_};
-ghost use Prim.Native.Nat.{ℕ, _≤_};
-ghost use lib.ListN.{length};
+ghost use Rattle.out.specs.Emit.{_▸_, emit};
 ghost use Rattle.spans.specs.Span.{strings};
+ghost use Rattle.args.specs.View.{wordsFrom};
 ghost use Rattle.model.specs.Numbers.{namedBy};
 ghost use Rattle.model.specs.Within.{entriesOf, listsBy};
 ghost use Rattle.read.specs.Reading.{lineOf};
-ghost use Rattle.text.specs.Ascii.{Bytes};
-ghost use Rattle.held.specs.Held.{countedOf, modelAt, Ran};
-ghost use Rattle.loads.specs.Steps.{acted, lineAt};
 ghost use Rattle.plain.specs.Acts.{Acting, Acts};
-ghost use Rattle.plain.specs.Asks.{Lists, Asks};
+ghost use Rattle.plain.specs.Asks.{Lists};
 ghost use Rattle.plain.specs.Counted.{countedIn};
+ghost use Rattle.plain.specs.Puts.{saying};
 use args::argument::last_positional;
 use deeds::put_deed;
 use enter::enter;
@@ -49,7 +47,7 @@ pub fn counted<'a>(
     entries(files, area, words, n, c, before)
 }
 
-// puts.
+// puts: what it writes to the log, and where that ends.
 pub fn puts<'a>(
     files: &'a [u8],
     area: &'a [u8],
@@ -57,7 +55,9 @@ pub fn puts<'a>(
     words: &[u32],
     n: usize,
     at: usize,
-) -> usize {
+) -> usize
+    ensures { λ r. ⌜ now (log .exit) ▸ r ≡ emit (now (log .entry) ▸ at) (saying (wordsFrom (now (files .entry) ++ now (area .entry)) (now (words .entry)) n 1)) ⌝ }
+{
     let w = last_positional(files, area, words, n);
     let a = put(log, at, b"[UPF] ");
     let b = put_name(log, a, files, area, alone(w, 0));
