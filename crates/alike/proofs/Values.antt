@@ -76,11 +76,29 @@ module _ (i j : Isolationʳ) (n m : ℕ) (e : n ≡ activeNumber (lowered (i .se
   unfolding areAlike activeNumber
   alike-by h r g = g ∙ agree (same (lowered (i .sense)) (ascii "low")) (same (lowered (j .sense)) (ascii "low")) (sym e ∙ h ∙ f) (same (dotted (signalOf i)) (dotted (signalOf j)))
 
-module _ (mem : Bytes) (t : Isolations) (i j n m : ℕ) (e : n ≡ activeNumber (lowered (strategyAt mem t i .sense))) (f : m ≡ activeNumber (lowered (strategyAt mem t j .sense))) where
-  pub not-alike : (n ≡ m → ⊥) → false ≡ areAlike (strategyAt mem t i) (strategyAt mem t j)
-  not-alike h = unalike (strategyAt mem t i) (strategyAt mem t j) n m e f h
+module _ (mem : Bytes) (a b : Isolation) (n m : ℕ) (e : n ≡ activeNumber (lowered (or-else (maybeOf mem (a .sense)) (ascii "high")))) (f : m ≡ activeNumber (lowered (or-else (maybeOf mem (b .sense)) (ascii "high")))) where
+  pub not-alike : (n ≡ m → ⊥) → false ≡ areAlike (isolationOf mem a) (isolationOf mem b)
+  unfolding isolationOf
+  not-alike h = unalike (isolationOf mem a) (isolationOf mem b) n m e f h
 
-  pub signals-alike : n ≡ m → (x y : Name) (r : Bool) → r ≡ same (dotted (nameOf mem x)) (dotted (nameOf mem y)) → x ≡ signalName (isolationAt t i .signal) → y ≡ signalName (isolationAt t j .signal) → r ≡ areAlike (strategyAt mem t i) (strategyAt mem t j)
-  signals-alike h x y r g p q = alike-by (strategyAt mem t i) (strategyAt mem t j) n m e f h r (g ∙ rw (signal-read mem t i x p, signal-read mem t j y q))
+  text-of : (c : Isolation) (x : Name) → x ≡ signalName (c .signal) → nameOf mem x ≡ signalOf (isolationOf mem c)
+  unfolding isolationOf
+  text-of c x g = rw g (signal-text mem (c .signal))
 
-pub ruleset alikes = (needs, not-alike, signals-alike)
+  pub signals-alike : n ≡ m → (x y : Name) (r : Bool) → r ≡ same (dotted (nameOf mem x)) (dotted (nameOf mem y)) → x ≡ signalName (a .signal) → y ≡ signalName (b .signal) → r ≡ areAlike (isolationOf mem a) (isolationOf mem b)
+  unfolding isolationOf
+  signals-alike h x y r g p q = alike-by (isolationOf mem a) (isolationOf mem b) n m e f h r (g ∙ rw (text-of a x p, text-of b y q))
+
+pub ruleset rows = (needs, not-alike, signals-alike)
+
+-- ---- by their numbers
+
+-- a strategy is like itself
+self-alike : (i : Isolationʳ) → true ≡ areAlike i i
+unfolding areAlike
+self-alike i = sym (rw (same-refl (dotted (signalOf i)), same-refl (activeOf i)))
+
+pub one-alike : (mem : Bytes) (t : Isolations) (i j : ℕ) → i ≡ j → true ≡ areAlike (strategyAt mem t i) (strategyAt mem t j)
+one-alike mem t i j e = rw e (self-alike (strategyAt mem t j))
+
+pub ruleset alikes = (needs, one-alike)

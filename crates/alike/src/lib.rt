@@ -6,6 +6,7 @@ ghost use Rattle.text.specs.Compare.{same as Compare·same, less as Compare·le
 ghost use Rattle.out.specs.Bytewise.{dotted};
 ghost use Rattle.names.specs.Name.{nameOf};
 ghost use Rattle.texts.specs.Isolation.{lowered};
+ghost use Rattle.store.specs.View.{isolationOf};
 ghost use Rattle.clamps.specs.Values.{storedName, activeNumber};
 ghost use Rattle.alike.specs.Strategies.{isolationAt, strategyAt, signalName, areAlike};
 use clamps::active;
@@ -119,12 +120,28 @@ pub fn less_dotted(files: &[u8], area: &[u8], a: Name, b: Name) -> bool
 }
 
 // Whether two strategies have the same signal and the same active value.
+fn alike_rows(files: &[u8], area: &[u8], a: Isolation, b: Isolation) -> bool
+    ensures { λ r. ⌜ r ≡ areAlike (isolationOf (now (files .entry) ++ now (area .entry)) a) (isolationOf (now (files .entry) ++ now (area .entry)) b) ⌝ }
+{
+    let p = a.sense;
+    let q = b.sense;
+    if active(files, area, p) != active(files, area, q) {
+        return false;
+    }
+    let s = a.signal;
+    let u = b.signal;
+    same_dotted(files, area, signal_name(s), signal_name(u))
+}
+
+// Whether two strategies, by their numbers, have the same signal and the same active value.
 pub fn alike(files: &[u8], area: &[u8], t: Isolations, i: usize, j: usize) -> bool
     requires { ⌜ (i < 32) × (j < 32) ⌝ }
     ensures { λ r. ⌜ r ≡ areAlike (strategyAt (now (files .entry) ++ now (area .entry)) t i) (strategyAt (now (files .entry) ++ now (area .entry)) t j) ⌝ }
 {
-    if active_of(files, area, t, i) != active_of(files, area, t, j) {
-        return false;
+    if i == j {
+        return true;
     }
-    same_dotted(files, area, signal_of(t, i), signal_of(t, j))
+    let a = t.all[i];
+    let b = t.all[j];
+    alike_rows(files, area, a, b)
 }

@@ -36,18 +36,19 @@ use Rattle.checks.proofs.Inserts.{number-at}
 
 -- ---- gathered: those of the ports from row k on are sorted
 
-pub record Gathers (mem : Bytes) (t : Isolations) (domain : Stored) (ports : List ℕ) (n : ℕ) (found₀ found : List ℕ) (m k : ℕ) : Type 0 where
+pub record Gathers (mem : Bytes) (t : Isolations) (domain : Stored) (ports : List ℕ) (n : ℕ) (found₀ found : List ℕ) (m k s : ℕ) : Type 0 where
   pub before : k ≤ n
+  pub others : s < 32 → isOwnNumber mem t domain s ≡ false
   pub so-far : Found (sortedIn (strategyAt mem t) (those (isOwnNumber mem t domain) (numbersFrom ports k (n - k)))) (n - k) found₀ found m
 
 module _ (mem : Bytes) (t : Isolations) (domain : Stored) (ports : List ℕ) (n : ℕ) (found₀ : List ℕ) where
-  pub gather-start : Gathers mem t domain ports n found₀ found₀ 0 n
+  pub gather-start : Gathers mem t domain ports n found₀ found₀ 0 n 32
   unfolding numbersFrom those sortedIn all
   gather-start =
       let z : n - n ≡ 0 = omega arith in
-      record { before = omega arith; so-far = rw z (record { are = refl; count = omega arith; known = record { few = omega arith; long = omega arith; numbers = refl }; size = refl }) }
+      record { before = omega arith; others = λ h. absurd (omega (arith, h)); so-far = rw z (record { are = refl; count = omega arith; known = record { few = omega arith; long = omega arith; numbers = refl }; size = refl }) }
 
-  module _ (w : Sorts mem t ports n found₀) (found : List ℕ) (m k : ℕ) (inv : Gathers mem t domain ports n found₀ found m k) where
+  module _ (w : Sorts mem t ports n found₀) (found : List ℕ) (m k s : ℕ) (inv : Gathers mem t domain ports n found₀ found m k s) where
     pub gather-end : k ≤ 0 → Found (ownIn mem t domain ports n) n found₀ found m
     gather-end h =
         let e : k ≡ 0 = omega arith in
@@ -85,10 +86,11 @@ module _ (mem : Bytes) (t : Isolations) (domain : Stored) (ports : List ℕ) (n 
               let y : k - 1 + 1 ≡ k = omega arith in
               rw (z, numbers-next ports (k - 1) (n - k), y, ← e, ← g)
 
-          pub gather-other : not b ≡ true → Gathers mem t domain ports n found₀ found m (k - 1)
+          pub gather-other : not b ≡ true → Gathers mem t domain ports n found₀ found m (k - 1) (x .strategy)
           gather-other d =
               record {
                 before = omega (arith, inv .before);
+                others = λ l. sym g ∙ is-false b d;
                 so-far =
                     rw (opened, is-false b d)
                     (record { are = inv .so-far .are; count = omega (arith, inv .so-far .count); known = inv .so-far .known; size = inv .so-far .size });
@@ -98,11 +100,12 @@ module _ (mem : Bytes) (t : Isolations) (domain : Stored) (ports : List ℕ) (n 
               is-false true e = sym e
               is-false false e = refl
 
-          pub gather-one : not b ≡ false → (found′ : List ℕ) (r : ℕ) → Found (insertedIn (strategyAt mem t) (x .strategy) (take m found)) (m + 1) found found′ r → Gathers mem t domain ports n found₀ found′ r (k - 1)
+          pub gather-one : not b ≡ false → (found′ : List ℕ) (r : ℕ) → Found (insertedIn (strategyAt mem t) (x .strategy) (take m found)) (m + 1) found found′ r → Gathers mem t domain ports n found₀ found′ r (k - 1) s
           unfolding sortedIn
           gather-one d found′ r a =
               record {
                 before = omega (arith, inv .before);
+                others = inv .others;
                 so-far =
                     rw (opened, is-true b d)
                     (record {
@@ -117,10 +120,16 @@ module _ (mem : Bytes) (t : Isolations) (domain : Stored) (ports : List ℕ) (n 
               is-true true e = refl
               is-true false e = sym e
 
+        pub gather-skip : x .strategy ≡ s → Gathers mem t domain ports n found₀ found m (k - 1) s
+        gather-skip d =
+            let l : s < 32 = rw d at gather-number in
+            let g : false ≡ isOwnNumber mem t domain (x .strategy) = sym (ap (λ (j : ℕ). isOwnNumber mem t domain j) d ∙ inv .others l) in
+            rw d at (gather-other false g refl)
+
 pub sorts-sized : (mem : Bytes) (t : Isolations) (ports : List ℕ) (n : ℕ) (found : List ℕ) → Sorts mem t ports n found → Sized 32 (t .n) (t .all)
 sorts-sized mem t ports n found w = w .sized
 
-pub ruleset gathers = (needs, sorts-sized, gather-end, gather-row, gather-number, gather-adds, gather-other, gather-one)
+pub ruleset gathers = (needs, sorts-sized, gather-end, gather-row, gather-number, gather-adds, gather-other, gather-one, gather-skip)
 
 -- ---- written
 

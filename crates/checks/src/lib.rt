@@ -163,7 +163,8 @@ fn add<'a>(
     n + 1
 }
 
-// The strategies whose checks a domain has, sorted, from the n ports: how many they are.
+// The strategies whose checks a domain has, sorted, from the n ports: how many they are. `s` is a strategy that is known to be of another domain: ports
+// of one stand together.
 pub fn checks<'a>(
     files: &'a [u8],
     area: &'a [u8],
@@ -178,11 +179,16 @@ pub fn checks<'a>(
 {
     let mut m = 0;
     let mut k = n;
+    let mut s = 32;
     while 0 < k {
         k -= 1;
         let x = port_at(ports, k);
         let i = x.strategy;
+        if i == s {
+            continue;
+        }
         if !belongs(files, area, t, i, domain) {
+            s = i;
             continue;
         }
         m = add(files, area, t, found, m, i);

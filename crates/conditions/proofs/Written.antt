@@ -1,17 +1,18 @@
 -- A condition, written: laws as the needs ask them. Assumes nothing.
-use Prim.Native.Nat.{ℕ, _≤_, _<_}
+use Prim.Native.Nat.{ℕ, _+_, _-_, _≤_, _<_}
 use mathlib.Core.Path.{_≡_, refl, sym, ap, _∙_}
 use mathlib.Core.Bool.{Bool, true, false, cond}
 use mathlib.Core.List.{List, [], _∷_, _++_}
 use mathlib.Core.Option.{Option, none, some}
-use lib.Dec.{eqb}
+use native.Mathlib.Omega.{arith}
+use lib.Dec.{eqb, ltb}
 use lib.ListN.{length, take, drop}
 use borrow.Author.Needs.{needs}
-use borrow.Author.Tests.{eq-eqb, ne-eqb}
+use borrow.Author.Tests.{eq-eqb, ne-eqb, le-ltb, eqb-true, eqb-false}
 use Rattle.text.specs.Ascii.{Bytes, ascii}
 use Rattle.text.specs.Classes.{isDigit, isVariable}
 use Rattle.text.specs.Scan.{all, before}
-use Rattle.out.specs.Emit.{Out, emit1, emit, emit-append}
+use Rattle.out.specs.Emit.{Out, _▸_, emit1, emit, emit-append}
 use Rattle.out.specs.Bytewise.{flat, becomes, flat-same}
 use Rattle.tcl.specs.Substitution.{no-variable}
 use Rattle.names.specs.Name.{nameOf, stepOf}
@@ -55,6 +56,32 @@ module _ (job mem : Bytes) (scope : List Bytes) (table : List ℕ) (count n : �
 
       pub word-unknown : o′ ≡ emit o (ascii "1'bx") → t ≡ false → o′ ≡ emit o (wordText (signalOf (scopeSetting scope) (controlsOf (tableNames mem table count)) (take n (nameOf mem e)) none) (take n (nameOf mem e)))
       word-unknown g d = rw (no-signal, ← et, d) g
+
+-- ---- a full buffer
+
+-- the place one past the end
+pub full-below : (n at : ℕ) → at ≤ n → false ≡ eqb at (n + 1)
+full-below n at h = sym (ne-eqb at (n + 1) (λ e. omega (arith, e)))
+
+full-either : (n at : ℕ) (t : Bool) → n < at → eqb (at - n) 1 ≡ t → t ≡ eqb at (n + 1)
+full-either n at true h e = let z : at - n ≡ 1 = eqb-true (at - n) 1 e in sym (eq-eqb at (n + 1) (omega (arith, z)))
+full-either n at false h e = sym (ne-eqb at (n + 1) (λ z. eqb-false (at - n) 1 e (omega (arith, z))))
+
+pub full-above : (n at : ℕ) → n < at → eqb (at - n) 1 ≡ eqb at (n + 1)
+full-above n at h = full-either n at (eqb (at - n) 1) h refl
+
+-- past the end nothing changes any more
+emit1-full : (o : Out) (b : ℕ) → o .at ≡ length (o .bytes) + 1 → emit1 o b ≡ o
+unfolding emit1
+emit1-full o b h = let z : ltb (o .at) (length (o .bytes)) ≡ false = le-ltb (o .at) (length (o .bytes)) (omega (arith, h)) in rw (z, ← h)
+
+emit-full : (o : Out) (t : Bytes) → o .at ≡ length (o .bytes) + 1 → emit o t ≡ o
+unfolding emit
+emit-full o [] h = refl
+emit-full o (b ∷ t) h = rw (emit1-full o b h) (emit-full o t h)
+
+pub word-full : (out w : Bytes) (at : ℕ) (t : Bool) → t ≡ eqb at (length out + 1) → t ≡ true → out ▸ at ≡ emit (out ▸ at) w
+word-full out w at t e h = sym (emit-full (out ▸ at) w (eqb-true at (length out + 1) (sym e ∙ h)))
 
 -- ---- all of it: what is left is written behind what was
 

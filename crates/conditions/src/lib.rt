@@ -2,7 +2,8 @@
 ghost use mathlib.Core.Path.{_≡_};
 ghost use mathlib.Core.List.{_++_};
 ghost use mathlib.Core.Option.{none};
-ghost use Prim.Native.Nat.{_≤_, _<_, _^_};
+ghost use Prim.Native.Nat.{_+_, _≤_, _<_, _^_};
+ghost use lib.Dec.{eqb};
 ghost use lib.ListN.{length, take, drop};
 ghost use Rattle.text.specs.Classes.{isDigit};
 ghost use Rattle.text.specs.Scan.{all, before};
@@ -111,8 +112,8 @@ pub fn control(job: &[u8], files: &[u8], area: &[u8], controls: &[u32], n: usize
     found
 }
 
-// Writes what a word of n bytes stands for.
-fn put_word(
+// Writes what a word of n bytes stands for, where there is room or not.
+fn put_known(
     out: &mut [u8],
     at: usize,
     job: &[u8],
@@ -138,6 +139,40 @@ fn put_word(
         return refs::put(out, at, 0, false, job, files, area, w);
     }
     put(out, at, b"1'bx")
+}
+
+// Whether a buffer was full: what is written then changes nothing more.
+fn full(out: &[u8], at: usize) -> bool
+    ensures { λ r. ⌜ r ≡ eqb at (length (now (out .entry)) + 1) ⌝ }
+{
+    let n = out.len();
+    if at <= n {
+        return false;
+    }
+    at - n == 1
+}
+
+// Writes what a word of n bytes stands for.
+fn put_word(
+    out: &mut [u8],
+    at: usize,
+    job: &[u8],
+    files: &[u8],
+    area: &[u8],
+    over: &[u8],
+    from: usize,
+    controls: &[u32],
+    count: usize,
+    e: Name,
+    n: usize,
+) -> usize
+    requires { ⌜ count ≤ 65536 ⌝ }
+    ensures { λ z. ⌜ now (out .exit) ▸ z ≡ emit (now (out .entry) ▸ at) (wordText (signalOf (scopeSetting (parts (now (over .entry)) from)) (controlsOf (tableNames (now (files .entry) ++ now (area .entry)) (now (controls .entry)) count)) (take n (nameOf (now (files .entry) ++ now (area .entry)) e)) none) (take n (nameOf (now (files .entry) ++ now (area .entry)) e))) ⌝ }
+{
+    if full(out, at) {
+        return at;
+    }
+    put_known(out, at, job, files, area, over, from, controls, count, e, n)
 }
 
 // Writes a condition.

@@ -1,3 +1,4 @@
 pub mod OverTable
 pub mod Corrupt
 pub mod RowMem
+pub mod Marked

@@ -15,8 +15,11 @@ ghost use Rattle.walk.specs.Walk.{domainList, domainEntered};
 ghost use Rattle.paths.specs.Pieces.{entriesBelow};
 ghost use Rattle.listing.specs.Listing.{pathsOf, Ready, Answer};
 ghost use Rattle.corrupt.specs.Corrupt.{OwnGiven, Given, DomainGiven, Stemmed, Walked};
+ghost use Rattle.corrupt.specs.Marked.{Marked};
 use listing::Walk;
 use names::name::Name;
+
+mod marks;
 
 // Puts a dot behind a module's path, where it is not empty: what is below it begins there.
 fn stem(tail: &mut [u8], elen: usize, t: usize) -> usize
@@ -95,11 +98,12 @@ fn corruptible(
     text: &mut [u8],
     ends: &mut [u32],
     s: Walk,
+    marks: &[u8],
 ) -> Walk
-    requires { ⌜ Given (now job) (now table) k left (now files ++ now area) n e elen h t × ((2081 ≤ length (now tail)) × Ready prefix s (now text) (now ends)) ⌝ }
+    requires { ⌜ Given (now job) (now table) k left (now files ++ now area) n e elen h t × ((2081 ≤ length (now tail)) × (Ready prefix s (now text) (now ends) × Marked (now marks) (tableNames (now files ++ now area) (now retained) n))) ⌝ }
     ensures { λ r. ⌜ Walked (now (job .entry)) (now (table .entry)) k left (now (files .entry) ++ now (area .entry)) (entriesBelow below (tableNames (now (files .entry) ++ now (area .entry)) (now (retained .entry)) n)) e (now (tail .entry)) (now (tail .exit)) t prefix (s .entered) (pathsOf (now (text .entry)) (now (ends .entry)) (s .count)) r (now (text .exit)) (now (ends .exit)) ⌝ }
 {
-    if paths::entry::retained(
+    if marks::retained(
         files,
         area,
         retained,
@@ -107,7 +111,9 @@ fn corruptible(
         below,
         e,
         elen,
+        h,
         text::part::part(tail, 0, t),
+        marks,
     ) {
         return s;
     }
@@ -157,6 +163,7 @@ fn corruptible(
             text,
             ends,
             w,
+            marks,
         );
         let over = w.over;
         if over {
@@ -167,9 +174,8 @@ fn corruptible(
     w
 }
 
-// The paths that a domain loses, whose elements are the first m names of `elements` and are looked up from module k. `retained` has n entries;
-// `below` says that the scope is not the top, and `prefix` what its path adds to each path. No flag behind the ends is set at first.
-pub fn domain_paths(
+// What `domain_paths` does, with the marks of the retained entries.
+fn marked_paths(
     job: &[u8],
     index: &[u32],
     count: usize,
@@ -186,8 +192,9 @@ pub fn domain_paths(
     tail: &mut [u8],
     text: &mut [u8],
     ends: &mut [u32],
+    marks: &[u8],
 ) -> Walk
-    requires { ⌜ DomainGiven (now job) (now index) count k (now table) (now files) (now area) n m prefix (now tail) (now text) (now ends) ⌝ }
+    requires { ⌜ DomainGiven (now job) (now index) count k (now table) (now files) (now area) n m prefix (now tail) (now text) (now ends) × Marked (now marks) (tableNames (now files ++ now area) (now retained) n) ⌝ }
     ensures { λ r. ⌜ Answer prefix (domainEntered (modules (now (job .entry)) (now (index .entry)) count) (moduleRow (now (job .entry)) (now (index .entry)) k) [] (entriesBelow below (tableNames (now (files .entry) ++ now (area .entry)) (now (retained .entry)) n)) (tableNames (now (files .entry) ++ now (area .entry)) (now (elements .entry)) m)) (domainList (modules (now (job .entry)) (now (index .entry)) count) (moduleRow (now (job .entry)) (now (index .entry)) k) [] (entriesBelow below (tableNames (now (files .entry) ++ now (area .entry)) (now (retained .entry)) n)) (tableNames (now (files .entry) ++ now (area .entry)) (now (elements .entry)) m)) r (now (text .exit)) (now (ends .exit)) ⌝ }
 {
     out::clear::clear_nums(ends, 1024);
@@ -221,6 +228,7 @@ pub fn domain_paths(
             text,
             ends,
             w,
+            marks,
         );
         let over = w.over;
         if over {
@@ -229,4 +237,50 @@ pub fn domain_paths(
         i += 1;
     }
     w
+}
+
+// The paths that a domain loses, whose elements are the first m names of `elements` and are looked up from module k. `retained` has n entries;
+// `below` says that the scope is not the top, and `prefix` what its path adds to each path. No flag behind the ends is set at first.
+pub fn domain_paths(
+    job: &[u8],
+    index: &[u32],
+    count: usize,
+    k: usize,
+    table: &[u32],
+    files: &[u8],
+    area: &[u8],
+    retained: &[u32],
+    n: usize,
+    below: bool,
+    elements: &[u32],
+    m: usize,
+    prefix: usize,
+    tail: &mut [u8],
+    text: &mut [u8],
+    ends: &mut [u32],
+) -> Walk
+    requires { ⌜ DomainGiven (now job) (now index) count k (now table) (now files) (now area) n m prefix (now tail) (now text) (now ends) ⌝ }
+    ensures { λ r. ⌜ Answer prefix (domainEntered (modules (now (job .entry)) (now (index .entry)) count) (moduleRow (now (job .entry)) (now (index .entry)) k) [] (entriesBelow below (tableNames (now (files .entry) ++ now (area .entry)) (now (retained .entry)) n)) (tableNames (now (files .entry) ++ now (area .entry)) (now (elements .entry)) m)) (domainList (modules (now (job .entry)) (now (index .entry)) count) (moduleRow (now (job .entry)) (now (index .entry)) k) [] (entriesBelow below (tableNames (now (files .entry) ++ now (area .entry)) (now (retained .entry)) n)) (tableNames (now (files .entry) ++ now (area .entry)) (now (elements .entry)) m)) r (now (text .exit)) (now (ends .exit)) ⌝ }
+{
+    let mut marks: [u8; 32768] = [0; 32768];
+    marks::mark(files, area, retained, n, &mut marks);
+    marked_paths(
+        job,
+        index,
+        count,
+        k,
+        table,
+        files,
+        area,
+        retained,
+        n,
+        below,
+        elements,
+        m,
+        prefix,
+        tail,
+        text,
+        ends,
+        &marks,
+    )
 }

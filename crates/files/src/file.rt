@@ -1,11 +1,13 @@
 // Files and their commands: reading a file and carrying out its load_upf lines call each other.
 ghost use Prim.Native.Nat.{_≤_, _<_};
 ghost use Rattle.held.specs.Held.{Ran};
-ghost use Rattle.loads.specs.Steps.{commandReads, fileReads, Doing, Opening};
+ghost use Rattle.loads.specs.Steps.{commandReads, fileReads, Opening};
+ghost use Rattle.files.specs.Loads.{Loads};
 use cmdnames::number;
 use commands::next::Next;
 use commands::next::next_command;
 use held::begun;
+use lists::Count;
 use loads::before_load;
 use loads::restored;
 use plain::counted;
@@ -15,8 +17,8 @@ use spans::span::pair;
 use store::state::State;
 use text::part::place;
 
-// The command with these words, of file k; `left` loads may still be nested.
-fn command(
+// The load with these words, of file k; `left` loads may still be nested. It has no value that is read as a list.
+fn load(
     job: &[u8],
     files: &[u8],
     area: &mut [u8],
@@ -29,19 +31,13 @@ fn command(
     k: usize,
     left: usize,
 ) -> Out
-    requires { ⌜ Doing (now job) (now files) (now area) (now nums) (now words) count n k left s ⌝ }
+    requires { ⌜ Loads (now job) (now files) (now area) (now nums) (now words) count n k left s ⌝ }
     ensures { λ r. ⌜ Ran (now (files .entry)) (now (area .entry)) (now (area .exit)) (now (nums .entry)) (now (nums .exit)) (now (log .entry)) (now (log .exit)) s r (commandReads (now (job .entry)) (now (files .entry)) (now (area .entry)) (now (nums .entry)) count (now (words .entry)) n k left s) ⌝ }
 {
-    let o = s.fill.end;
-    let c = number(files, &area[..o], pair(words, 0));
-    let x = counted(files, &area[..o], words, n, s, c);
-    if x.tag != 0 {
-        return x;
+    if 1024 < s.count.commands {
+        return Out { tag: 10, state: s };
     }
-    if c != 2 {
-        return plain(files, area, nums, log, words, n, x.state, c);
-    }
-    let b = before_load(job, files, area, nums, count, words, n, x.state, k, left);
+    let b = before_load(job, files, area, nums, count, words, n, s, k, left);
     let y = b.out;
     if y.tag != 0 {
         return y;
@@ -97,8 +93,27 @@ pub fn read_file(
                 return Out { tag: 10, state: v };
             }
             Next::Words(n, next, e) => {
-                let v = begun(u, e);
-                let r = command(job, files, area, nums, log, count, &words, n, v, k, left);
+                let commands = u.count.commands + 1;
+                let substituted = u.count.substituted + (e - o);
+                u.count.commands = commands;
+                u.count.substituted = substituted;
+                u.fill.end = e;
+                let c = number(files, &area[..e], pair(&words, 0));
+                if c == 2 {
+                    let r = load(job, files, area, nums, log, count, &words, n, u, k, left);
+                    if r.tag != 0 {
+                        return r;
+                    }
+                    u = r.state;
+                    at = next;
+                    continue;
+                }
+                let before = u.count.entries;
+                let Count::Of(t) = counted(files, &area[..e], &words, n, commands, before, c) else {
+                    return Out { tag: 10, state: u };
+                };
+                u.count.entries = t;
+                let r = plain(files, area, nums, log, &words, n, u, c);
                 if r.tag != 0 {
                     return r;
                 }

@@ -12,10 +12,10 @@ use Rattle.enter.specs.Entered.{Enters}
 use Rattle.loads.specs.Steps.{lineAt}
 
 -- counting its entries: its words are whole in the files or in the area
-pub record Lists (files area : Bytes) (words : List ℕ) (n : ℕ) (s : State) : Type 0 where
+pub record Lists (files area : Bytes) (words : List ℕ) (n before : ℕ) : Type 0 where
   pub whole : Whole files area words n
   pub named : 0 < n
-  pub before : s .count .entries ≤ 1024
+  pub few : before ≤ 1024
 
 -- carrying it out: c is the number of its name in the table, and its entries are counted
 pub record Asks (files area nums words : List ℕ) (n c : ℕ) (s : State) : Type 0 where

@@ -9,8 +9,9 @@ ghost use Rattle.model.specs.Within.{entriesOf, listsBy};
 ghost use Rattle.read.specs.Reading.{lineOf};
 ghost use Rattle.text.specs.Ascii.{Bytes};
 ghost use Rattle.held.specs.Held.{countedOf, modelAt, Ran};
-ghost use Rattle.loads.specs.Steps.{acted, countedOut, lineAt};
+ghost use Rattle.loads.specs.Steps.{acted, lineAt};
 ghost use Rattle.plain.specs.Asks.{Lists, Asks, Others};
+ghost use Rattle.plain.specs.Counted.{countedIn};
 ghost use Rattle.plain.specs.Stores.{RowRoom, Stores};
 use args::argument::last_positional;
 use enter::enter;
@@ -27,29 +28,23 @@ use statecmds::create_power_switch;
 use store::row::put_row;
 use store::state::State;
 
-// Whether the command is within the limits of commands and lists: the state with its entries counted.
+// Whether the command is within the limits of commands and lists, and how many entries there are with it.
 pub fn counted<'a>(
     files: &'a [u8],
     area: &'a [u8],
     words: &[u32],
     n: usize,
-    s: State,
+    commands: usize,
+    before: usize,
     c: usize,
-) -> Out
-    requires { ⌜ Lists (now files) (now area) (now words) n s ⌝ }
-    ensures { λ r. ⌜ r ≡ countedOut s (entriesOf (listsBy (namedBy c) (lineOf (strings (now (files .entry) ++ now (area .entry)) (now (words .entry)) 0 n) .name) (lineOf (strings (now (files .entry) ++ now (area .entry)) (now (words .entry)) 0 n) .rest))) ⌝ }
+) -> Count
+    requires { ⌜ Lists (now files) (now area) (now words) n before ⌝ }
+    ensures { λ r. ⌜ r ≡ countedIn commands before (entriesOf (listsBy (namedBy c) (lineOf (strings (now (files .entry) ++ now (area .entry)) (now (words .entry)) 0 n) .name) (lineOf (strings (now (files .entry) ++ now (area .entry)) (now (words .entry)) 0 n) .rest))) ⌝ }
 {
-    if 1024 < s.count.commands {
-        return Out { tag: 10, state: s };
+    if 1024 < commands {
+        return Count::Over;
     }
-    match entries(files, area, words, n, c, s.count.entries) {
-        Count::Over => Out { tag: 10, state: s },
-        Count::Of(t) => {
-            let mut u = s;
-            u.count.entries = t;
-            Out { tag: 0, state: u }
-        }
-    }
+    entries(files, area, words, n, c, before)
 }
 
 // The answer of a command, with its row in the store.

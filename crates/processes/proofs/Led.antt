@@ -16,15 +16,16 @@ use Rattle.alike.specs.Ruled.{Ruled, row-small, row-strategy}
 use Rattle.alike.specs.Numbers.{numbersFrom, numbersIn}
 use Rattle.processes.specs.Ports.{isLike}
 
--- none of the first k is like it
-pub record Seeks (f : ℕ → Isolationʳ) (ports : List ℕ) (n i k : ℕ) : Type 0 where
+-- none of the first k is like it, nor is s
+pub record Seeks (f : ℕ → Isolationʳ) (ports : List ℕ) (n i k s : ℕ) : Type 0 where
   pub before : k ≤ n
+  pub unlike : s < 32 → areAlike (f i) (f s) ≡ false
   pub left : any (isLike f i) (numbersIn ports n) ≡ any (isLike f i) (numbersFrom ports k (n - k))
 
-pub seek-start : (f : ℕ → Isolationʳ) (ports : List ℕ) (n i : ℕ) → Seeks f ports n i 0
-seek-start f ports n i = let z : n - 0 ≡ n = omega arith in record { before = omega arith; left = rw z }
+pub seek-start : (f : ℕ → Isolationʳ) (ports : List ℕ) (n i : ℕ) → Seeks f ports n i 0 32
+seek-start f ports n i = let z : n - 0 ≡ n = omega arith in record { before = omega arith; unlike = λ h. absurd (omega (arith, h)); left = rw z }
 
-module _ (mem : Bytes) (t : Isolations) (ports : List ℕ) (n i k : ℕ) (inv : Seeks (strategyAt mem t) ports n i k) where
+module _ (mem : Bytes) (t : Isolations) (ports : List ℕ) (n i k s : ℕ) (inv : Seeks (strategyAt mem t) ports n i k s) where
   pub seek-end : n ≤ k → false ≡ any (isLike (strategyAt mem t) i) (numbersIn ports n)
   unfolding any numbersFrom
   seek-end h = let z : n - k ≡ 0 = omega arith in sym (inv .left ∙ rw z)
@@ -37,7 +38,13 @@ module _ (mem : Bytes) (t : Isolations) (ports : List ℕ) (n i k : ℕ) (inv : 
     pub seek-here : b ≡ true → true ≡ any (isLike (strategyAt mem t) i) (numbersIn ports n)
     seek-here d = sym (opened ∙ rw d)
 
-    pub seek-on : b ≡ false → Seeks (strategyAt mem t) ports n i (k + 1)
-    seek-on d = record { before = omega arith; left = opened ∙ rw d }
+    pub seek-on : b ≡ false → Seeks (strategyAt mem t) ports n i (k + 1) (x .strategy)
+    seek-on d = record { before = omega arith; unlike = λ l. sym g ∙ d; left = opened ∙ rw d }
 
-pub ruleset seeks = (needs, row-small, row-strategy, seek-end, seek-here, seek-on)
+  pub seek-skip : (h : k < n) (x : Isolated) → x ≡ portRow ports k → Ruled mem t ports n → x .strategy ≡ s → Seeks (strategyAt mem t) ports n i (k + 1) s
+  seek-skip h x e r d =
+      let l : s < 32 = rw d at (row-strategy mem t ports n r k h x e) in
+      let g : false ≡ areAlike (strategyAt mem t i) (strategyAt mem t (x .strategy)) = sym (ap (λ (j : ℕ). areAlike (strategyAt mem t i) (strategyAt mem t j)) d ∙ inv .unlike l) in
+      rw d at (seek-on h x e false g refl)
+
+pub ruleset seeks = (needs, row-small, row-strategy, seek-end, seek-here, seek-on, seek-skip)

@@ -56,17 +56,18 @@ pub ruleset ports = (needs, port-written)
 
 -- ---- each port: what is left to write, written from here, is the answer w
 
-pub record Writes (job mem : Bytes) (scope : List Bytes) (top tpl : Bytes) (t : Isolations) (ports : List ℕ) (n i : ℕ) (w o : Out) (k : ℕ) : Type 0 where
+pub record Writes (job mem : Bytes) (scope : List Bytes) (top tpl : Bytes) (t : Isolations) (ports : List ℕ) (n i : ℕ) (w o : Out) (k s : ℕ) : Type 0 where
   pub template : isTemplate 4 tpl ≡ true
   pub ruled : Ruled mem t ports n
   pub number : i < 32
   pub before : k ≤ n
+  pub unlike : s < 32 → areAlike (strategyAt mem t i) (strategyAt mem t s) ≡ false
   pub keeps : emit o (portsText tpl scope top (strategyAt mem t) i (keptFrom job mem ports k (n - k))) ≡ w
 
-pub writes-start : (job mem : Bytes) (scope : List Bytes) (top tpl : Bytes) (t : Isolations) (ports : List ℕ) (n i : ℕ) (o : Out) → isTemplate 4 tpl ≡ true → Ruled mem t ports n → i < 32 → Writes job mem scope top tpl t ports n i (emit o (portsText tpl scope top (strategyAt mem t) i (keptIn job mem ports n))) o 0
-writes-start job mem scope top tpl t ports n i o a b c = let z : n - 0 ≡ n = omega arith in record { template = a; ruled = b; number = c; before = omega arith; keeps = rw z }
+pub writes-start : (job mem : Bytes) (scope : List Bytes) (top tpl : Bytes) (t : Isolations) (ports : List ℕ) (n i : ℕ) (o : Out) → isTemplate 4 tpl ≡ true → Ruled mem t ports n → i < 32 → Writes job mem scope top tpl t ports n i (emit o (portsText tpl scope top (strategyAt mem t) i (keptIn job mem ports n))) o 0 32
+writes-start job mem scope top tpl t ports n i o a b c = let z : n - 0 ≡ n = omega arith in record { template = a; ruled = b; number = c; before = omega arith; unlike = λ h. absurd (omega (arith, h)); keeps = rw z }
 
-module _ (job mem : Bytes) (scope : List Bytes) (top tpl : Bytes) (t : Isolations) (ports : List ℕ) (n i : ℕ) (w o : Out) (k : ℕ) (inv : Writes job mem scope top tpl t ports n i w o k) where
+module _ (job mem : Bytes) (scope : List Bytes) (top tpl : Bytes) (t : Isolations) (ports : List ℕ) (n i : ℕ) (w o : Out) (k s : ℕ) (inv : Writes job mem scope top tpl t ports n i w o k s) where
   pub writes-end : n ≤ k → o ≡ w
   unfolding portsText those each emit
   writes-end h = let z : n - k ≡ 0 = omega arith in rw (z, kept-none job mem ports k) at (inv .keeps)
@@ -85,20 +86,26 @@ module _ (job mem : Bytes) (scope : List Bytes) (top tpl : Bytes) (t : Isolation
     unfolding portsText those
     opened = let z : n - k ≡ suc (n - (k + 1)) = omega arith in rw (g, e) (rw (z, kept-next job mem ports k (n - (k + 1))) at (inv .keeps))
 
-    pub writes-other : not b ≡ true → Writes job mem scope top tpl t ports n i w o (k + 1)
+    pub writes-other : not b ≡ true → Writes job mem scope top tpl t ports n i w o (k + 1) (x .strategy)
     unfolding portsText
-    writes-other d = record { template = inv .template; ruled = inv .ruled; number = inv .number; before = omega arith; keeps = rw (is-not b d) at opened }
+    writes-other d = record { template = inv .template; ruled = inv .ruled; number = inv .number; before = omega arith; unlike = λ l. sym g ∙ is-not b d; keeps = rw (is-not b d) at opened }
       where
         is-not : (b : Bool) → not b ≡ true → b ≡ false
         is-not true e = sym e
         is-not false e = refl
 
-    pub writes-one : not b ≡ false → (o′ : Out) → o′ ≡ emit o (portText tpl scope top (strategyAt mem t) (keptOf job mem x)) → Writes job mem scope top tpl t ports n i w o′ (k + 1)
+    pub writes-one : not b ≡ false → (o′ : Out) → o′ ≡ emit o (portText tpl scope top (strategyAt mem t) (keptOf job mem x)) → Writes job mem scope top tpl t ports n i w o′ (k + 1) s
     unfolding portsText each
-    writes-one d o′ q = record { template = inv .template; ruled = inv .ruled; number = inv .number; before = omega arith; keeps = rw q (rw (is-true b d, emit-append) at opened) }
+    writes-one d o′ q = record { template = inv .template; ruled = inv .ruled; number = inv .number; before = omega arith; unlike = inv .unlike; keeps = rw q (rw (is-true b d, emit-append) at opened) }
       where
         is-true : (b : Bool) → not b ≡ false → b ≡ true
         is-true true e = refl
         is-true false e = sym e
 
-pub ruleset writes = (needs, writes-row, writes-number, writes-clamp, writes-end, writes-other, writes-one)
+  pub writes-skip : (h : k < n) (x : Isolated) → x ≡ portRow ports k → x .strategy ≡ s → Writes job mem scope top tpl t ports n i w o (k + 1) s
+  writes-skip h x e d =
+      let l : s < 32 = rw d at (writes-number h x e) in
+      let g : false ≡ areAlike (strategyAt mem t i) (strategyAt mem t (x .strategy)) = sym (ap (λ (j : ℕ). areAlike (strategyAt mem t i) (strategyAt mem t j)) d ∙ inv .unlike l) in
+      rw d at (writes-other h x e false g refl)
+
+pub ruleset writes = (needs, writes-row, writes-number, writes-clamp, writes-end, writes-other, writes-one, writes-skip)

@@ -28,17 +28,23 @@ use portargs::signal_arg;
 use portargs::strategy_arg;
 use store::state::Isolations;
 
-// Whether one of the first n ports is of a strategy like this one.
+// Whether one of the first n ports is of a strategy like this one. `s` is a strategy that is known to be unlike it: ports of one stand together.
 fn is_led(files: &[u8], area: &[u8], t: Isolations, ports: &[u32], n: usize, i: usize) -> bool
     requires { ⌜ Ruled (now files ++ now area) t (now ports) n × (i < 32) ⌝ }
     ensures { λ r. ⌜ r ≡ any (isLike (strategyAt (now (files .entry) ++ now (area .entry)) t) i) (numbersIn (now (ports .entry)) n) ⌝ }
 {
     let mut k = 0;
+    let mut s = 32;
     while k < n {
         let x = port_at(ports, k);
+        if x.strategy == s {
+            k += 1;
+            continue;
+        }
         if alike(files, area, t, i, x.strategy) {
             return true;
         }
+        s = x.strategy;
         k += 1;
     }
     false
@@ -69,7 +75,7 @@ fn put_port(
     fill4(out, at, tpl, job, files, area, over, from, top, a, b, c, d)
 }
 
-// Writes a template for each port of a strategy like this one.
+// Writes a template for each port of a strategy like this one. `s` is a strategy that is known to be unlike it.
 fn each_port(
     out: &mut [u8],
     at: usize,
@@ -90,9 +96,15 @@ fn each_port(
 {
     let mut o = at;
     let mut k = 0;
+    let mut s = 32;
     while k < n {
         let x = port_at(ports, k);
+        if x.strategy == s {
+            k += 1;
+            continue;
+        }
         if !alike(files, area, t, i, x.strategy) {
+            s = x.strategy;
             k += 1;
             continue;
         }

@@ -1,3 +1,4 @@
 pub mod Firsts
 pub mod Streams
+pub mod Heads
 pub mod Written

@@ -8,10 +8,12 @@ ghost use Rattle.out.specs.Emit.{_▸_, emit};
 ghost use Rattle.out.specs.Bytewise.{flat as Bytewise·flat, becomes as Bytewise·becomes};
 ghost use Rattle.names.specs.Name.{nameOf, slash};
 ghost use Rattle.refs.specs.Text.{textOf, stepOf, Starts, noName, wholeRef, frontRef, jobRef, dotOf, asDots};
+ghost use Rattle.refs.specs.Heads.{headRef, isBare, oneSlash, Apart};
 use names::name::Name;
 use names::put::put_mapped;
 use out::bytewise::becomes;
 use out::bytewise::flat;
+use text::compare::same;
 use text::part::part;
 
 // The bytes of the name, the first `upto` of them where `cut` is set; a slash where `sep` is set; the bytes of `last`; `len` bytes of the job from `at`
@@ -165,8 +167,8 @@ pub fn next(job: &[u8], files: &[u8], area: &[u8], r: Ref) -> Step
     }
 }
 
-// Whether two texts are the same.
-pub fn same_refs(job: &[u8], files: &[u8], area: &[u8], a: Ref, b: Ref) -> bool
+// Whether two texts are the same, byte by byte.
+fn same_streams(job: &[u8], files: &[u8], area: &[u8], a: Ref, b: Ref) -> bool
     ensures { λ r. ⌜ r ≡ Compare·same (textOf (now (job .entry)) (now (files .entry) ++ now (area .entry)) a) (textOf (now (job .entry)) (now (files .entry) ++ now (area .entry)) b) ⌝ }
 {
     let mut x = a;
@@ -189,6 +191,114 @@ pub fn same_refs(job: &[u8], files: &[u8], area: &[u8], a: Ref, b: Ref) -> bool
             },
         }
     }
+}
+
+// The text without its part of the job.
+fn head(r: Ref) -> Ref
+    ensures { λ u. ⌜ u ≡ headRef r ⌝ }
+{
+    let n = r.name;
+    let l = r.last;
+    Ref {
+        name: n,
+        cut: r.cut,
+        upto: r.upto,
+        sep: r.sep,
+        last: l,
+        at: 0,
+        len: 0,
+    }
+}
+
+// Whether two names are the same, byte by byte.
+fn same_names(files: &[u8], area: &[u8], a: Name, b: Name) -> bool
+    ensures { λ r. ⌜ r ≡ Compare·same (nameOf (now (files .entry) ++ now (area .entry)) a) (nameOf (now (files .entry) ++ now (area .entry)) b) ⌝ }
+{
+    let mut x = a;
+    let mut y = b;
+    loop {
+        match names::name::next(files, area, x) {
+            names::name::Step::End => match names::name::next(files, area, y) {
+                names::name::Step::End => return true,
+                names::name::Step::Byte(_, _) => return false,
+            },
+            names::name::Step::Byte(p, u) => match names::name::next(files, area, y) {
+                names::name::Step::End => return false,
+                names::name::Step::Byte(q, v) => {
+                    if p != q {
+                        return false;
+                    }
+                    x = u;
+                    y = v;
+                }
+            },
+        }
+    }
+}
+
+// Whether the name is whole and nothing but a slash stands behind it.
+fn is_bare(r: Ref) -> bool
+    ensures { λ b. ⌜ b ≡ isBare r ⌝ }
+{
+    let l = r.last;
+    let s = l.scope;
+    let w = l.word;
+    (!r.cut) & (((s.len == 0) & (w.len == 0)) & ((!l.sep) & (l.form == 0)))
+}
+
+// Whether a slash is in both or in none.
+fn one_slash(a: bool, b: bool) -> bool
+    ensures { λ r. ⌜ r ≡ oneSlash a b ⌝ }
+{
+    (a & b) | ((!a) & (!b))
+}
+
+// Whether two texts are the same but for their parts of the job.
+fn same_heads(job: &[u8], files: &[u8], area: &[u8], a: Ref, b: Ref) -> bool
+    ensures { λ r. ⌜ r ≡ Compare·same (textOf (now (job .entry)) (now (files .entry) ++ now (area .entry)) (headRef a)) (textOf (now (job .entry)) (now (files .entry) ++ now (area .entry)) (headRef b)) ⌝ }
+{
+    if is_bare(a) & (is_bare(b) & one_slash(a.sep, b.sep)) {
+        let n = a.name;
+        let m = b.name;
+        return same_names(files, area, n, m);
+    }
+    same_streams(job, files, area, head(a), head(b))
+}
+
+// Whether both have a last byte and these differ.
+fn end_apart(u: &[u8], v: &[u8]) -> bool
+    ensures { λ r. ⌜ Apart (now (u .entry)) (now (v .entry)) r ⌝ }
+{
+    if u.len() == 0 {
+        return false;
+    }
+    if v.len() == 0 {
+        return false;
+    }
+    let i = u.len() - 1;
+    let j = v.len() - 1;
+    if u[i] == v[j] {
+        return false;
+    }
+    true
+}
+
+// Whether two texts are the same. Their parts of the job are looked at first: these tell most ports apart.
+pub fn same_refs(job: &[u8], files: &[u8], area: &[u8], a: Ref, b: Ref) -> bool
+    ensures { λ r. ⌜ r ≡ Compare·same (textOf (now (job .entry)) (now (files .entry) ++ now (area .entry)) a) (textOf (now (job .entry)) (now (files .entry) ++ now (area .entry)) b) ⌝ }
+{
+    let u = part(job, a.at, a.len);
+    let v = part(job, b.at, b.len);
+    if u.len() != v.len() {
+        if end_apart(u, v) {
+            return false;
+        }
+        return same_streams(job, files, area, a, b);
+    }
+    if !same(u, v) {
+        return false;
+    }
+    same_heads(job, files, area, a, b)
 }
 
 // A slash as a dot, where dots are wanted.

@@ -7,10 +7,10 @@ pub alike-spec : {M : Type 1} → statement M
 alike-spec =
     tie.close
     (tie.spec
-    (λ c κs. search alikes)  -- active-of-requires
-    (λ c κs. search alikes)  -- active-of-requires-2
     (λ c. search alikes)  -- returns
-    (λ c κs. search alikes)  -- signal-of-requires
-    (λ c κs. search alikes)  -- signal-of-requires-2
-    (λ c κs. search alikes)  -- same-dotted-requires
+    (λ c. search alikes)  -- mul-a
+    (λ c. search alikes)  -- element-copy-out-a
+    (λ c. search alikes)  -- mul-b
+    (λ c. search alikes)  -- element-copy-out-b
+    (λ c κs. search alikes)  -- alike-rows-requires
     (λ c. search alikes))  -- returns-2

@@ -1,6 +1,6 @@
--- `conditions::put_word` meets its contract. Assumes nothing.
+-- `conditions::put_word` meets its contract: in a full buffer nothing changes. Assumes nothing.
 use borrow.Author.Needs.{needs}
-use Rattle.conditions.proofs.Written.{word-known, word-number, word-unknown}
+use Rattle.conditions.proofs.Written.{word-full}
 use Rattle.conditions.proofs.put_word.Statement.{statement}
 use Rattle.conditions.proofs.put_word.Tie as tie
 
@@ -8,18 +8,9 @@ pub put-word-spec : {M : Type 1} → statement M
 put-word-spec =
     tie.close
     (tie.spec
-    (λ c κs. search needs)  -- front-requires
-    (λ c κs. search needs)  -- control-requires
-    (λ c κs. search needs)  -- row-requires
-    (λ c κs. search needs)  -- whole-requires
-    (λ c κs. search needs)  -- put-hier-requires
+    (λ c κs. search needs)  -- full-requires
     (λ c. search needs)  -- same-length
-    (λ c. search word-known)  -- returns
-    (λ c κs. search needs)  -- is-number-requires
-    (λ c κs. search needs)  -- put-requires
+    (λ c. search word-full)  -- returns
+    (λ c κs. search needs)  -- put-known-requires
     (λ c. search needs)  -- same-length-2
-    (λ c. search word-number)  -- returns-2
-    (λ c. search needs)  -- slice-aggregate-put
-    (λ c κs. search needs)  -- put-requires-2
-    (λ c. search needs)  -- same-length-3
-    (λ c. search word-unknown))  -- returns-3
+    (λ c. search needs))  -- returns-2

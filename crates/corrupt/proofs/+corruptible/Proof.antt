@@ -21,32 +21,32 @@ use Rattle.modtable.proofs.way_count.Reads as way-count-reads
 use Rattle.modtable.proofs.way_name.Reads as way-name-reads
 use Rattle.modtable.proofs.way_row.Reads as way-row-reads
 use Rattle.out.proofs.emit.put.Reads as put-reads
-use Rattle.paths.proofs.entry.retained.Reads as retained-reads
+use Rattle.corrupt.proofs.marks.retained.Reads as retained-reads
 use Rattle.text.proofs.part.part.Reads as part-reads
 use Rattle.corrupt.proofs.+corruptible.{statement}
 use Rattle.corrupt.proofs.+corruptible.Tie.{close}
 
-abbrev μ-self : Measures 8 kinds.ps ℕ
+abbrev μ-self : Measures 9 kinds.ps ℕ
 μ-self κs a = a .1 .1 .1 .0
 
-abbrev self-at : ℕ → In 8 kinds.ps
+abbrev self-at : ℕ → In 9 kinds.ps
 self-at t =
-    and 8 kinds.ps (is 8 kinds.ps μ-self t) self.Pre
+    and 9 kinds.ps (is 9 kinds.ps μ-self t) self.Pre
 
-abbrev self-below : ℕ → In 8 kinds.ps
+abbrev self-below : ℕ → In 9 kinds.ps
 self-below t =
-    and 8 kinds.ps (falls 8 kinds.ps _<_ μ-self t) self.Pre
+    and 9 kinds.ps (falls 9 kinds.ps _<_ μ-self t) self.Pre
 
 -- what the callees of `corruptible` ask and give; a member of the cycle below the measure t
 abbrev cs : ℕ → lts.Claims
 cs t = (part-reads.Asked, part-reads.Learnt, retained-reads.Asked, retained-reads.Learnt, stem-reads.Asked, stem-reads.Learnt, own-reads.Asked, own-reads.Learnt, way-count-reads.Asked, way-count-reads.Learnt, way-name-reads.Asked, way-name-reads.Learnt, put-reads.Asked, put-reads.Learnt, way-row-reads.Asked, way-row-reads.Learnt, self-below t, self.Post)
 
 abbrev Inv-loop : lts.InvT-loop
-Inv-loop job table k left files area retained n below e elen h tail₀ t prefix text₀ ends₀ u w₀ full z j₀ tail text ends w j =
+Inv-loop job table k left files area retained n below e elen h tail₀ t prefix text₀ ends₀ marks u w₀ full z j₀ tail text ends w j =
     (length tail ≡ length tail₀) × ((length text ≡ length text₀) × ((length ends ≡ length ends₀) × Round job table k left (files ++ area) n (entriesBelow below (tableNames (files ++ area) retained n)) e elen h t u prefix tail₀ (w₀ .entered + row-visits job table k left (files ++ area) n (entriesBelow below (tableNames (files ++ area) retained n)) e elen h t u prefix tail₀) (addAll (pathsOf text₀ ends₀ (w₀ .count)) (row-lists job table k left (files ++ area) n (entriesBelow below (tableNames (files ++ area) retained n)) e elen h t u prefix tail₀)) tail text ends w j))
 
 abbrev μ-loop : lts.MeasureT-loop
-μ-loop job table k left files area retained n below e elen h tail₀ t prefix text₀ ends₀ u w₀ full z j₀ tail text ends w j =
+μ-loop job table k left files area retained n below e elen h tail₀ t prefix text₀ ends₀ marks u w₀ full z j₀ tail text ends w j =
     z - j
 
 pub +corruptible-spec : {M : Type 1} → statement M
@@ -64,8 +64,8 @@ pub +corruptible-spec : {M : Type 1} → statement M
     (λ c κs.
     let at-part2 = c .before .before in
     let at-stem = at-part2 .before .before .before .before in
-    let start = at-stem .before .before .before .before .before .before .before .before .before .before .before .before .before .before in
-    (own-given _ _ _ _ _ _ [] _ _ _ _ _ (start .pre .1 .0) (start .pre .1 .1 .0) _ _ (at-stem .stem .ensures) _ (at-part2 .part2 .ensures), start .pre .1 .1 .1))  -- own-requires
+    let start = at-stem .before .before .before .before .before .before .before .before .before .before .before .before .before .before .before in
+    (own-given _ _ _ _ _ _ [] _ _ _ _ _ (start .pre .1 .0) (start .pre .1 .1 .0) _ _ (at-stem .stem .ensures) _ (at-part2 .part2 .ensures), start .pre .1 .1 .1 .0))  -- own-requires
     (λ c. search needs)  -- same-length-2
     (λ c. search needs)  -- same-length-3
     (λ c. search needs)  -- same-length-4
@@ -76,7 +76,7 @@ pub +corruptible-spec : {M : Type 1} → statement M
     let at-if1 = at-stem .before .before in
     let at-retained = at-if1 .before in
     let at-part = at-retained .before in
-    let start = at-part .before .before .before .before .before .before .before .before .before .before in
+    let start = at-part .before .before .before .before .before .before .before .before .before .before .before in
     walk-full _ _ _ _ _ _ _ _ _ _ _ _ (start .pre .1 .0) (start .pre .1 .1 .0) _ (at-part .part .ensures) _ (at-retained .retained .ensures) (at-if1 .if1 .left) _ _ (at-stem .stem .ensures) _ (at-part2 .part2 .ensures) _ _ _ _ _ _ (at-own .own .ensures) (c .if2 .taken))  -- returns-2
     (λ c. search needs)  -- same-length-5
     (λ c. search needs)  -- same-length-6
@@ -89,17 +89,17 @@ pub +corruptible-spec : {M : Type 1} → statement M
     let at-if1 = at-stem .before .before in
     let at-retained = at-if1 .before in
     let at-part = at-retained .before in
-    let start = at-part .before .before .before .before .before .before .before .before .before .before in
+    let start = at-part .before .before .before .before .before .before .before .before .before .before .before in
     walk-last _ _ _ _ _ _ _ _ _ _ _ _ (start .pre .1 .0) (start .pre .1 .1 .0) _ (at-part .part .ensures) _ (at-retained .retained .ensures) (at-if1 .if1 .left) _ _ (at-stem .stem .ensures) _ (at-part2 .part2 .ensures) _ _ _ _ _ _ (at-own .own .ensures) (at-if2 .if2 .left) (c .if3 .taken))  -- returns-3
     (λ c κs.
-    let start = c .before .before .before .before .before .before .before .before .before .before .before .before .before .before .before .before .before .before .before .before .before .before .before .before .before .before .before in
+    let start = c .before .before .before .before .before .before .before .before .before .before .before .before .before .before .before .before .before .before .before .before .before .before .before .before .before .before .before .before in
     module-row _ _ _ _ _ _ _ _ _ _ (start .pre .1 .0))  -- way-count-requires
     (λ c.
     let at-if3 = c .before in
     let at-if2 = at-if3 .before in
     let at-own = at-if2 .before .before .before .before .before in
     let at-stem = at-own .before .before .before .before .before .before .before in
-    let start = at-stem .before .before .before .before .before .before .before .before .before .before .before .before .before .before in
+    let start = at-stem .before .before .before .before .before .before .before .before .before .before .before .before .before .before .before in
     (search needs, (search needs, (search needs, round-start _ _ _ _ _ _ _ _ _ _ _ _ _ _ _ (start .pre .1 .0) (start .pre .1 .1 .0) (at-stem .stem .ensures) (at-if3 .if3 .left) _ _ _ _ _ (at-own .own .ensures) (at-if2 .if2 .left)))))  -- loop-holds
     (λ c κs.
     let at-loop-test = c .before in
@@ -120,8 +120,8 @@ pub +corruptible-spec : {M : Type 1} → statement M
     let at-loop-test = at-way-name .before .before in
     let at-loop = at-loop-test .before in
     let at-way-count = at-loop .before in
-    let start = at-way-count .before .before .before .before .before .before .before .before .before .before .before .before .before .before .before .before .before .before .before .before .before .before .before .before .before .before .before .before in
-    (omega (arith, start .pre .0, at-loop .loop .inv .1 .1 .1 .more), (round-given _ _ _ _ _ _ _ _ _ _ _ _ _ _ _ _ _ _ _ _ _ (at-loop .loop .inv .1 .1 .1) _ (at-way-count .way-count .ensures) (at-loop-test .loop-test .taken) _ (at-way-name .way-name .ensures) _ _ (at-put .put .ensures) _ (at-way-row .way-row .ensures), (round-long _ _ _ _ _ _ _ _ _ _ _ _ _ _ _ _ _ _ _ _ _ (at-loop .loop .inv .1 .1 .1) _ (at-way-count .way-count .ensures) (at-loop-test .loop-test .taken) _ (at-way-name .way-name .ensures) _ _ (at-put .put .ensures) (at-put .put .kept .0), at-loop .loop .inv .1 .1 .1 .turn .ready))))  -- corruptible-requires
+    let start = at-way-count .before .before .before .before .before .before .before .before .before .before .before .before .before .before .before .before .before .before .before .before .before .before .before .before .before .before .before .before .before in
+    (omega (arith, start .pre .0, at-loop .loop .inv .1 .1 .1 .more), (round-given _ _ _ _ _ _ _ _ _ _ _ _ _ _ _ _ _ _ _ _ _ (at-loop .loop .inv .1 .1 .1) _ (at-way-count .way-count .ensures) (at-loop-test .loop-test .taken) _ (at-way-name .way-name .ensures) _ _ (at-put .put .ensures) _ (at-way-row .way-row .ensures), (round-long _ _ _ _ _ _ _ _ _ _ _ _ _ _ _ _ _ _ _ _ _ (at-loop .loop .inv .1 .1 .1) _ (at-way-count .way-count .ensures) (at-loop-test .loop-test .taken) _ (at-way-name .way-name .ensures) _ _ (at-put .put .ensures) (at-put .put .kept .0), (at-loop .loop .inv .1 .1 .1 .turn .ready, start .pre .1 .1 .1 .1)))))  -- corruptible-requires
     (λ c.
     let at-corruptible = c .before .before .before .before .before .before .before in
     let at-put = at-corruptible .before .before .before .before .before .before .before in
@@ -154,7 +154,7 @@ pub +corruptible-spec : {M : Type 1} → statement M
     let at-if1 = at-stem .before .before in
     let at-retained = at-if1 .before in
     let at-part = at-retained .before in
-    let start = at-part .before .before .before .before .before .before .before .before .before .before in
+    let start = at-part .before .before .before .before .before .before .before .before .before .before .before in
     walk-done _ _ _ _ _ _ _ _ _ _ _ _ (start .pre .1 .0) (start .pre .1 .1 .0) _ (at-part .part .ensures) _ (at-retained .retained .ensures) (at-if1 .if1 .left) _ _ (at-stem .stem .ensures) _ (at-part2 .part2 .ensures) _ _ _ _ _ _ (at-own .own .ensures) (at-if2 .if2 .left) (at-if3 .if3 .left) _ _ _ _ (round-stop _ _ _ _ _ _ _ _ _ _ _ _ _ _ _ _ _ _ _ _ _ (at-loop .loop .inv .1 .1 .1) _ (at-way-count .way-count .ensures) (at-loop-test .loop-test .taken) _ (at-way-name .way-name .ensures) _ _ (at-put .put .ensures) _ (at-way-row .way-row .ensures) _ _ _ _ (at-corruptible .corruptible .ensures) (c .if4 .taken)) (round-front _ _ _ _ _ _ _ _ _ _ _ _ _ _ _ _ _ _ _ _ _ (at-loop .loop .inv .1 .1 .1) _ (at-way-count .way-count .ensures) (at-loop-test .loop-test .taken) _ (at-way-name .way-name .ensures) _ _ (at-put .put .ensures) _ (at-way-row .way-row .ensures) _ _ _ _ (at-corruptible .corruptible .ensures)))  -- returns-4
     (λ c.
     let at-loop-test = c .before .before .before .before .before .before .before .before .before .before .before .before .before .before .before .before .before in
@@ -185,5 +185,5 @@ pub +corruptible-spec : {M : Type 1} → statement M
     let at-if1 = at-stem .before .before in
     let at-retained = at-if1 .before in
     let at-part = at-retained .before in
-    let start = at-part .before .before .before .before .before .before .before .before .before .before in
+    let start = at-part .before .before .before .before .before .before .before .before .before .before .before in
     walk-done _ _ _ _ _ _ _ _ _ _ _ _ (start .pre .1 .0) (start .pre .1 .1 .0) _ (at-part .part .ensures) _ (at-retained .retained .ensures) (at-if1 .if1 .left) _ _ (at-stem .stem .ensures) _ (at-part2 .part2 .ensures) _ _ _ _ _ _ (at-own .own .ensures) (at-if2 .if2 .left) (at-if3 .if3 .left) _ _ _ _ (round-end _ _ _ _ _ _ _ _ _ _ _ _ _ _ _ _ _ _ _ _ _ (at-loop .loop .inv .1 .1 .1) _ (at-way-count .way-count .ensures) (c .loop-test .left)) (at-loop .loop .inv .1 .1 .1 .front))  -- returns-5

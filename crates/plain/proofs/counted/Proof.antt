@@ -8,7 +8,4 @@ counted-spec =
     tie.close (tie.spec
     (λ c. search counts)  -- returns
     (λ c κs. search counts)  -- entries-requires
-    (λ c. search counts)  -- enum-told
-    (λ c. search counts)  -- enum-known-t
-    (λ c. search counts)  -- returns-2
-    (λ c. search counts))  -- returns-3
+    (λ c. search counts))  -- returns-2

@@ -1,38 +1,20 @@
--- `refs::same_refs` meets its contract: whether what is left of the one is what is left of the other. Assumes nothing.
-use mathlib.Core.List.{_++_}
-use mathlib.Core.Path.{refl}
-use lib.ListN.{length}
-use Rattle.text.specs.Compare.{same}
-use Rattle.refs.specs.Text.{textOf}
-use Rattle.refs.proofs.Streams.{Same, sames}
+-- `refs::same_refs` meets its contract. Assumes nothing.
+use Rattle.refs.proofs.Heads.{refs-apart, refs-differ, refs-same}
+use borrow.Author.Needs.{needs}
 use Rattle.refs.proofs.same_refs.Statement.{statement}
 use Rattle.refs.proofs.same_refs.Tie as tie
-
-abbrev Inv-loop : tie.InvT-loop
-Inv-loop job files area x₀ y₀ x y = Same job (files ++ area) (same (textOf job (files ++ area) x₀) (textOf job (files ++ area) y₀)) x y
-
-abbrev μ-loop : tie.MeasureT-loop
-μ-loop job files area x₀ y₀ x y = length (textOf job (files ++ area) x)
 
 pub same-refs-spec : {M : Type 1} → statement M
 same-refs-spec =
     tie.close
     (tie.spec
-    Inv-loop
-    μ-loop
-    (λ c. record { keeps = refl })  -- loop-holds
-    (λ c κs. search sames)  -- next-requires
-    (λ c. search sames)  -- enum-told
-    (λ c κs. search sames)  -- next-requires-2
-    (λ c. search sames)  -- enum-told-2
-    (λ c. search sames)  -- returns
-    (λ c. search sames)  -- enum-told-3
-    (λ c. search sames)  -- returns-2
-    (λ c. search sames)  -- enum-known-p
-    (λ c κs. search sames)  -- next-requires-3
-    (λ c. search sames)  -- enum-told-4
-    (λ c. search sames)  -- returns-3
-    (λ c. search sames)  -- enum-known-q
-    (λ c. search sames)  -- returns-4
-    (λ c. search sames)  -- loop-less
-    (λ c. search sames))  -- loop-again
+    (λ c κs. search needs)  -- part-requires
+    (λ c κs. search needs)  -- part-requires-2
+    (λ c κs. search needs)  -- end-apart-requires
+    (λ c. refs-apart _ _ _ _ _ _ (c .before .before .before .before .part .ensures) (c .before .before .before .part2 .ensures) _ (c .before .end-apart .ensures) (c .if2 .taken))  -- returns
+    (λ c κs. search needs)  -- same-streams-requires
+    (λ c. search needs)  -- returns-2
+    (λ c κs. search needs)  -- same-requires
+    (λ c. refs-differ _ _ _ _ _ _ (c .before .before .before .before .part .ensures) (c .before .before .before .part2 .ensures) (c .before .before .if1 .left) _ (c .before .same .ensures) (c .if3 .taken))  -- returns-3
+    (λ c κs. search needs)  -- same-heads-requires
+    (λ c. refs-same _ _ _ _ _ _ (c .before .before .before .before .before .part .ensures) (c .before .before .before .before .part2 .ensures) (c .before .before .before .if1 .left) _ (c .before .before .same .ensures) (c .before .if3 .left) _ (c .same-heads .ensures)))  -- returns-4
