@@ -3,9 +3,11 @@
 -- Assumes nothing.
 use Prim.Native.Nat.{ℕ, _+_, _-_, _≤_, _<_}
 use mathlib.Core.Path.{_≡_}
+use mathlib.Core.Bool.{Bool, true}
 use mathlib.Core.List.{List, [], _∷_}
 use lib.ListN.{length, take, drop}
-use Rattle.text.specs.Ascii.{Bytes}
+use Rattle.text.specs.Ascii.{Bytes, byte}
+use Rattle.text.specs.Scan.{upTo}
 use Rattle.fields.specs.Meant.{dimsIs, dirIs, kindIs}
 use Rattle.fields.specs.declared.Dims.{Dims}
 use Rattle.joblines.specs.Job.{Port, Decl, Conn, star, implicit, named, pos, Inst}
@@ -27,6 +29,10 @@ use Rattle.lines.specs.declared.ConnAt.the-variants as conn
 -- the bytes of a part of the job
 abbrev pub spanned : Bytes → Span → Bytes
 spanned job s = bytesAt job (s .at) (s .len)
+
+-- ---- where r says so, none of the n bytes of s from i on is LF
+pub record Clear (s : Bytes) (i n : ℕ) (r : Bool) : Type 0 where
+  pub passed : r ≡ true → upTo (byte "\n") (drop i s) ≡ n + upTo (byte "\n") (drop (i + n) s)
 
 -- ---- the line from `at` on: its LF is at r, and r is not before `end` where there is none
 pub record Cut (job : Bytes) (at end r : ℕ) : Type 0 where

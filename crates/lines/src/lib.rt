@@ -1,12 +1,14 @@
 // The lines of a module in the job, one after the other: ports, declarations, instances and an instance's connections.
 // A step is from a place in the job; it passes over lines of other kinds. Names are parts of the job.
 ghost use mathlib.Core.Path.{_≡_};
-ghost use Prim.Native.Nat.{_≤_};
+ghost use Prim.Native.Nat.{_+_, _≤_};
 ghost use lib.ListN.{length, drop};
+ghost use Rattle.text.specs.Ascii.{byte};
+ghost use Rattle.text.specs.Scan.{Ends, upTo};
 ghost use Rattle.fields.specs.Meant.{isSome};
 ghost use Rattle.joblines.specs.Forms.{portMeant, declMeant, instMeant, connMeant};
 ghost use Rattle.joblines.specs.Sections.{portHere, declHere, instHere, connHere};
-ghost use Rattle.lines.specs.Cursors.{Cut, PortSeen, DeclSeen, InstSeen, ConnSeen, spanned, spanIn, connPlaced};
+ghost use Rattle.lines.specs.Cursors.{Clear, Cut, PortSeen, DeclSeen, InstSeen, ConnSeen, spanned, spanIn, connPlaced};
 use fields::Dims;
 use fields::Dir;
 use fields::Kind;
@@ -53,6 +55,36 @@ pub enum ConnAt {
     Pos { net: Span, next: usize },
 }
 
+// Whether none of four bytes of s from i on is LF.
+fn four(s: &[u8], i: usize) -> bool
+    requires { ⌜ i + 4 ≤ length (now s) ⌝ }
+    ensures { λ r. ⌜ Clear (now (s .entry)) i 4 r ⌝ }
+{
+    (s[i] != b'\n') & (s[i + 1] != b'\n') & (s[i + 2] != b'\n') & (s[i + 3] != b'\n')
+}
+
+// Whether none of sixteen bytes of s from i on is LF.
+fn sixteen(s: &[u8], i: usize) -> bool
+    requires { ⌜ i + 16 ≤ length (now s) ⌝ }
+    ensures { λ r. ⌜ Clear (now (s .entry)) i 16 r ⌝ }
+{
+    four(s, i) & four(s, i + 4) & four(s, i + 8) & four(s, i + 12)
+}
+
+// The place of the first LF of s; the end where there is none.
+fn find_lf(s: &[u8]) -> usize
+    ensures { λ r. ⌜ Ends (0 + upTo (byte "\n") (drop 0 (now (s .entry)))) (length (now (s .entry))) r ⌝ }
+{
+    let mut i = 0;
+    while 16 <= s.len() - i {
+        if !sixteen(s, i) {
+            return text::scan::find(s, i, b'\n');
+        }
+        i += 16;
+    }
+    text::scan::find(s, i, b'\n')
+}
+
 // The LF of the line that begins at `at`; `end` where there is none before it.
 fn line_end(job: &[u8], at: usize, end: usize) -> usize
     ensures { λ r. ⌜ Cut (now (job .entry)) at end r ⌝ }
@@ -61,7 +93,7 @@ fn line_end(job: &[u8], at: usize, end: usize) -> usize
         return end;
     }
     let s = text::part::part(job, at, end - at);
-    let n = text::scan::find(s, 0, b'\n');
+    let n = find_lf(s);
     if n == s.len() {
         return end;
     }

@@ -15,7 +15,7 @@ use Rattle.spans.specs.declared.span.Got.the-variants.{Yes, No}
 use Rattle.spans.specs.declared.span.Found.the-variants.{At, None}
 use Rattle.substitution.proofs.Runs.{written-end, written-step}
 use Rattle.substitution.specs.Stored.{nameAt, valueAt, variableAt, variables}
-use Rattle.text.specs.Sames.{no-true}
+use Rattle.text.specs.Sames.{no-true, same-turned}
 use Rattle.substitution.specs.Written.{droppedBy, written}
 use Rattle.spans.specs.Span.{_⋯_, bytes, foundOf, gotOf, pairAt}
 use Rattle.spans.specs.Frame.{shorter}
@@ -99,6 +99,14 @@ module _ (q : Bool) (body mem : List ℕ) (t : Bool) (i left : ℕ) (x : Span) (
         named-step z = record { keeps = rw (e, h, front, eq-eqb (getD body (i + k) 0) b z) at (inv .keeps) }
 
 pub ruleset nameds = (needs, shorter, named-end, named-short, named-some, named-in, named-stop, named-step)
+
+-- a plain word's bytes are those of its text
+module _ (q : Bool) (body mem : List ℕ) (at size : ℕ) (x : Span) (r : Bool) where
+  pub plain-is : q ≡ false → (w : List ℕ) → w ≡ take size (drop at body) → r ≡ same (bytes mem x) w → r ≡ same (take size (written q (drop at body))) (bytes mem x)
+  unfolding written
+  plain-is h w ew e = e ∙ rw (h, ew) (same-turned (bytes mem x) (take size (drop at body)))
+
+pub ruleset plains = (needs, plain-is)
 
 -- ---- the last one of this name
 

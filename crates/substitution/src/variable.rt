@@ -12,7 +12,9 @@ use spans::span::Found;
 use spans::span::Got;
 use spans::span::Span;
 use spans::span::first;
+use spans::span::is;
 use spans::span::pair;
+use text::part::part;
 
 // The name of variable k.
 pub fn name_of(vars: &[u32], k: usize) -> Span
@@ -34,8 +36,8 @@ pub fn value_of(vars: &[u32], k: usize) -> Span
     pair(vars, 2 * k + 1)
 }
 
-// Whether `size` bytes of a written word from `at` on are the string s.
-pub fn is_name(
+// Whether `size` bytes of a written word from `at` on are the string s, byte by byte.
+fn is_written(
     files: &[u8],
     known: &[u8],
     s: Span,
@@ -70,10 +72,28 @@ pub fn is_name(
     }
 }
 
+// Whether `size` bytes of a written word from `at` on are the string s.
+pub fn is_name<'a>(
+    files: &'a [u8],
+    known: &'a [u8],
+    s: Span,
+    body: &[u8],
+    at: usize,
+    size: usize,
+    quoted: bool,
+) -> bool
+    ensures { λ r. ⌜ r ≡ same (take size (written quoted (drop at (now (body .entry))))) (bytes (now (files .entry) ++ now (known .entry)) s) ⌝ }
+{
+    if quoted {
+        return is_written(files, known, s, body, at, size, quoted);
+    }
+    is(files, known, s, part(body, at, size))
+}
+
 // The value of the last of the first n variables that has this name.
-fn last(
-    files: &[u8],
-    known: &[u8],
+fn last<'a>(
+    files: &'a [u8],
+    known: &'a [u8],
     vars: &[u32],
     n: usize,
     body: &[u8],
@@ -94,9 +114,9 @@ fn last(
 }
 
 // The value of a name: none of an unknown or empty one.
-pub fn lookup(
-    files: &[u8],
-    known: &[u8],
+pub fn lookup<'a>(
+    files: &'a [u8],
+    known: &'a [u8],
     vars: &[u32],
     n: usize,
     body: &[u8],
