@@ -9,10 +9,12 @@ use lib.ListN.{length}
 use Rattle.text.specs.Ascii.{Bytes}
 use Rattle.text.specs.Compare.{same}
 use Rattle.joblines.specs.Job.{Inst, Module}
+use Rattle.jobindex.specs.Index.{moduleRow}
 use Rattle.jobindex.specs.declared.Span.{Span}
 use Rattle.design.specs.Lists.{those}
 use Rattle.design.specs.Lookup.{instanceNamed}
 use Rattle.lines.specs.Cursors.{spanned}
+use Rattle.memo.specs.Known.{Leads, Known}
 use Rattle.names.specs.Name.{nameOf}
 use Rattle.names.specs.Parts.{parts, firstPart, others}
 use Rattle.elements.specs.declared.Down.{Down}
@@ -33,8 +35,19 @@ pub record Behind (s left : Bytes) : Type 0 where
 
 abbrev pub DownIs : Bytes → Bytes → Module → Bytes → Down → Type 0
 DownIs job mem m s down.None = typeBelow m s ≡ none
-DownIs job mem m s (down.Inst t rest) = (typeBelow m s ≡ some (spanned job t)) × Behind s (nameOf mem rest)
+DownIs job mem m s (down.Inst at t rest) = (typeBelow m s ≡ some (spanned job t)) × Behind s (nameOf mem rest)
 
--- what one step down from module m by the element s comes to
-pub record DownSeen (job mem : Bytes) (m : Module) (s : Bytes) (r : Down) : Type 0 where
-  pub is : DownIs job mem m s r
+-- where the lines begin whose first instance it is
+abbrev pub DownAt : Bytes → List ℕ → ℕ → Down → Type 0
+DownAt job index k down.None = Unit {0}
+DownAt job index k (down.Inst at t rest) = Leads job index k at
+
+-- what one step down from module k by the element s comes to
+pub record DownSeen (job mem : Bytes) (index : List ℕ) (k : ℕ) (s : Bytes) (r : Down) : Type 0 where
+  pub is : DownIs job mem (moduleRow job index k) s r
+  pub place : DownAt job index k r
+
+-- the same with a memo, which is known then too
+pub record StepSeen (job mem : Bytes) (index : List ℕ) (k : ℕ) (s : Bytes) (r : Down) (memo : List ℕ) : Type 0 where
+  pub down : DownSeen job mem index k s r
+  pub known : Known job index memo

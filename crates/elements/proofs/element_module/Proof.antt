@@ -1,43 +1,11 @@
--- `elements::element_module` meets its contract: the lookup of the whole element is that of what is left of it, from the module at hand. Assumes nothing.
-use Prim.Native.Nat.{_+_, _≤_, _-_}
-use mathlib.Core.Path.{_≡_}
-use lib.ListN.{length, drop}
-use mathlib.Core.List.{_++_}
-use Rattle.jobindex.specs.Index.{moduleRow}
-use Rattle.design.specs.Lookup.{moduleAt}
-use Rattle.design.specs.Paths.{filledParts}
-use Rattle.lookup.specs.Rows.{modules}
-use Rattle.names.specs.Name.{nameOf}
-use Rattle.elements.proofs.Turns.{Going, goings}
+-- `elements::element_module` meets its contract: the memo is empty at first. Assumes nothing.
+use Rattle.elements.proofs.Turns.{known-none, goings}
+use borrow.Author.Needs.{needs}
 use Rattle.elements.proofs.element_module.Statement.{statement}
 use Rattle.elements.proofs.element_module.Tie as tie
 
-abbrev Inv-loop : tie.InvT-loop
-Inv-loop job index count k files area m₀ x₀ m x = Going job index count (moduleAt (modules job index count) (moduleRow job index m₀) (filledParts (nameOf (files ++ area) x₀))) m (nameOf (files ++ area) x)
-
-abbrev μ-loop : tie.MeasureT-loop
-μ-loop job index count k files area m₀ x₀ m x = length (nameOf (files ++ area) x)
-
 pub element-module-spec : {M : Type 1} → statement M
-element-module-spec =
-    tie.close
-    (tie.spec
-    Inv-loop
-    μ-loop
-    (λ c. search goings)  -- loop-holds
-    (λ c κs. search goings)  -- past-slashes-requires
-    (λ c κs. search goings)  -- next-requires
-    (λ c. search goings)  -- enum-told
-    (λ c. search goings)  -- enum-told-2
-    (λ c. search goings)  -- add-result
-    (λ c. search goings)  -- returns
-    (λ c κs. search goings)  -- instance-at-requires
-    (λ c. search goings)  -- enum-known-d
-    (λ c. search goings)  -- enum-told-3
-    (λ c. search goings)  -- returns-2
-    (λ c κs. search goings)  -- part-of-requires
-    (λ c κs. search goings)  -- module-named-requires
-    (λ c. search goings)  -- returns-3
-    (λ c. search goings)  -- sub-m
-    (λ c. search goings)  -- loop-less
-    (λ c. search goings))  -- loop-again
+element-module-spec = tie.close (tie.spec
+    (λ c. search needs)  -- slice-aggregate-module-by
+    (λ c κs. (search needs, (search needs, known-none _ _)))  -- module-by-requires
+    (λ c. search goings))  -- returns

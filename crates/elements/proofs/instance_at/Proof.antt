@@ -1,21 +1,18 @@
 -- `elements::instance_at` meets its contract: the instance is looked for among those left. Assumes nothing.
-use Prim.Native.Nat.{_+_, _≤_, _-_}
-use mathlib.Core.Path.{_≡_}
-use lib.ListN.{length, drop}
+use Prim.Native.Nat.{_-_}
 use mathlib.Core.List.{_++_}
-use Rattle.jobindex.specs.Index.{moduleRow}
-use Rattle.design.specs.Lookup.{instanceNamed}
 use Rattle.names.specs.Name.{nameOf}
 use Rattle.names.specs.Parts.{parts, firstPart}
-use Rattle.elements.proofs.Turns.{partIn, downs}
+use Rattle.memo.specs.Known.{Begins}
+use Rattle.elements.proofs.Turns.{downs}
 use Rattle.elements.proofs.instance_at.Statement.{statement}
 use Rattle.elements.proofs.instance_at.Tie as tie
 
 abbrev Inv-loop : tie.InvT-loop
-Inv-loop job index k files area e end at₀ at = instanceNamed (moduleRow job index k) (firstPart (parts (nameOf (files ++ area) e))) ≡ partIn job at end (nameOf (files ++ area) e)
+Inv-loop job index k files area e from end at₀ at = Begins job index k (firstPart (parts (nameOf (files ++ area) e))) at
 
 abbrev μ-loop : tie.MeasureT-loop
-μ-loop job index k files area e end at₀ at = end - at
+μ-loop job index k files area e from end at₀ at = end - at
 
 pub instance-at-spec : {M : Type 1} → statement M
 instance-at-spec =
@@ -24,7 +21,6 @@ instance-at-spec =
     Inv-loop
     μ-loop
     (λ c κs. search downs)  -- insts-end-requires
-    (λ c κs. search downs)  -- insts-from-requires
     (λ c. search downs)  -- loop-holds
     (λ c κs. search downs)  -- next-inst-requires
     (λ c. search downs)  -- enum-known-r
