@@ -71,18 +71,42 @@ fn sixteen(s: &[u8], i: usize) -> bool
     four(s, i) & four(s, i + 4) & four(s, i + 8) & four(s, i + 12)
 }
 
-// The place of the first LF of s; the end where there is none.
-fn find_lf(s: &[u8]) -> usize
-    ensures { λ r. ⌜ Ends (0 + upTo (byte "\n") (drop 0 (now (s .entry)))) (length (now (s .entry))) r ⌝ }
+// The place of the first LF of s from `at` on, four bytes at a time.
+fn find_four(s: &[u8], at: usize) -> usize
 {
-    let mut i = 0;
+    let mut i = at;
+    while 4 <= s.len() - i {
+        if !four(s, i) {
+            return text::scan::find(s, i, b'\n');
+        }
+        i += 4;
+    }
+    text::scan::find(s, i, b'\n')
+}
+
+fn find_sixteen(s: &[u8], at: usize) -> usize
+{
+    let mut i = at;
     while 16 <= s.len() - i {
         if !sixteen(s, i) {
-            return text::scan::find(s, i, b'\n');
+            return find_four(s, i);
         }
         i += 16;
     }
-    text::scan::find(s, i, b'\n')
+    find_four(s, i)
+}
+
+// The place of the first LF of s; the end where there is none.
+fn find_lf(s: &[u8]) -> usize
+{
+    let mut i = 0;
+    while 32 <= s.len() - i {
+        if !(sixteen(s, i) & sixteen(s, i + 16)) {
+            return find_sixteen(s, i);
+        }
+        i += 32;
+    }
+    find_sixteen(s, i)
 }
 
 // The LF of the line that begins at `at`; `end` where there is none before it.

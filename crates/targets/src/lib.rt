@@ -32,8 +32,17 @@ pub enum Part {
 // An instance: its module's name, where its connections begin, and whether its name is the last part.
 pub enum Down {
     None,
-    Last { kind: Span, conns: usize },
-    More { kind: Span, size: usize, rest: Ref },
+    Last {
+        at: usize,
+        kind: Span,
+        conns: usize,
+    },
+    More {
+        at: usize,
+        kind: Span,
+        size: usize,
+        rest: Ref,
+    },
 }
 
 // An instance: its parent's row, where its connections begin, its module's row, and how many bytes of the text stand before its name.
@@ -108,13 +117,69 @@ fn first_part(job: &[u8], files: &[u8], area: &[u8], r: Ref, w: &[u8]) -> Part
     }
 }
 
-// The first instance of module k whose name is the first part of a text, dimensions not looked at.
-fn instance_at(job: &[u8], index: &[u32], k: usize, files: &[u8], area: &[u8], r: Ref) -> Down
-    requires { ⌜ k ≤ 128 ⌝ }
-    ensures { λ d. ⌜ DownSeen (now (job .entry)) (now (index .entry)) k (now (files .entry) ++ now (area .entry)) (textOf (now (job .entry)) (now (files .entry) ++ now (area .entry)) r) d ⌝ }
-{
+// The slot of the memo for the first part of a text in module k.
+fn slot(job: &[u8], files: &[u8], area: &[u8], k: usize, r: Ref) -> usize {
+    let mut x = r;
+    let mut h = k;
+    loop {
+        match next(job, files, area, x) {
+            Step::End => return h % 512,
+            Step::Byte(b, u) => {
+                if b == b'/' {
+                    return h % 512;
+                }
+                h = h % 16777216 * 31 + b as usize;
+                x = u;
+            }
+        }
+    }
+}
+
+// Where to begin to look for the first part of a text in module k: at an instance of that name, where the memo has it.
+fn begin(
+    job: &[u8],
+    index: &[u32],
+    k: usize,
+    files: &[u8],
+    area: &[u8],
+    r: Ref,
+    memo: &[usize],
+    h: usize,
+) -> usize {
+    let from = lookup::insts_from(index, k);
+    if memo::row_in(memo, h) != k + 1 {
+        return from;
+    }
+    let at = memo::place_in(memo, h);
+    let x = lines::next_inst(job, at, lookup::insts_end(index, k));
+    let InstAt::Inst {
+        dims: _,
+        name,
+        kind: _,
+        next: _,
+    } = x
+    else {
+        return from;
+    };
+    match first_part(job, files, area, r, lines::part_of(job, name)) {
+        Part::Last => at,
+        Part::More(_) => at,
+        Part::Other => from,
+    }
+}
+
+// The first instance of module k whose name is the first part of a text, dimensions not looked at; none of that name is before `from`.
+fn instance_at(
+    job: &[u8],
+    index: &[u32],
+    k: usize,
+    files: &[u8],
+    area: &[u8],
+    r: Ref,
+    from: usize,
+) -> Down {
     let end = lookup::insts_end(index, k);
-    let mut at = lookup::insts_from(index, k);
+    let mut at = from;
     loop {
         let x = lines::next_inst(job, at, end);
         let InstAt::Inst {
@@ -128,9 +193,14 @@ fn instance_at(job: &[u8], index: &[u32], k: usize, files: &[u8], area: &[u8], r
         };
         let w = lines::part_of(job, name);
         match first_part(job, files, area, r, w) {
-            Part::Last => return Down::Last { kind, conns: next },
+            Part::Last => return Down::Last {
+                at,
+                kind,
+                conns: next,
+            },
             Part::More(rest) => {
                 return Down::More {
+                    at,
                     kind,
                     size: w.len(),
                     rest,
@@ -156,6 +226,57 @@ fn nowhere() -> Place
     }
 }
 
+// The instance that the parts of a text lead to from module k, with a memo.
+fn find_by(
+    job: &[u8],
+    index: &[u32],
+    count: usize,
+    k: usize,
+    files: &[u8],
+    area: &[u8],
+    r: Ref,
+    memo: &mut [usize],
+) -> Place {
+    let mut m = k;
+    let mut x = r;
+    let mut upto = 0;
+    loop {
+        let h = slot(job, files, area, m, x);
+        let from = begin(job, index, m, files, area, x, memo, h);
+        match instance_at(job, index, m, files, area, x, from) {
+            Down::None => return nowhere(),
+            Down::Last { at: _, kind, conns } => {
+                let row = lookup::module_named(job, index, count, lines::part_of(job, kind));
+                if row == 0 {
+                    return nowhere();
+                }
+                return Place {
+                    found: true,
+                    parent: m,
+                    conns: conns,
+                    sub: row - 1,
+                    upto: upto,
+                };
+            }
+            Down::More {
+                at,
+                kind,
+                size,
+                rest,
+            } => {
+                memo::put(memo, h, m, at);
+                let row = lookup::module_named(job, index, count, lines::part_of(job, kind));
+                if row == 0 {
+                    return nowhere();
+                }
+                m = row - 1;
+                x = rest;
+                upto = upto + size + 1;
+            }
+        }
+    }
+}
+
 // The instance that the parts of a text lead to from module k.
 pub fn find_instance(
     job: &[u8],
@@ -169,34 +290,6 @@ pub fn find_instance(
     requires { ⌜ (count ≤ 128) × ((k < count) × (length (textOf (now job) (now files ++ now area) r) < 2 ^ 63)) ⌝ }
     ensures { λ p. ⌜ PlaceSeen (now (job .entry)) (now (index .entry)) count k (textOf (now (job .entry)) (now (files .entry) ++ now (area .entry)) r) p ⌝ }
 {
-    let mut m = k;
-    let mut x = r;
-    let mut upto = 0;
-    loop {
-        match instance_at(job, index, m, files, area, x) {
-            Down::None => return nowhere(),
-            Down::Last { kind, conns } => {
-                let row = lookup::module_named(job, index, count, lines::part_of(job, kind));
-                if row == 0 {
-                    return nowhere();
-                }
-                return Place {
-                    found: true,
-                    parent: m,
-                    conns: conns,
-                    sub: row - 1,
-                    upto: upto,
-                };
-            }
-            Down::More { kind, size, rest } => {
-                let row = lookup::module_named(job, index, count, lines::part_of(job, kind));
-                if row == 0 {
-                    return nowhere();
-                }
-                m = row - 1;
-                x = rest;
-                upto = upto + size + 1;
-            }
-        }
-    }
+    let mut memo: [usize; 1024] = [0; 1024];
+    find_by(job, index, count, k, files, area, r, &mut memo)
 }
