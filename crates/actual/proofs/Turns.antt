@@ -1,27 +1,24 @@
 -- One turn along the connections of an instance: the first that is the port's decides, `star` last.
 -- Assumes nothing.
-use mathlib.Core.Path.{_≡_, refl, ap, ap₂, _∙_, sym}
-use Prim.Native.Nat.{ℕ, _+_, _-_, _<_, _≤_}
+use mathlib.Core.Path.{_≡_, refl, ap, _∙_, sym}
+use Prim.Native.Nat.{ℕ, _+_, _-_, _<_}
 use native.Mathlib.Omega.{arith}
-use mathlib.Core.Bool.{Bool, true, false, cond, not, _||_, or-false, or-true}
+use mathlib.Core.Bool.{Bool, true, false, not, _||_, or-false}
 use mathlib.Core.List.{List, [], _∷_, map, tail}
-use mathlib.Core.Option.{Option, none, some}
-use lib.ListN.{length}
+use mathlib.Core.Option.{none, some}
 use borrow.Author.Needs.{needs}
 use borrow.Author.Tests.{not-true, not-false}
 use Rattle.text.specs.Ascii.{Bytes, ascii}
 use Rattle.text.specs.Compare.{same}
 use Rattle.text.specs.Scan.{any}
 use Rattle.text.specs.Sames.{no-true}
-use Rattle.joblines.specs.Job.{Port, Conn, star, implicit, named, pos, Module}
+use Rattle.joblines.specs.Job.{Port, Conn, star, implicit, named, pos}
 use Rattle.joblines.specs.Lines.{when}
 use Rattle.joblines.specs.Sections.{portsIn, connsIn}
 use Rattle.jobindex.specs.Index.{num, rowAt, section, moduleRow}
 use Rattle.jobindex.specs.declared.Span.{Span}
 use Rattle.fields.specs.declared.Dir.{Dir as Dir·code}
-use Rattle.design.specs.Lists.{onSome}
 use Rattle.design.specs.Connections.{plain, isFirst, saysOf, isStar, decided}
-use Rattle.design.specs.Ports.{portOrder}
 use Rattle.lines.specs.Cursors.{spanned, Stepped, ConnSeen, PortSeen}
 use Rattle.lines.specs.Steps.{no-ports}
 use Rattle.lines.specs.declared.ConnAt.{ConnAt}
@@ -35,7 +32,7 @@ use Rattle.actual.specs.declared.Says.the-variants as says
 use Rattle.refs.specs.Text.{textOf, jobRef}
 use Rattle.refs.specs.Laws.{job-is}
 use Rattle.refs.specs.declared.Ref.{Ref}
-use Rattle.actual.specs.Nets.{netIs, PlainSeen, saidIs, actualOf, atEnd, starAt, connNext, portNext, isFirstAt, saysAt, lastOf, ports-from, ports-end}
+use Rattle.actual.specs.Nets.{netIs, PlainSeen, saidIs, actualOf, atEnd, starAt, connNext, portNext, isFirstAt, saysAt, lastOf}
 
 -- ---- the port's name
 pub port-is : (job mem : Bytes) (n : Span) (y : Ref) (x : Ref) (b : Bool) → x ≡ jobRef (n .at) (n .len) → b ≡ same (textOf job mem x) (textOf job mem y) → b ≡ same (spanned job n) (textOf job mem y)

@@ -8,7 +8,7 @@ ghost use Rattle.joblines.specs.Sections.{connsIn};
 ghost use Rattle.jobindex.specs.Index.{section, moduleRow};
 ghost use Rattle.refs.specs.Text.{textOf};
 ghost use Rattle.lines.specs.Cursors.{spanned};
-ghost use Rattle.actual.specs.Nets.{netIs, PlainSeen, saidIs, saysAt, isFirstAt, atEnd, starAt, lastOf, connNext, portNext, actualOf, ports-from, ports-end};
+ghost use Rattle.actual.specs.Nets.{netIs, PlainSeen, saidIs, saysAt, isFirstAt, atEnd, starAt, lastOf, connNext, portNext, actualOf};
 use jobindex::Span;
 use lines::ConnAt;
 use lines::PortAt;

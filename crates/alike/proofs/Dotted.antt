@@ -1,12 +1,12 @@
 -- Loops over what is left of two names, with `/` as `.`: laws as the needs ask them. Assumes nothing.
 use Prim.Native.Nat.{ℕ}
-use mathlib.Core.Path.{_≡_, refl, sym, ap, _∙_}
-use mathlib.Core.Bool.{Bool, true, false, cond}
-use mathlib.Core.List.{List, [], _∷_, _++_}
-use lib.Dec.{eqb, ltb}
+use mathlib.Core.Path.{_≡_, ap, _∙_}
+use mathlib.Core.Bool.{Bool, true, false}
+use mathlib.Core.List.{[], _∷_}
+use lib.Dec.{ltb}
 use borrow.Author.Needs.{needs}
 use borrow.Author.Tests.{eq-eqb, ne-eqb}
-use Rattle.text.specs.Ascii.{Bytes, byte}
+use Rattle.text.specs.Ascii.{Bytes}
 use Rattle.text.specs.Compare.{same, less}
 use Rattle.out.specs.Bytewise.{dotted}
 use Rattle.names.specs.Name.{nameOf, stepOf}

@@ -1,19 +1,19 @@
 -- A kept port as the definitions have it, by its strategy; and laws: below one scope, signals are the same, and in the same order, as they are by themselves.
 -- Assumes nothing.
-use Prim.Native.Nat.{ℕ, _<_, _≤_}
+use Prim.Native.Nat.{ℕ, _<_}
 use mathlib.Core.Path.{_≡_, refl, sym, ap, ap₂, _∙_}
-use mathlib.Core.Bool.{Bool, true, false, _&&_}
+use mathlib.Core.Bool.{Bool, false, _&&_}
 use mathlib.Core.List.{List, [], _∷_, _++_, map, append-nil}
-use mathlib.Core.Option.{Option, some}
-use lib.ListN.{length, getD, take}
-use Rattle.text.specs.Ascii.{Bytes, ascii, byte}
+use mathlib.Core.Option.{some}
+use lib.ListN.{getD, take}
+use Rattle.text.specs.Ascii.{Bytes, byte}
 use Rattle.text.specs.Compare.{same, less}
 use Rattle.text.specs.Sames.{same-refl, same-front, less-front}
 use Rattle.text.specs.Classes.{dotOf}
 use Rattle.out.specs.Bytewise.{dotted}
 use Rattle.spans.specs.Span.{bytes}
 use Rattle.names.specs.Name.{nameOf}
-use Rattle.names.specs.Laws.{dotted-map, dotted-none}
+use Rattle.names.specs.Laws.{dotted-map}
 use Rattle.names.specs.declared.name.Name.{Name}
 use Rattle.design.specs.Paths.{scopePath, childPath, elementPath}
 use Rattle.model.specs.Records.{Isolation as Isolationʳ}
@@ -24,7 +24,7 @@ use Rattle.store.specs.View.{isolationOf}
 use Rattle.store.specs.declared.stored.Maybe.{Maybe}
 use Rattle.store.specs.declared.stored.Maybe.the-variants.{Not, Given}
 use Rattle.store.specs.declared.state.Isolations.{Isolations}
-use Rattle.texts.specs.Setting.{Setting, slashed, slashPath, hier}
+use Rattle.texts.specs.Setting.{Setting}
 use Rattle.texts.specs.Isolation.{Isolated, Target, lowered, activeOf, keyOf, isolatedBy, alike}
 use Rattle.format.specs.Args.{rooted}
 use Rattle.isolated.specs.Table.{Kept, kept}

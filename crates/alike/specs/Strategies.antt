@@ -1,8 +1,8 @@
 -- A strategy by its number, in the store and as the definitions have it. Assumes nothing.
 use Prim.Native.Nat.{ℕ}
 use mathlib.Core.Bool.{Bool, not, _&&_}
-use mathlib.Core.List.{List, []}
-use mathlib.Core.Option.{Option, none, some}
+use mathlib.Core.List.{[]}
+use mathlib.Core.Option.{none}
 use lib.Dec.{eqb}
 use lib.ListN.{getD}
 use Rattle.text.specs.Ascii.{Bytes}

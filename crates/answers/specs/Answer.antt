@@ -2,7 +2,7 @@
 -- Assumes nothing.
 use Prim.Native.Nat.{ℕ, _-_}
 use mathlib.Core.Bool.{Bool, cond, _&&_}
-use mathlib.Core.List.{List, [], _∷_, _++_}
+use mathlib.Core.List.{[], _++_}
 use mathlib.Core.Option.{Option, none, some}
 use lib.Dec.{leb}
 use lib.ListN.{length, replicate}

@@ -1,9 +1,9 @@
 -- Laws of the stored words, from a place on. Assumes nothing.
-use Prim.Native.Nat.{ℕ, zero, suc, _+_, _-_, _≤_, _<_}
+use Prim.Native.Nat.{ℕ, suc, _+_, _-_, _≤_, _<_}
 use mathlib.Core.Path.{_≡_}
 use mathlib.Core.List.{List, [], _∷_}
 use native.Mathlib.Omega.{arith}
-use native.Mathlib.Nat.{add-zero, sub-zero}
+use native.Mathlib.Nat.{sub-zero}
 use Rattle.text.specs.Ascii.{Bytes}
 use Rattle.spans.specs.Span.{bytes, pairAt, pairs, strings}
 use Rattle.args.specs.View.{wordsFrom}

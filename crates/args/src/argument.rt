@@ -3,7 +3,6 @@ ghost use mathlib.Core.Path.{_≡_};
 ghost use mathlib.Core.List.{_++_};
 ghost use mathlib.Core.Bool.{cond};
 ghost use Prim.Native.Nat.{_+_, _<_, _^_};
-ghost use lib.ListN.{length};
 ghost use Rattle.text.specs.Compare.{same};
 ghost use Rattle.spans.specs.Span.{bytes, pairAt};
 ghost use Rattle.spans.specs.declared.span.Found.the-variants.{At};

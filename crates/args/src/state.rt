@@ -1,8 +1,6 @@
 // The states of `create_power_switch` and `add_port_state`: the raw word behind each key, even one like an option.
-ghost use mathlib.Core.Path.{_≡_};
 ghost use mathlib.Core.List.{_++_};
 ghost use Prim.Native.Nat.{_+_};
-ghost use lib.ListN.{length};
 ghost use Rattle.tcl.specs.Arguments.{stateOf, states as Arguments·states};
 ghost use Rattle.spans.specs.Span.{bytes, pairAt, strings};
 ghost use Rattle.args.specs.View.{wordsFrom, pick, StateHere, States};

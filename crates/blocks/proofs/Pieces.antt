@@ -1,9 +1,9 @@
 -- The blocks in the pieces in which they are written. Assumes nothing.
 use mathlib.Core.Path.{_≡_}
-use mathlib.Core.List.{List, []}
+use mathlib.Core.List.{List}
 use Rattle.text.specs.Ascii.{Bytes, ascii}
 use Rattle.out.specs.Emit.{Out, emit, _⊕_, emit-⊕}
-use Rattle.out.specs.Fill.{fill, turns, arg, pick, writes, runs, format1, format2, emit-fill}
+use Rattle.out.specs.Fill.{turns, arg, pick, writes, format1, format2, emit-fill}
 use Rattle.out.specs.Items.{each}
 use Rattle.texts.specs.Domains.{force, release}
 use Rattle.blocks.specs.Blocks.{upText, downText, initialText}

@@ -1,9 +1,9 @@
 -- The wire and the blocks of a domain, by the texts that stand in them; the `always` block in two halves, with the checks between them. Assumes nothing.
-use mathlib.Core.Path.{_≡_, refl, sym, _∙_}
-use mathlib.Core.List.{List, [], _∷_}
-use Rattle.text.specs.Ascii.{Bytes, ascii}
+use mathlib.Core.Path.{_≡_, refl}
+use mathlib.Core.List.{List}
+use Rattle.text.specs.Ascii.{Bytes}
 use Rattle.out.specs.Emit.{Out, emit, _⊕_, emit-⊕}
-use Rattle.out.specs.Fill.{fill, turns, arg, pick, writes, runs, format1, format2, format3, format4, emit-fill}
+use Rattle.out.specs.Fill.{turns, arg, pick, writes, format2, format3, format4, emit-fill}
 use Rattle.out.specs.Items.{each}
 use Rattle.model.specs.Records.{Domain}
 use Rattle.texts.specs.Domains.{force, release, Check, checkLine, wire, alwaysBlock, initialBlock}

@@ -3,15 +3,14 @@ use Prim.Native.Nat.{ℕ, zero, suc, _+_, _-_, _≤_, _<_, _^_}
 use native.Mathlib.Omega.{arith}
 use native.Mathlib.Numerals.{add-one}
 use mathlib.Core.Path.{_≡_, refl, sym, ap, ap₂, _∙_}
-use mathlib.Core.Bool.{Bool, true, false, cond, _&&_}
+use mathlib.Core.Bool.{Bool, true, false, cond}
 use mathlib.Core.List.{List, [], _∷_, _++_, append-assoc}
-use lib.Dec.{ltb}
-use lib.ListN.{length, take, drop, getD, set, length-set, length-append, length-take, length-drop, drop-of-length-le, take-append-drop}
-use lib.Seq.{drop-cons, getD-take, getD-at, set-at, take-suc, take-all, take-at, length-take-le, take-take}
+use lib.ListN.{length, take, drop, getD, set, length-set, length-append, length-drop, drop-of-length-le, take-append-drop}
+use lib.Seq.{drop-cons, getD-take, getD-at, set-at, take-suc, take-at, length-take-le, take-take}
 use borrow.Author.Needs.{needs}
 use borrow.Author.Tests.{ltb-true, lt-ltb}
 use Rattle.text.specs.Scan.{all}
-use Rattle.text.specs.Sames.{both, no-true}
+use Rattle.text.specs.Sames.{both}
 use Rattle.model.specs.Records.{Isolation as Isolationʳ}
 use Rattle.checks.specs.Sorted.{areSame, isEarlier, spotIn, insertedIn, insertedAt, isNumber, Known, Adds, Found}
 

@@ -1,16 +1,18 @@
 -- The checks of a domain, gathered from the last port on, and written: laws as the needs ask them. Assumes nothing.
-use Prim.Native.Nat.{ℕ, zero, suc, _+_, _-_, _≤_, _<_, _^_}
+use Prim.Native.Nat.{ℕ, suc, _+_, _-_, _≤_, _<_, _^_}
 use native.Mathlib.Omega.{arith}
 use native.Mathlib.Numerals.{add-one}
 use mathlib.Core.Path.{_≡_, refl, sym, ap, _∙_}
 use mathlib.Core.Bool.{Bool, true, false, cond, not}
-use mathlib.Core.List.{List, [], _∷_, _++_}
+use mathlib.Core.List.{List, [], _∷_}
 use lib.ListN.{length, take, drop, getD, drop-of-length-le}
 use lib.Seq.{drop-cons, getD-take, length-take-le}
 use borrow.Author.Needs.{needs}
 use Rattle.text.specs.Ascii.{Bytes, ascii}
 use Rattle.text.specs.Scan.{any, all}
-use Rattle.out.specs.Emit.{Out, _▸_, emit, emit-append}
+use Rattle.text.specs.Sames.{same-refl}
+use Rattle.out.specs.Bytewise.{dotted}
+use Rattle.out.specs.Emit.{Out, emit, emit-append}
 use Rattle.out.specs.Fill.{fill}
 use Rattle.out.specs.Items.{each}
 use Rattle.names.specs.Name.{nameOf}
@@ -28,18 +30,44 @@ use Rattle.format.specs.Args.{argOf, nameArg}
 use Rattle.format.specs.Laws.{name-arg}
 use Rattle.format.specs.declared.arg.Arg.{Arg}
 use Rattle.isolated.specs.Table.{portRow}
-use Rattle.alike.specs.Strategies.{isolationAt, strategyAt, signalOf}
-use Rattle.alike.specs.Numbers.{numbersFrom, numbersIn, numbers-none, numbers-next}
-use Rattle.alike.specs.Ruled.{Ruled}
+use Rattle.alike.specs.Strategies.{isolationAt, strategyAt, signalOf, areAlike}
+use Rattle.alike.specs.Numbers.{numbersFrom, numbers-next}
 use Rattle.portargs.specs.Args.{strategyArg, signalArg, activeArg, strategy-is, signal-is, active-is}
-use Rattle.checks.specs.Sorted.{isOwn, isOwnNumber, insertedIn, sortedIn, ownIn, isNumber, Known, Adds, Sorts, Found, checkText}
+use Rattle.checks.specs.Sorted.{areSame, isEarlier, isOwn, isOwnNumber, insertedIn, sortedIn, ownIn, Known, Adds, Sorts, Found, checkText}
 use Rattle.checks.proofs.Inserts.{number-at}
 
--- ---- gathered: those of the ports from row k on are sorted
+-- ---- gathered: those of the ports from row k on are sorted; strategy s would add nothing
+
+abbrev ownOf : Bytes → Isolations → Stored → List ℕ → List ℕ
+ownOf mem t domain l = sortedIn (strategyAt mem t) (those (isOwnNumber mem t domain) l)
+
+-- a strategy that is put in again
+same-self : (x : Isolationʳ) → areSame x x ≡ true
+unfolding areSame areAlike
+same-self x = rw (same-refl (dotted (signalOf x)), same-refl (activeOf x), same-refl (x .name))
+
+put-again : (f : ℕ → Isolationʳ) (i : ℕ) (l : List ℕ) → insertedIn f i (insertedIn f i l) ≡ insertedIn f i l
+unfolding insertedIn
+put-again f i [] = rw (same-self (f i))
+put-again f i (j ∷ l) = go (areSame (f i) (f j)) refl (isEarlier (f i) (f j)) refl (put-again f i l)
+  where
+    go : (b : Bool) → areSame (f i) (f j) ≡ b → (c : Bool) → isEarlier (f i) (f j) ≡ c → insertedIn f i (insertedIn f i l) ≡ insertedIn f i l
+        → insertedIn f i (cond b (j ∷ l) (cond c (i ∷ j ∷ l) (j ∷ insertedIn f i l))) ≡ cond b (j ∷ l) (cond c (i ∷ j ∷ l) (j ∷ insertedIn f i l))
+    go true e c d r = rw e
+    go false e true d r = rw (same-self (f i))
+    go false e false d r = rw (e, d) (ap (λ (m : List ℕ). j ∷ m) r)
+
+twice : (mem : Bytes) (t : Isolations) (domain : Stored) (i : ℕ) (l : List ℕ) → ownOf mem t domain (i ∷ i ∷ l) ≡ ownOf mem t domain (i ∷ l)
+unfolding those sortedIn
+twice mem t domain i l = go (isOwnNumber mem t domain i)
+  where
+    go : (b : Bool) → sortedIn (strategyAt mem t) (cond b (i ∷ cond b (i ∷ those (isOwnNumber mem t domain) l) (those (isOwnNumber mem t domain) l)) (cond b (i ∷ those (isOwnNumber mem t domain) l) (those (isOwnNumber mem t domain) l))) ≡ sortedIn (strategyAt mem t) (cond b (i ∷ those (isOwnNumber mem t domain) l) (those (isOwnNumber mem t domain) l))
+    go true = put-again (strategyAt mem t) i (sortedIn (strategyAt mem t) (those (isOwnNumber mem t domain) l))
+    go false = refl
 
 pub record Gathers (mem : Bytes) (t : Isolations) (domain : Stored) (ports : List ℕ) (n : ℕ) (found₀ found : List ℕ) (m k s : ℕ) : Type 0 where
   pub before : k ≤ n
-  pub others : s < 32 → isOwnNumber mem t domain s ≡ false
+  pub settled : s < 32 → ownOf mem t domain (s ∷ numbersFrom ports k (n - k)) ≡ ownOf mem t domain (numbersFrom ports k (n - k))
   pub so-far : Found (sortedIn (strategyAt mem t) (those (isOwnNumber mem t domain) (numbersFrom ports k (n - k)))) (n - k) found₀ found m
 
 module _ (mem : Bytes) (t : Isolations) (domain : Stored) (ports : List ℕ) (n : ℕ) (found₀ : List ℕ) where
@@ -47,7 +75,7 @@ module _ (mem : Bytes) (t : Isolations) (domain : Stored) (ports : List ℕ) (n 
   unfolding numbersFrom those sortedIn all
   gather-start =
       let z : n - n ≡ 0 = omega arith in
-      record { before = omega arith; others = λ h. absurd (omega (arith, h)); so-far = rw z (record { are = refl; count = omega arith; known = record { few = omega arith; long = omega arith; numbers = refl }; size = refl }) }
+      record { before = omega arith; settled = λ h. absurd (omega (arith, h)); so-far = rw z (record { are = refl; count = omega arith; known = record { few = omega arith; long = omega arith; numbers = refl }; size = refl }) }
 
   module _ (w : Sorts mem t ports n found₀) (found : List ℕ) (m k s : ℕ) (inv : Gathers mem t domain ports n found₀ found m k s) where
     pub gather-end : k ≤ 0 → Found (ownIn mem t domain ports n) n found₀ found m
@@ -73,6 +101,15 @@ module _ (mem : Bytes) (t : Isolations) (domain : Stored) (ports : List ℕ) (n 
               room = omega (arith, inv .so-far .size, w .room);
             }
 
+        row-is : numbersFrom ports (k - 1) (n - (k - 1)) ≡ i ∷ numbersFrom ports k (n - k)
+        row-is =
+            let z : n - (k - 1) ≡ suc (n - k) = omega (arith, inv .before) in
+            let y : k - 1 + 1 ≡ k = omega arith in
+            rw (z, numbers-next ports (k - 1) (n - k), y, ← e)
+
+        settles : i < 32 → ownOf mem t domain (i ∷ numbersFrom ports (k - 1) (n - (k - 1))) ≡ ownOf mem t domain (numbersFrom ports (k - 1) (n - (k - 1)))
+        settles l = rw row-is (twice mem t domain i (numbersFrom ports k (n - k)))
+
         module _ (b : Bool) (o : b ≡ any (isOwn mem (string mem (isolationAt t i .name)) (string mem domain)) (take (t .n) (t .all))) where
           g : b ≡ isOwnNumber mem t domain i
           unfolding isolationOf
@@ -86,16 +123,13 @@ module _ (mem : Bytes) (t : Isolations) (domain : Stored) (ports : List ℕ) (n 
 
           opened : those (isOwnNumber mem t domain) (numbersFrom ports (k - 1) (n - (k - 1))) ≡ cond b (i ∷ own) own
           unfolding those
-          opened =
-              let z : n - (k - 1) ≡ suc (n - k) = omega (arith, inv .before) in
-              let y : k - 1 + 1 ≡ k = omega arith in
-              rw (z, numbers-next ports (k - 1) (n - k), y, ← e, ← g)
+          opened = rw (row-is, ← g)
 
           pub gather-other : not b ≡ true → Gathers mem t domain ports n found₀ found m (k - 1) i
           gather-other d =
               record {
                 before = omega (arith, inv .before);
-                others = λ l. sym g ∙ is-false b d;
+                settled = settles;
                 so-far =
                     rw (opened, is-false b d)
                     (record { are = inv .so-far .are; count = omega (arith, inv .so-far .count); known = inv .so-far .known; size = inv .so-far .size });
@@ -105,12 +139,12 @@ module _ (mem : Bytes) (t : Isolations) (domain : Stored) (ports : List ℕ) (n 
               is-false true e = sym e
               is-false false e = refl
 
-          pub gather-one : not b ≡ false → (found′ : List ℕ) (r : ℕ) → Found (insertedIn (strategyAt mem t) i (take m found)) (m + 1) found found′ r → Gathers mem t domain ports n found₀ found′ r (k - 1) s
+          pub gather-one : not b ≡ false → (found′ : List ℕ) (r : ℕ) → Found (insertedIn (strategyAt mem t) i (take m found)) (m + 1) found found′ r → Gathers mem t domain ports n found₀ found′ r (k - 1) i
           unfolding sortedIn
           gather-one d found′ r a =
               record {
                 before = omega (arith, inv .before);
-                others = inv .others;
+                settled = settles;
                 so-far =
                     rw (opened, is-true b d)
                     (record {
@@ -126,11 +160,14 @@ module _ (mem : Bytes) (t : Isolations) (domain : Stored) (ports : List ℕ) (n 
               is-true false e = sym e
 
         pub gather-skip : i ≡ s → Gathers mem t domain ports n found₀ found m (k - 1) s
-        unfolding isolationOf
         gather-skip d =
             let l : s < 32 = rw d at gather-number in
-            let g : false ≡ isOwnNumber mem t domain i = sym (ap (λ (j : ℕ). isOwnNumber mem t domain j) d ∙ inv .others l) in
-            rw d at (gather-other false g refl)
+            let y : ownOf mem t domain (numbersFrom ports (k - 1) (n - (k - 1))) ≡ ownOf mem t domain (numbersFrom ports k (n - k)) = rw (row-is, d) (inv .settled l) in
+            record {
+              before = omega (arith, inv .before);
+              settled = rw d at settles;
+              so-far = rw y (record { are = inv .so-far .are; count = omega (arith, inv .so-far .count); known = inv .so-far .known; size = inv .so-far .size });
+            }
 
 pub sorts-sized : (mem : Bytes) (t : Isolations) (ports : List ℕ) (n : ℕ) (found : List ℕ) → Sorts mem t ports n found → Sized 32 (t .n) (t .all)
 sorts-sized mem t ports n found w = w .sized

@@ -1,10 +1,9 @@
 -- Two strategies: the same check, or one before the other. Laws as the needs ask them. Assumes nothing.
-use Prim.Native.Nat.{ℕ, _<_}
+use Prim.Native.Nat.{ℕ}
 use native.Mathlib.Omega.{arith}
-use mathlib.Core.Path.{_≡_, refl, sym, ap, ap₂, _∙_}
-use mathlib.Core.Bool.{Bool, true, false, cond, not, _&&_}
-use mathlib.Core.List.{List, [], _∷_, _++_}
-use lib.Dec.{eqb, ltb}
+use mathlib.Core.Path.{_≡_, refl, sym, ap₂, _∙_}
+use mathlib.Core.Bool.{Bool, true, false, cond, not}
+use lib.Dec.{ltb}
 use borrow.Author.Needs.{needs}
 use borrow.Author.Tests.{not-true, not-false}
 use Rattle.text.specs.Ascii.{Bytes, ascii}
@@ -12,10 +11,9 @@ use Rattle.text.specs.Compare.{same, less}
 use Rattle.out.specs.Bytewise.{dotted}
 use Rattle.names.specs.Name.{nameOf}
 use Rattle.names.specs.declared.name.Name.{Name}
-use Rattle.model.specs.Records.{Isolation as Isolationʳ}
 use Rattle.store.specs.View.{isolationOf}
 use Rattle.store.specs.declared.state.Isolations.{Isolations}
-use Rattle.texts.specs.Isolation.{lowered, activeOf}
+use Rattle.texts.specs.Isolation.{lowered}
 use Rattle.clamps.specs.Values.{storedName, activeNumber}
 use Rattle.clamps.specs.Laws.{stored-is}
 use Rattle.alike.specs.Strategies.{isolationAt, strategyAt, signalName, signalOf, areAlike}

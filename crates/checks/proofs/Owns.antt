@@ -1,10 +1,10 @@
 -- Whether a strategy is of a domain: laws as the needs ask them. Assumes nothing.
-use Prim.Native.Nat.{ℕ, suc, _+_, _≤_, _<_}
+use Prim.Native.Nat.{ℕ, _+_, _≤_, _<_}
 use native.Mathlib.Omega.{arith}
 use native.Mathlib.Numerals.{add-one}
 use mathlib.Core.Path.{_≡_, refl, sym, ap, _∙_}
-use mathlib.Core.Bool.{Bool, true, false, not, _&&_, _||_}
-use mathlib.Core.List.{List, [], _∷_, _++_}
+use mathlib.Core.Bool.{Bool, true, false, not, _||_}
+use mathlib.Core.List.{_∷_}
 use lib.ListN.{length, take, drop, getD, drop-of-length-le}
 use lib.Seq.{drop-cons, getD-take, length-take-le}
 use borrow.Author.Needs.{needs}
@@ -15,12 +15,10 @@ use Rattle.spans.specs.Span.{bytes}
 use Rattle.spans.specs.declared.span.Span.{Span}
 use Rattle.store.specs.Order.{Sized}
 use Rattle.store.specs.Strings.{string, spanOf}
-use Rattle.store.specs.View.{isolationOf}
 use Rattle.store.specs.declared.stored.Stored.{Stored}
 use Rattle.store.specs.declared.state.Isolation.{Isolation}
 use Rattle.store.specs.declared.state.Isolations.{Isolations}
-use Rattle.alike.specs.Strategies.{isolationAt, strategyAt}
-use Rattle.checks.specs.Sorted.{isOwn, isOwnNumber}
+use Rattle.checks.specs.Sorted.{isOwn}
 
 -- ---- one strategy
 

@@ -1,11 +1,11 @@
 -- Laws: the strategies found are the checks that the definitions have. Assumes nothing.
-use Prim.Native.Nat.{ℕ, zero, suc, _+_}
-use mathlib.Core.Path.{_≡_, refl, sym, ap, ap₂, _∙_}
+use Prim.Native.Nat.{ℕ, _+_}
+use mathlib.Core.Path.{_≡_, refl, sym, ap, _∙_}
 use mathlib.Core.Bool.{Bool, true, false, cond, _&&_}
 use mathlib.Core.List.{List, [], _∷_, _++_, map}
 use lib.ListN.{take}
 use Rattle.text.specs.Ascii.{Bytes}
-use Rattle.text.specs.Compare.{same, less}
+use Rattle.text.specs.Compare.{same}
 use Rattle.text.specs.Scan.{any}
 use Rattle.out.specs.Bytewise.{dotted}
 use Rattle.out.specs.Items.{each}
@@ -20,10 +20,10 @@ use Rattle.store.specs.declared.state.Isolations.{Isolations}
 use Rattle.texts.specs.Setting.{Setting}
 use Rattle.texts.specs.Isolation.{Isolated, activeOf}
 use Rattle.texts.specs.Domains.{Check, earlier, isSame, sorted-in, sorted, checkOf, belongs, checks, checkLine}
-use Rattle.isolated.specs.Table.{Kept, keptFrom, keptIn}
+use Rattle.isolated.specs.Table.{Kept, keptIn}
 use Rattle.alike.specs.Strategies.{strategyAt, signalOf, areAlike}
 use Rattle.alike.specs.Shown.{shown, scope-same, scope-less}
-use Rattle.alike.specs.Numbers.{numbersFrom, numbersIn, numbers-kept}
+use Rattle.alike.specs.Numbers.{numbersIn, numbers-kept}
 use Rattle.checks.specs.Sorted.{areSame, isEarlier, isOwn, isOwnNumber, insertedIn, sortedIn, ownIn, checkText}
 
 -- a strategy's check

@@ -11,7 +11,6 @@ ghost use Rattle.scope.specs.Parts.{parts};
 ghost use Rattle.store.specs.Strings.{string};
 ghost use Rattle.store.specs.Order.{Sized};
 ghost use Rattle.alike.specs.Strategies.{strategyAt};
-ghost use Rattle.alike.specs.Ruled.{Ruled};
 ghost use Rattle.checks.specs.Sorted.{areSame, isEarlier, isOwn, spotIn, insertedAt, insertedIn, Known, Adds, Found, Sorts, ownIn, checkText};
 use alike::active_of;
 use alike::alike;
@@ -152,8 +151,8 @@ fn add<'a>(
     n + 1
 }
 
-// The strategies whose checks a domain has, sorted, from the n ports: how many they are. `s` is a strategy that is known to be of another domain: ports
-// of one stand together.
+// The strategies whose checks a domain has, sorted, from the n ports: how many they are. `s` is the strategy that was looked at last: ports of one stand
+// together.
 pub fn checks<'a>(
     files: &'a [u8],
     area: &'a [u8],
@@ -177,8 +176,8 @@ pub fn checks<'a>(
         }
         let x = t.all[i];
         let name = x.name;
+        s = i;
         if !has_own(files, area, t, name, domain) {
-            s = i;
             continue;
         }
         m = add(files, area, t, found, m, i);

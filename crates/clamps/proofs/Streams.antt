@@ -1,15 +1,13 @@
 -- Loops over what is left of a name, in lower case. Each law is stated as a loop's needs ask it. Assumes nothing.
 use Prim.Native.Nat.{ℕ, _+_, _-_, _≤_, _<_, _^_}
 use native.Mathlib.Omega.{arith}
-use mathlib.Core.Path.{_≡_, refl, sym, ap, _∙_}
-use mathlib.Core.Bool.{Bool, true, false, cond, _&&_, _||_}
-use mathlib.Core.List.{List, [], _∷_, _++_}
-use lib.Dec.{eqb, leb}
+use mathlib.Core.Path.{_≡_, sym, _∙_}
+use mathlib.Core.Bool.{Bool, true, false, _&&_}
+use lib.Dec.{leb}
 use lib.ListN.{length, drop, getD, drop-of-length-le}
 use borrow.Author.Needs.{needs}
 use borrow.Author.Tests.{eq-eqb, ne-eqb, leb-true}
 use Rattle.text.specs.Ascii.{Bytes, ascii, byte}
-use Rattle.text.specs.Classes.{within}
 use Rattle.text.specs.Compare.{same}
 use Rattle.text.specs.Lists.{here}
 use Rattle.text.specs.Sames.{both}

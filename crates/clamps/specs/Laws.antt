@@ -1,17 +1,15 @@
 -- Laws: what the numbers say. Assumes nothing.
 use Prim.Native.Nat.{ℕ}
-use mathlib.Core.Path.{_≡_, refl, sym, ap, _∙_}
+use mathlib.Core.Path.{_≡_, refl, sym}
 use mathlib.Core.Bool.{Bool, true, false, cond, not, _||_}
-use mathlib.Core.List.{List, [], _∷_}
 use lib.Dec.{eqb}
 use Rattle.text.specs.Ascii.{Bytes, ascii}
 use Rattle.text.specs.Compare.{same}
 use Rattle.text.specs.Sames.{same-eq, no-true}
 use Rattle.spans.specs.Span.{bytes}
 use Rattle.names.specs.Name.{nameOf}
-use Rattle.model.specs.Commands.{or-else}
 use Rattle.model.specs.Records.{Isolation}
-use Rattle.store.specs.Strings.{string, maybeOf}
+use Rattle.store.specs.Strings.{string}
 use Rattle.store.specs.declared.stored.Stored.{Stored}
 use Rattle.texts.specs.Isolation.{lowered, isClamp, activeOf}
 use Rattle.clamps.specs.Values.{storedName, clampNumber, activeNumber}

@@ -1,6 +1,6 @@
 -- A strategy's values as numbers of literals. Assumes nothing.
 use Prim.Native.Nat.{ℕ}
-use mathlib.Core.Bool.{Bool, false, cond}
+use mathlib.Core.Bool.{false, cond}
 use Rattle.text.specs.Ascii.{Bytes, ascii}
 use Rattle.text.specs.Compare.{same}
 use Rattle.spans.specs.Span.{_⋯_}

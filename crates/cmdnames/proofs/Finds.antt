@@ -1,17 +1,17 @@
 -- Laws: a word looked for among names. Assumes nothing.
-use Prim.Native.Nat.{ℕ, zero, suc, _+_, _-_, _*_, _≤_, _<_}
+use Prim.Native.Nat.{ℕ, suc, _+_, _-_, _*_, _≤_, _<_}
 use Prim.Native.String.{String}
 use native.Mathlib.Nat.{sub-zero, zero-add}
 use native.Mathlib.Omega.{arith}
 use mathlib.Core.Path.{_≡_, refl, sym, ap, _∙_}
 use mathlib.Core.Bool.{Bool, true, false, cond}
-use mathlib.Core.List.{List, [], _∷_, map}
-use mathlib.Core.Option.{Option, none, some}
+use mathlib.Core.List.{List, [], _∷_}
+use mathlib.Core.Option.{none, some}
 use lib.ListN.{length, take, drop, getD}
 use borrow.Author.Needs.{needs}
 use Rattle.text.specs.Ascii.{Bytes, ascii}
 use Rattle.text.specs.Compare.{same}
-use Rattle.spans.specs.Span.{bytes, pairAt, pairs, strings}
+use Rattle.spans.specs.Span.{bytes, pairs, strings}
 use Rattle.fields.specs.Fields.{among}
 use Rattle.model.specs.Names.{Named, commandNamed, names, or-unknown}
 use Rattle.model.specs.Numbers.{namedIn, namedBy}

@@ -10,7 +10,6 @@ use lib.Dec.{eqb, leb}
 use borrow.Author.Tests.{le-ltb, leb-false, leb-true, lt-ltb, ne-eqb}
 use borrow.Author.Needs.{needs}
 use Rattle.commands.specs.declared.resolve.Place.{Place}
-use Rattle.commands.specs.declared.resolve.Place.the-variants.{At, Full as NoRoom}
 use Rattle.substitution.specs.declared.put.Put.{Put}
 use Rattle.substitution.specs.declared.put.Put.the-variants.{Done, Full}
 use Rattle.spans.specs.declared.span.Span.{Span}

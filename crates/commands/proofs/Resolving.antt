@@ -9,7 +9,6 @@ use lib.ListN.{drop, getD, length, length-set, set, take}
 use borrow.Author.Needs.{needs}
 use Rattle.commands.specs.declared.resolve.Place.{Place}
 use Rattle.commands.specs.declared.resolve.Place.the-variants.{At, Full as NoRoom}
-use Rattle.commands.specs.declared.resolve.Resolved.the-variants.{Done, Full}
 use Rattle.spans.specs.declared.span.Span.{Span}
 use Rattle.spans.specs.Span.{pairAt, pairs, strings}
 use Rattle.spans.specs.Writes.{Written, written-all, written-kept, written-none, written-over, written-piece, wrote-kept}

@@ -1,6 +1,6 @@
 // Splitting: the words of the next command as they are written.
 ghost use Prim.Native.Nat.{_+_, _*_, _≤_, _<_, _^_};
-ghost use lib.ListN.{length, drop};
+ghost use lib.ListN.{length};
 ghost use Rattle.commands.specs.Stored.{Splits};
 use tcl::word::size;
 use text::class::is_space;

@@ -1,9 +1,9 @@
 -- A text read byte by byte, and the control ports of a table: laws as the needs ask them. Assumes nothing.
-use Prim.Native.Nat.{ℕ, suc, _+_, _-_, _*_, _≤_, _<_, _^_}
+use Prim.Native.Nat.{ℕ, suc, _+_, _-_, _≤_, _<_, _^_}
 use native.Mathlib.Omega.{arith}
 use mathlib.Core.Path.{_≡_, refl, sym, ap, _∙_}
 use mathlib.Core.Bool.{Bool, true, false, cond, _&&_, not}
-use mathlib.Core.List.{List, [], _∷_, _++_}
+use mathlib.Core.List.{List, [], _∷_}
 use mathlib.Core.Option.{Option, none, some}
 use lib.Dec.{eqb}
 use lib.ListN.{length, take, drop}
@@ -21,7 +21,7 @@ use Rattle.names.specs.declared.name.Name.{Name}
 use Rattle.names.specs.declared.name.Step.{Step}
 use Rattle.names.specs.declared.name.Step.the-variants.{Byte, End}
 use Rattle.names.specs.Laws.{shorter}
-use Rattle.nametable.specs.Table.{rowName, namesFrom, tableNames, names-next, names-none}
+use Rattle.nametable.specs.Table.{rowName, namesFrom, tableNames, names-next}
 use Rattle.paths.specs.Sizes.{name-short}
 use Rattle.refs.specs.Text.{textOf, wholeRef}
 use Rattle.refs.specs.Laws.{whole-is}

@@ -1,14 +1,13 @@
 -- The elements of a domain, one after the other: what the domain comes to is what was listed so far and what the elements left come to.
 -- Assumes nothing.
-use Prim.Native.Nat.{ℕ, zero, suc, _+_, _-_, _*_, _≤_, _<_, _^_}
-use mathlib.Core.Path.{_≡_, refl, sym, ap, ap₂, _∙_}
-use mathlib.Core.Bool.{Bool, true, false, cond}
+use Prim.Native.Nat.{ℕ, suc, _+_, _-_, _≤_, _<_, _^_}
+use mathlib.Core.Path.{_≡_, refl, sym, ap, _∙_}
+use mathlib.Core.Bool.{true, false}
 use mathlib.Core.List.{List, [], _∷_, _++_, flatMap, append-nil}
-use mathlib.Core.Option.{Option, none, some}
+use mathlib.Core.Option.{none, some}
 use native.Mathlib.Omega.{arith}
-use native.Mathlib.Nat.{add-zero, sub-zero}
-use lib.ListN.{length, take, drop, length-append}
-use borrow.Author.Needs.{needs}
+use native.Mathlib.Nat.{sub-zero}
+use lib.ListN.{length, take, length-append}
 use Rattle.text.specs.Ascii.{Bytes}
 use Rattle.joblines.specs.Job.{Module}
 use Rattle.jobindex.specs.Index.{moduleRow}
@@ -16,17 +15,16 @@ use Rattle.lookup.specs.Rows.{modules, rowIs, ModuleSeen}
 use Rattle.names.specs.Name.{nameOf}
 use Rattle.names.specs.declared.name.Name.{Name}
 use Rattle.nametable.specs.Table.{rowName, namesFrom, tableNames, names-next, names-none}
-use Rattle.design.specs.Lists.{onSome, addAll}
+use Rattle.design.specs.Lists.{addAll}
 use Rattle.design.specs.Lookup.{moduleAt}
 use Rattle.design.specs.Paths.{dotted, elementPath, filledParts}
-use Rattle.walk.specs.Walk.{corruptible, modulesEntered, sumOver, retainedPaths, elementList, domainList, elementEntered, domainEntered}
+use Rattle.walk.specs.Walk.{sumOver, retainedPaths, elementList, domainList, elementEntered, domainEntered}
 use Rattle.paths.specs.Sizes.{name-short}
 use Rattle.pathnumber.specs.Number.{number}
 use Rattle.listing.specs.declared.Walk.{Walk}
 use Rattle.listing.specs.Flags.{flagged-none}
-use Rattle.listing.specs.Listing.{cut, pathsOf, Ascends, cost, nowhere, Ready, Answer}
+use Rattle.listing.specs.Listing.{cut, pathsOf, Ascends, cost, nowhere, Answer}
 use Rattle.listing.specs.Turns.{Turn, turn-end, turn-stop, turn-next}
-use Rattle.corrupt.specs.OverTable.{lostBelow, enteredBelow}
 use Rattle.corrupt.specs.Corrupt.{Given, DomainGiven, Walked}
 use Rattle.corrupt.proofs.OverTable.{lost-is, entered-is, table-sound}
 

@@ -1,8 +1,8 @@
 -- Marks set one after the other, and asked for a path. Assumes nothing.
-use Prim.Native.Nat.{ℕ, zero, suc, _+_, _-_, _%_, _≤_, _<_, _^_}
+use Prim.Native.Nat.{ℕ, _+_, _-_, _%_, _≤_, _<_, _^_}
 use mathlib.Core.Path.{_≡_, refl, sym, ap, _∙_}
-use mathlib.Core.Bool.{Bool, true, false, cond, not}
-use mathlib.Core.Logic.{_⊎_, inl, inr, ⊎-elim}
+use mathlib.Core.Bool.{Bool, true, false, not}
+use mathlib.Core.Logic.{_⊎_, ⊎-elim}
 use mathlib.Core.List.{List, [], _∷_, _++_, map, List·Memᴰ as Mem, List·Memᴰ·append-cases as append-cases, List·Memᴰ·eq-of-singleton as eq-single}
 use native.Mathlib.Omega.{arith}
 use native.Mathlib.Numerals.{add-one}
@@ -15,7 +15,7 @@ use Rattle.text.specs.Scan.{any}
 use Rattle.names.specs.Name.{nameOf}
 use Rattle.names.specs.declared.name.Name.{Name}
 use Rattle.nametable.specs.Table.{rowName, namesFrom, tableNames, names-last, names-none}
-use Rattle.design.specs.Lists.{isIn, those}
+use Rattle.design.specs.Lists.{isIn}
 use Rattle.design.specs.Laws.{isIn-out, out-isIn, those-mem}
 use Rattle.design.specs.Paths.{dotted}
 use Rattle.walk.specs.Walk.{retainedPaths}

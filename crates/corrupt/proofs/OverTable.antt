@@ -2,7 +2,7 @@
 use Prim.Native.Nat.{ℕ, zero, suc, _+_, _≤_, _<_}
 use mathlib.Core.Path.{_≡_, refl, sym, ap, ap₂, subst, _∙_}
 use mathlib.Core.Logic.{⊎-elim}
-use mathlib.Core.Bool.{Bool, cond}
+use mathlib.Core.Bool.{cond}
 use mathlib.Core.Option.{Option, none, some}
 use mathlib.Core.List.{List, [], _∷_, _++_, map, flatMap, append-assoc, append-nil}
 use mathlib.Core.List.{List·Memᴰ as Mem, List·Memᴰ·head as here, List·Memᴰ·tail as there, List·Memᴰ·cases-cons as cases-cons, List·Memᴰ·not-nil as not-nil}
@@ -13,10 +13,9 @@ use Rattle.joblines.specs.Job.{Inst, Module}
 use Rattle.jobindex.specs.Index.{num, moduleRow, rows}
 use Rattle.lookup.specs.Rows.{modules}
 use Rattle.design.specs.Lists.{onSome, isIn}
-use Rattle.design.specs.Ports.{losable}
 use Rattle.design.specs.Paths.{childPath}
 use Rattle.walk.specs.Walk.{entered, own, corruptible, modulesEntered, sumOver}
-use Rattle.modtable.specs.Table.{names-at, ways-at, way-place, Way, wayIn, wayName, Down, downIn, downsOf, waysOf, waysDown, ModuleTabled, Tabled}
+use Rattle.modtable.specs.Table.{ways-at, way-place, Way, wayIn, wayName, Down, downIn, waysDown, Tabled}
 use Rattle.corrupt.specs.Corrupt.{Short}
 use Rattle.corrupt.specs.OverTable.{ownOf, lostBelow, enteredBelow, RowSound, Sound}
 use Rattle.corrupt.specs.RowMem.{row-mem}

@@ -1,13 +1,12 @@
 -- One module: the dot behind a path, and the names that the module loses itself, one after the other.
 -- Assumes nothing.
-use Prim.Native.Nat.{ℕ, suc, _+_, _-_, _≤_, _<_, _^_}
+use Prim.Native.Nat.{ℕ, _+_, _-_, _≤_, _<_, _^_}
 use mathlib.Core.Path.{_≡_, refl, sym, ap, _∙_}
-use mathlib.Core.Bool.{Bool, true, false, cond}
+use mathlib.Core.Bool.{true, false}
 use mathlib.Core.List.{List, [], _∷_, _++_, map, append-nil}
 use native.Mathlib.Omega.{arith}
 use native.Mathlib.Nat.{add-zero}
 use native.Mathlib.Numerals.{add-one}
-use lib.Dec.{eqb}
 use lib.ListN.{length, take, drop, set, length-take, length-drop, length-set, drop-of-length-le}
 use lib.Seq.{take-suc-set}
 use borrow.Author.Needs.{needs}
@@ -23,10 +22,10 @@ use Rattle.design.specs.Paths.{dotted}
 use Rattle.paths.specs.Pieces.{Sized}
 use Rattle.pathnumber.specs.Number.{number, number-on}
 use Rattle.listing.specs.declared.Walk.{Walk}
-use Rattle.listing.specs.Listing.{pathsOf, past, Within, Ready, Answer}
+use Rattle.listing.specs.Listing.{pathsOf, past, Ready, Answer}
 use Rattle.listing.specs.Turns.{Turn, turn-end, turn-stop, turn-next, add-one-path}
 use Rattle.modtable.specs.Table.{names-at, name-place, nameIn, namesOf}
-use Rattle.corrupt.specs.Corrupt.{OwnGiven, dotBehind, Stemmed}
+use Rattle.corrupt.specs.Corrupt.{OwnGiven, Stemmed}
 
 -- ---- the dot
 

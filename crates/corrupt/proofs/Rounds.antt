@@ -1,6 +1,6 @@
 -- The walk from one module, turn by turn: what the whole comes to is what was listed so far and what the instances left come to.
 -- Assumes nothing.
-use Prim.Native.Nat.{ℕ, zero, suc, _+_, _-_, _*_, _≤_, _<_, _^_}
+use Prim.Native.Nat.{ℕ, zero, suc, _+_, _-_, _≤_, _<_, _^_}
 use mathlib.Core.Path.{_≡_, refl, sym, ap, ap₂, _∙_}
 use mathlib.Core.Bool.{Bool, true, false, cond}
 use mathlib.Core.List.{List, [], _∷_, _++_, map, flatMap, append-assoc, append-nil}
@@ -8,12 +8,11 @@ use native.Mathlib.Omega.{arith}
 use native.Mathlib.Nat.{add-zero}
 use lib.Dec.{eqb}
 use lib.ListN.{length, take, drop, length-append, length-take, drop-of-length-le}
-use lib.Seq.{take-take, length-take-le, take-append-le, take-all}
+use lib.Seq.{take-take, length-take-le, take-append-le}
 use borrow.Author.Needs.{needs}
 use borrow.Author.Tests.{eq-eqb, ne-eqb}
 use Rattle.text.specs.Ascii.{Bytes, byte}
 use Rattle.text.specs.Sames.{no-true}
-use Rattle.text.specs.Classes.{dotOf}
 use Rattle.out.specs.Emit.{_▸_, emit}
 use Rattle.jobindex.specs.Index.{num}
 use Rattle.jobindex.specs.Rows.{rows-length, rows-here}
@@ -26,11 +25,11 @@ use Rattle.walk.specs.Walk.{sumOver, retainedPaths}
 use Rattle.walk.specs.Retained.{length-dotted}
 use Rattle.paths.specs.Pieces.{stem, stem-child}
 use Rattle.listing.specs.declared.Walk.{Walk}
-use Rattle.listing.specs.Listing.{pathsOf, Within, Ready, Answer}
+use Rattle.listing.specs.Listing.{pathsOf, Ready, Answer}
 use Rattle.listing.specs.Turns.{Turn, turn-end, turn-stop, turn-next, within-less}
 use Rattle.listing.specs.Written.{front-kept, place-is, front-on}
 use Rattle.modtable.specs.Table.{ways-at, way-place, wayName, namesOf, Down, downIn, downsOf}
-use Rattle.corrupt.specs.OverTable.{ownOf, lostBelow, enteredBelow, RowSound, Sound}
+use Rattle.corrupt.specs.OverTable.{ownOf, lostBelow, enteredBelow, RowSound}
 use Rattle.corrupt.specs.Corrupt.{OwnGiven, Given, dotBehind, Stemmed, Walked}
 
 -- ---- the definitions, where the path is no retained one

@@ -1,7 +1,7 @@
 -- Marks of retained entries: by the number of its path each. Assumes nothing.
 use Prim.Native.Nat.{ℕ, _%_}
 use mathlib.Core.Path.{_≡_}
-use mathlib.Core.Bool.{Bool, false}
+use mathlib.Core.Bool.{false}
 use mathlib.Core.List.{List, map}
 use lib.ListN.{getD}
 use Rattle.text.specs.Ascii.{Bytes}

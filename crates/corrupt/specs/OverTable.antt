@@ -1,8 +1,7 @@
 -- The walk over the table: as the definitions have it, a row of the table for each module. Assumes nothing.
 use Prim.Native.Nat.{ℕ, zero, suc, _+_, _≤_, _<_}
-use mathlib.Core.Path.{_≡_}
-use mathlib.Core.Bool.{Bool, cond}
-use mathlib.Core.List.{List, [], _∷_, _++_, map, flatMap}
+use mathlib.Core.Bool.{cond}
+use mathlib.Core.List.{List, [], _++_, map, flatMap}
 use lib.ListN.{length}
 use Rattle.text.specs.Ascii.{Bytes}
 use Rattle.jobindex.specs.Index.{num}

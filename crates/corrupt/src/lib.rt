@@ -1,6 +1,5 @@
 // The walk over the table of a job's modules (the Rust's `corruptible`, and the part of `generate` that calls it): the paths that a domain loses, each
 // one time, in the order in which they are reached. Paths are relative to the scope.
-ghost use mathlib.Core.Path.{_≡_};
 ghost use mathlib.Core.List.{[], _++_, map};
 ghost use Prim.Native.Nat.{_+_, _≤_, _<_, _^_};
 ghost use lib.ListN.{length};

@@ -1,26 +1,24 @@
 -- The ports of an element: each law is stated as a need asks it. Assumes nothing.
-use Prim.Native.Nat.{ℕ, zero, suc, _+_, _-_, _*_, _≤_, _<_, _^_, min}
+use Prim.Native.Nat.{ℕ, _+_, _-_, _≤_, _<_, _^_}
 use native.Mathlib.Omega.{arith}
 use mathlib.Core.Path.{_≡_, refl, sym, ap, _∙_}
-use mathlib.Core.Bool.{Bool, true, false, cond, not}
-use mathlib.Core.List.{List, [], _∷_, _++_, map, append-nil}
-use mathlib.Core.Option.{Option, none, some}
-use lib.ListN.{length, take, drop, length-append, length-take}
+use mathlib.Core.Bool.{Bool, true, false, not}
+use mathlib.Core.List.{List, [], _∷_, _++_, append-nil}
+use mathlib.Core.Option.{none, some}
+use lib.ListN.{length, take, length-append, length-take}
 use lib.Seq.{take-take}
 use borrow.Author.Needs.{needs}
 use borrow.Author.Tests.{not-true, not-false}
 use Rattle.text.specs.Ascii.{Bytes, ascii, byte}
 use Rattle.text.specs.Scan.{any, is}
-use Rattle.text.specs.Sames.{no-true}
 use Rattle.names.specs.Name.{nameOf}
 use Rattle.names.specs.declared.name.Name.{Name}
 use Rattle.nametable.specs.Table.{Stores}
 use Rattle.paths.specs.Sizes.{name-short}
-use Rattle.joblines.specs.Job.{Conn, Module}
+use Rattle.joblines.specs.Job.{Module}
 use Rattle.joblines.specs.Sections.{connsIn}
 use Rattle.jobindex.specs.Index.{section, moduleRow}
 use Rattle.jobindex.specs.declared.Span.{Span as Part}
-use Rattle.design.specs.Lists.{onSome}
 use Rattle.design.specs.Paths.{parts}
 use Rattle.design.specs.Ports.{outputPorts}
 use Rattle.lines.specs.Cursors.{spanned}
@@ -40,13 +38,13 @@ use Rattle.actual.specs.declared.Net.the-variants as net
 use Rattle.model.specs.Scope.{up}
 use Rattle.texts.specs.Isolation.{lastPart, frontParts, belowParent}
 use Rattle.targets.specs.Instance.{Instance, instanceAt}
-use Rattle.targets.specs.Seen.{SlashSeen, placeIs, PlaceSeen}
+use Rattle.targets.specs.Seen.{SlashSeen, PlaceSeen}
 use Rattle.targets.specs.Textual.{up-front}
 use Rattle.targets.specs.declared.Place.{Place}
 use Rattle.targets.specs.declared.Slash.{Slash}
 use Rattle.isolated.specs.Table.{Fits, portRef, netRef, Kept, keptIn}
 use Rattle.isolated.specs.declared.Isolated.{Isolated}
-use Rattle.keep.specs.Gains.{Aim, Gain, stay, behind, gainOf, gains, gains-none, gains-one, gains-more, gains-grow}
+use Rattle.keep.specs.Gains.{Aim, Gain, behind, gainOf, gains, gains-none, gains-one, gains-more, gains-grow}
 use Rattle.keep.specs.Held.{heldName, heldPart, part-held, held-is, held-stores}
 use Rattle.keep.specs.Covered.{Ready, withNet, netFor, aimOf, Answer}
 use Rattle.keep.specs.Turns.{Turn, turn-start, answer-stay, turn-end, turn-stop, turn-next}

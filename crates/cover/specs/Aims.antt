@@ -1,5 +1,5 @@
 -- The ports that a strategy's elements aim at, by the module lines. Assumes nothing.
-use mathlib.Core.Bool.{Bool, cond}
+use mathlib.Core.Bool.{cond}
 use mathlib.Core.List.{List, [], _∷_, _++_, map}
 use mathlib.Core.Option.{Option, none, some}
 use Rattle.text.specs.Ascii.{Bytes, ascii, byte}
@@ -13,7 +13,7 @@ use Rattle.design.specs.Paths.{parts}
 use Rattle.model.specs.Scope.{up}
 use Rattle.actual.specs.Nets.{actualOf}
 use Rattle.texts.specs.Isolation.{lastPart, frontParts, belowParent}
-use Rattle.targets.specs.Instance.{Instance, instanceAt}
+use Rattle.targets.specs.Instance.{instanceAt}
 use Rattle.keep.specs.Gains.{Aim}
 
 -- a port p of the instance that the parts lead to: its net below the scope

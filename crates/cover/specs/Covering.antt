@@ -7,7 +7,6 @@ use mathlib.Core.Option.{Option, none, some}
 use Rattle.text.specs.Ascii.{Bytes, ascii, byte}
 use Rattle.text.specs.Scan.{any, is}
 use Rattle.out.specs.Fill.{format3, fill, filled, adds, turns, arg, pick}
-use Rattle.joblines.specs.Job.{Conn, Module}
 use Rattle.design.specs.Lists.{onSome, isIn}
 use Rattle.design.specs.Ports.{outputPorts}
 use Rattle.design.specs.Paths.{parts}
@@ -15,11 +14,11 @@ use Rattle.model.specs.Records.{Isolation}
 use Rattle.model.specs.Scope.{up}
 use Rattle.actual.specs.Nets.{actualOf}
 use Rattle.texts.specs.Setting.{Setting}
-use Rattle.texts.specs.Isolation.{Isolated, Target, lastPart, frontParts, belowParent, outputsOf, elementTargets, Resolved, resolved, keyOf, Cover, remarked, isolatedBy, kept as keptBy, covering}
+use Rattle.texts.specs.Isolation.{Isolated, Target, lastPart, frontParts, belowParent, outputsOf, elementTargets, Resolved, resolved, keyOf, Cover, isolatedBy, kept as keptBy, covering}
 use Rattle.targets.specs.Instance.{Instance, instanceAt, comes, aimed, resolved-is, outputs-is}
 use Rattle.targets.specs.Textual.{up-is}
 use Rattle.isolated.specs.Table.{Kept, kept, keysOf}
-use Rattle.keep.specs.Gains.{Aim, Gain, stay, behind, notPlain, gainFrom, gainOf, gains, gains-one, gains-none, gains-append}
+use Rattle.keep.specs.Gains.{Aim, Gain, stay, behind, notPlain, gainOf, gains, gains-none, gains-append}
 use Rattle.cover.specs.Aims.{netBelow, portAim, portAims, outputAims, slashAims, elementAims}
 
 -- ---- the ports that targets come to

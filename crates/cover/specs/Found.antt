@@ -1,13 +1,12 @@
 -- The ports of an element, as the code makes them, and what it asks. Assumes nothing.
 use Prim.Native.Nat.{ℕ, _+_, _≤_, _<_, _^_}
 use mathlib.Core.Path.{_≡_}
-use mathlib.Core.Bool.{Bool, true, false}
-use mathlib.Core.List.{List, [], _∷_, _++_}
+use mathlib.Core.Bool.{true, false}
+use mathlib.Core.List.{_++_}
 use lib.ListN.{length, take}
 use Rattle.text.specs.Ascii.{Bytes, byte}
 use Rattle.text.specs.Scan.{any, is}
 use Rattle.design.specs.Paths.{parts}
-use Rattle.names.specs.Name.{nameOf}
 use Rattle.names.specs.declared.name.Name.{Name}
 use Rattle.jobindex.specs.declared.Span.{Span as Part}
 use Rattle.refs.specs.Text.{noName}

@@ -1,8 +1,8 @@
 // The ports that a strategy covers, by its elements: the output ports of an instance, or the port behind the last slash.
-ghost use Prim.Native.Nat.{_+_, _-_, _≤_, _<_, _^_};
+ghost use Prim.Native.Nat.{_+_, _-_, _<_, _^_};
 ghost use mathlib.Core.Path.{_≡_};
-ghost use mathlib.Core.List.{_∷_, [], _++_};
-ghost use lib.ListN.{length, take};
+ghost use mathlib.Core.List.{_++_};
+ghost use lib.ListN.{length};
 ghost use Rattle.joblines.specs.Sections.{connsIn};
 ghost use Rattle.jobindex.specs.Index.{section, moduleRow};
 ghost use Rattle.lookup.specs.Rows.{modules, insts-end};
@@ -11,7 +11,6 @@ ghost use Rattle.names.specs.Name.{nameOf};
 ghost use Rattle.isolated.specs.Table.{keptIn};
 ghost use Rattle.keep.specs.Covered.{Ready, Answer};
 ghost use Rattle.keep.specs.Gains.{gainOf, gains};
-ghost use Rattle.targets.specs.Seen.{SlashSeen};
 ghost use Rattle.cover.specs.Aims.{partAim, portAims, outputAims, slashAims, elementAims};
 ghost use Rattle.cover.specs.Found.{outputPort, slashPort, Asks, Placed, Slashed};
 use actual::output_actual;

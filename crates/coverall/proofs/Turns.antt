@@ -1,15 +1,15 @@
 -- Elements one after the other: each law is stated as a need asks it. Assumes nothing.
-use Prim.Native.Nat.{ℕ, zero, suc, _+_, _-_, _≤_, _<_}
+use Prim.Native.Nat.{ℕ, suc, _+_, _-_, _≤_, _<_}
 use native.Mathlib.Omega.{arith}
-use mathlib.Core.Path.{_≡_, refl, sym, ap, _∙_}
-use mathlib.Core.Bool.{Bool, true, false, cond}
-use mathlib.Core.List.{List, [], _∷_, _++_, flatMap}
+use mathlib.Core.Path.{_≡_}
+use mathlib.Core.Bool.{Bool, true, false}
+use mathlib.Core.List.{List, flatMap}
 use borrow.Author.Needs.{needs}
 use Rattle.text.specs.Ascii.{Bytes}
 use Rattle.joblines.specs.Job.{Module}
 use Rattle.names.specs.Name.{nameOf}
 use Rattle.names.specs.declared.name.Name.{Name}
-use Rattle.nametable.specs.Table.{rowName, namesFrom, tableNames, names-next, names-none}
+use Rattle.nametable.specs.Table.{rowName, namesFrom, names-next, names-none}
 use Rattle.isolated.specs.Table.{Kept, keptIn}
 use Rattle.keep.specs.Gains.{Aim, Gain, stay, behind, gains, gains-none, gains-append, gains-grow}
 use Rattle.keep.specs.Covered.{Ready, Answer}

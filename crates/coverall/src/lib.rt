@@ -1,6 +1,5 @@
 // The ports that a strategy covers, by a table of elements.
 ghost use Prim.Native.Nat.{_≤_};
-ghost use mathlib.Core.Path.{_≡_};
 ghost use mathlib.Core.List.{_++_, flatMap};
 ghost use Rattle.jobindex.specs.Index.{moduleRow};
 ghost use Rattle.lookup.specs.Rows.{modules};

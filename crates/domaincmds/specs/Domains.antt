@@ -2,9 +2,9 @@
 use Prim.Native.Nat.{ℕ, _+_, _≤_, _<_, max}
 use native.Mathlib.Omega.{arith}
 use mathlib.Core.Path.{_≡_, refl, sym, ap, _∙_}
-use mathlib.Core.Bool.{Bool, true, false, cond}
+use mathlib.Core.Bool.{Bool, cond}
 use mathlib.Core.List.{List, [], _∷_, _++_, map}
-use mathlib.Core.Option.{Option, none, some}
+use mathlib.Core.Option.{none}
 use lib.ListN.{length}
 use Rattle.text.specs.Ascii.{Bytes, ascii}
 use Rattle.spans.specs.Span.{_⋯_, pairs}
@@ -12,15 +12,14 @@ use Rattle.spans.specs.Reach.{lastOf, reach, none-reach}
 use Rattle.spans.specs.declared.span.Span.{Span}
 use Rattle.spans.specs.declared.span.Found.{Found}
 use Rattle.tcl.specs.Arguments.{optionOf, hasFlag, nameOf}
-use Rattle.tcl.specs.Lists.{list}
 use Rattle.args.specs.View.{wordsFrom, Reads, Finds}
 use Rattle.model.specs.Scope.{scoped}
 use Rattle.model.specs.Records.{Domain as Domainʳ, with-domains}
-use Rattle.model.specs.Commands.{listOf, optionList, domain-command}
+use Rattle.model.specs.Commands.{optionList, domain-command}
 use Rattle.model.specs.Within.{recordsFit}
 use Rattle.store.specs.Strings.{string, spanOf, storedOf, foundOr}
 use Rattle.store.specs.View.{Store, domainOf, modelOf}
-use Rattle.store.specs.Order.{ofDomain, Shaped, Bounded}
+use Rattle.store.specs.Order.{ofDomain}
 use Rattle.store.specs.Added.{domain-added}
 use Rattle.store.specs.Tables.{sized-length}
 use Rattle.store.specs.Fits.{fit-domains}
@@ -31,8 +30,8 @@ use Rattle.store.specs.declared.stored.MaybeBelow.the-variants.{Not}
 use Rattle.store.specs.declared.state.Domain.{Domain}
 use Rattle.store.specs.declared.state.State.{State}
 use Rattle.made.specs.declared.Made.{Made}
-use Rattle.made.specs.Made.{fineMade, fullMade, reachOf, Ready, Kept, Did}
-use Rattle.made.specs.Dids.{kept-all, one-fits, one-over, did-fine, did-full}
+use Rattle.made.specs.Made.{fineMade, fullMade, reachOf, Ready, Did}
+use Rattle.made.specs.Dids.{one-fits, one-over, did-fine, did-full}
 use Rattle.made.specs.Asked.{list-found, found-by}
 
 -- the domain that the words name, in a scope

@@ -1,27 +1,24 @@
 -- set_domain_supply_net: the first domain of a name, and what the command does. Assumes nothing.
-use Prim.Native.Nat.{ℕ, _+_, _≤_, _<_, max}
+use Prim.Native.Nat.{ℕ, _≤_, _<_, max}
 use native.Mathlib.Omega.{arith}
 use mathlib.Core.Path.{_≡_, refl, sym, ap, _∙_}
-use mathlib.Core.Bool.{Bool, true, false, cond}
-use mathlib.Core.List.{List, [], _∷_, _++_, map}
-use mathlib.Core.Option.{Option, none, some, Option·map}
+use mathlib.Core.Bool.{Bool}
+use mathlib.Core.List.{List}
+use mathlib.Core.Option.{none, some, Option·map}
 use lib.ListN.{length, getD, set, take}
-use lib.Seq.{length-take-le}
 use Rattle.text.specs.Ascii.{Bytes, ascii}
 use Rattle.text.specs.Compare.{same}
-use Rattle.out.specs.Fill.{format1}
-use Rattle.spans.specs.Span.{pairs}
-use Rattle.spans.specs.Reach.{lastOf, reach, none-reach}
+use Rattle.spans.specs.Reach.{reach, none-reach}
 use Rattle.spans.specs.declared.span.Span.{Span}
 use Rattle.spans.specs.declared.span.Found.{Found}
 use Rattle.tcl.specs.Arguments.{optionOf, nameOf}
 use Rattle.args.specs.View.{wordsFrom, Reads, Finds}
 use Rattle.model.specs.Scope.{scoped}
 use Rattle.model.specs.Records.{Model, Domain as Domainʳ, with-domains}
-use Rattle.model.specs.Commands.{onFirst, or-warned, warned, supplied, supply-command}
-use Rattle.store.specs.Strings.{string, spanOf, storedOf, belowFound}
+use Rattle.model.specs.Commands.{onFirst, warned, supplied, supply-command}
+use Rattle.store.specs.Strings.{string, storedOf, belowFound}
 use Rattle.store.specs.View.{Store, domainOf, textOf, modelOf}
-use Rattle.store.specs.Order.{ofDomain, ofMaybeBelow}
+use Rattle.store.specs.Order.{ofDomain}
 use Rattle.store.specs.Added.{supplied-by, domain-set}
 use Rattle.store.specs.Tables.{sized-length, table-get, within-get}
 use Rattle.store.specs.First.{firstAt, first-hit, first-miss}
@@ -36,12 +33,9 @@ use Rattle.made.specs.Dids.{did-warn}
 use Rattle.made.specs.Done.{did-state, below-found}
 use Rattle.made.specs.Asked.{below-by}
 use Rattle.made.specs.Firsts.{first-map}
+use Rattle.finddomain.specs.Named.{isNamed}
 
--- whether a stored domain has the name
-abbrev pub isNamed : Bytes → Stored → Domain → Bool
-isNamed mem name d = same (string mem (d .name)) (string mem name)
-
--- and a domain of the records
+-- whether a domain of the records has the name
 abbrev named : List Bytes → Domainʳ → Bool
 named ws d = same (d .name) (nameOf ws)
 

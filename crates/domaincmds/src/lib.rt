@@ -1,38 +1,29 @@
 // create_power_domain, set_domain_supply_net.
-ghost use mathlib.Core.List.{List, _++_};
+ghost use mathlib.Core.List.{_++_};
 ghost use mathlib.Core.Path.{_≡_};
-ghost use Prim.Native.Nat.{ℕ, _≤_, _<_, _^_};
-ghost use Rattle.text.specs.Ascii.{Bytes};
+ghost use Prim.Native.Nat.{_≤_, _<_, _^_};
 ghost use Rattle.spans.specs.Span.{pairs};
 ghost use Rattle.spans.specs.Reach.{spanEnd, lastOf};
-ghost use lib.ListN.{length, take};
 ghost use Rattle.args.specs.View.{wordsFrom};
 ghost use Rattle.model.specs.Commands.{domain-command, supply-command};
-ghost use Rattle.store.specs.View.{Store, modelOf};
-ghost use Rattle.store.specs.First.{firstAt};
-ghost use Rattle.made.specs.Made.{Room, Ready, Did};
+ghost use Rattle.made.specs.Made.{Line, briefOf, Does};
+ghost use Rattle.model.specs.Records.{Model};
+ghost use Rattle.store.specs.declared.state.State.{State};
 ghost use Rattle.domaincmds.specs.Domains.{DomainIs};
-ghost use Rattle.domaincmds.specs.Supplies.{isNamed};
 use args::argument::flag;
 use args::argument::name;
 use args::argument::option;
-use made::Made;
-use made::fine;
-use made::full;
-use made::warned;
-use spans::span::same_spans;
+use finddomain::find_domain;
+use made::Brief;
+use made::Deed;
 use store::state::Domain;
 use store::state::Domains;
-use store::state::State;
-use store::state::add_domain;
-use store::state::set_domain;
 use store::state::supplied;
 use store::stored::MaybeBelow;
 use store::stored::Stored;
 use store::stored::maybe_below;
 use store::stored::narrow;
 use store::stored::or_empty;
-use store::stored::span;
 
 // The domain that the words of a command name.
 fn domain<'a>(files: &'a [u8], area: &'a [u8], words: &[u32], n: usize, scope: Stored) -> Domain
@@ -58,36 +49,17 @@ pub fn create_power_domain<'a>(
     area: &'a [u8],
     words: &[u32],
     n: usize,
-    s: State,
-) -> Made
-    requires { ⌜ Room (now words) n s ⌝ }
-    ensures { λ r. ⌜ ((st : Store) (log : Bytes) → Ready (length (now (files .entry))) (now (files .entry) ++ now (area .entry)) (now (words .entry)) n st s → Did (length (now (files .entry))) (now (files .entry) ++ now (area .entry)) st log s r (domain-command (modelOf (now (files .entry) ++ now (area .entry)) st s log) (wordsFrom (now (files .entry) ++ now (area .entry)) (now (words .entry)) n 1))) ⌝ }
+    b: Brief,
+) -> Deed
+    requires { ⌜ Line (now words) n ⌝ }
+    ensures { λ r. ⌜ Does (now (files .entry)) (now (area .entry)) (now (words .entry)) n (λ (s : State). briefOf s ≡ b) r (λ (m : Model). domain-command m (wordsFrom (now (files .entry) ++ now (area .entry)) (now (words .entry)) n 1)) ⌝ }
 {
-    if 32 <= s.domains.n {
-        return full(s);
+    if 32 <= b.domains {
+        return Deed::Full;
     }
-    let h = s.head;
-    let scope = h.scope;
+    let scope = b.scope;
     let d = domain(files, area, words, n, scope);
-    fine(add_domain(s, d))
-}
-
-// The first domain of the name; the number of domains where there is none.
-fn find_domain<'a>(files: &'a [u8], area: &'a [u8], t: Domains, name: Stored) -> usize
-    requires { ⌜ t .n ≤ 32 ⌝ }
-    ensures { λ r. ⌜ r ≡ firstAt (isNamed (now (files .entry) ++ now (area .entry)) name) (take (t .n) (t .all)) ⌝ }
-{
-    let n = t.n;
-    let mut i = 0;
-    while i < n {
-        let d = t.all[i];
-        let named = d.name;
-        if same_spans(files, area, span(named), span(name)) {
-            return i;
-        }
-        i += 1;
-    }
-    n
+    Deed::Domain(d)
 }
 
 // Both supplies of the first domain of the name anew, or a warning.
@@ -96,23 +68,22 @@ pub fn set_domain_supply_net<'a>(
     area: &'a [u8],
     words: &[u32],
     n: usize,
-    s: State,
-) -> Made
-    requires { ⌜ Room (now words) n s ⌝ }
-    ensures { λ r. ⌜ ((st : Store) (log : Bytes) → Ready (length (now (files .entry))) (now (files .entry) ++ now (area .entry)) (now (words .entry)) n st s → Did (length (now (files .entry))) (now (files .entry) ++ now (area .entry)) st log s r (supply-command (modelOf (now (files .entry) ++ now (area .entry)) st s log) (wordsFrom (now (files .entry) ++ now (area .entry)) (now (words .entry)) n 1))) ⌝ }
+    b: Brief,
+    t: Domains,
+) -> Deed
+    requires { ⌜ Line (now words) n × (t .n ≤ 32) ⌝ }
+    ensures { λ r. ⌜ Does (now (files .entry)) (now (area .entry)) (now (words .entry)) n (λ (s : State). (briefOf s ≡ b) × (s .domains ≡ t)) r (λ (m : Model). supply-command m (wordsFrom (now (files .entry) ++ now (area .entry)) (now (words .entry)) n 1)) ⌝ }
 {
     let named = narrow(name(files, area, words, n));
-    let t = s.domains;
     let i = find_domain(files, area, t, named);
     if t.n <= i {
-        return warned(s, 3, named);
+        return Deed::Warning(3, named);
     }
-    let h = s.head;
-    let scope = h.scope;
+    let scope = b.scope;
     let power = option(files, area, words, n, b"-primary_power_net");
     let ground = option(files, area, words, n, b"-primary_ground_net");
     let p = maybe_below(scope, power);
     let g = maybe_below(scope, ground);
     let d = t.all[i];
-    fine(set_domain(s, i, supplied(d, p, g)))
+    Deed::Supplied(i, supplied(d, p, g))
 }

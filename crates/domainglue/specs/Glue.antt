@@ -1,14 +1,13 @@
 -- The glue of a domain by the texts that stand in it, and whose glue it is. Assumes nothing.
 use Prim.Native.Nat.{ℕ}
-use mathlib.Core.Path.{_≡_, refl, sym, ap, _∙_}
-use mathlib.Core.List.{List, [], _∷_, _++_, map}
+use mathlib.Core.Path.{_≡_, sym, ap, _∙_}
+use mathlib.Core.List.{List, map}
 use lib.ListN.{take}
 use Rattle.text.specs.Ascii.{Bytes}
 use Rattle.out.specs.Emit.{Out, emit, _⊕_, emit-⊕}
 use Rattle.out.specs.Items.{each}
 use Rattle.model.specs.Records.{Domain as Domainʳ}
 use Rattle.texts.specs.Setting.{Setting}
-use Rattle.texts.specs.Isolation.{Isolated}
 use Rattle.texts.specs.Domains.{lostPaths, Check, checks, checkLine, wire, alwaysBlock, initialBlock, poweredGlue}
 use Rattle.store.specs.Strings.{string}
 use Rattle.store.specs.View.{isolationOf}
@@ -21,7 +20,7 @@ use Rattle.alike.specs.Shown.{shown}
 use Rattle.alike.specs.Ruled.{Ruled}
 use Rattle.checks.specs.Sorted.{checkText, ownIn}
 use Rattle.checks.specs.Seen.{check-lines}
-use Rattle.blocks.specs.Blocks.{wireText, upText, downText, initialText, wire-is, initial-is, always-is}
+use Rattle.blocks.specs.Blocks.{wireText, upText, downText, initialText, initial-is, always-is}
 
 -- the wire, the `always` block with its checks, the `initial` block
 abbrev pub glueText : Bytes → Bytes → Bytes → Bytes → List Bytes → Bytes

@@ -18,10 +18,10 @@ use blocks::put_initial;
 use blocks::put_up;
 use blocks::put_wire;
 use checks::put_checks;
+use clamps::stored;
 use names::name::Name;
 use store::state::Isolations;
 use store::stored::Stored;
-use storedtexts::name_of;
 
 // Writes the glue with the checks of the first m strategies in `found`.
 fn put_glue(
@@ -106,7 +106,7 @@ fn powered_by<'a>(
         text,
         ends,
         n,
-        name_of(domain),
+        stored(domain),
         power,
         ground,
     )

@@ -1,15 +1,14 @@
 -- A retained entry, several of them, and the line: laws as the needs ask them. Assumes nothing.
-use Prim.Native.Nat.{ℕ, zero, suc, _+_, _-_, _≤_, _<_}
-use mathlib.Core.Path.{_≡_, refl, sym, ap, _∙_}
-use mathlib.Core.List.{List, [], _∷_, _++_, map, append-nil}
+use Prim.Native.Nat.{ℕ, suc, _+_, _-_, _≤_, _<_}
+use mathlib.Core.Path.{_≡_, sym, ap, _∙_}
+use mathlib.Core.List.{List, _∷_, _++_, map, append-nil}
 use native.Mathlib.Omega.{arith}
 use borrow.Author.Needs.{needs}
 use Rattle.text.specs.Ascii.{Bytes, ascii}
 use Rattle.out.specs.Emit.{Out, emit, emit-append, emit-⊕, _⊕_}
 use Rattle.out.specs.Bytewise.{dotted}
-use Rattle.out.specs.Fill.{fill, filled, adds, turns, arg, pick, writes, runs, format1, format2, emit-fill}
+use Rattle.out.specs.Fill.{fill, filled, adds, turns, arg, pick, writes, format1, format2, emit-fill}
 use Rattle.out.specs.Items.{joined, rest, unless, join-next, join-done}
-use Rattle.out.specs.Number.{decimal}
 use Rattle.names.specs.Name.{nameOf}
 use Rattle.names.specs.Laws.{dotted-map}
 use Rattle.names.specs.declared.name.Name.{Name}
@@ -17,7 +16,6 @@ use Rattle.nametable.specs.Table.{rowName, namesFrom, tableNames, names-next, n
 use Rattle.design.specs.Paths.{retainedPath}
 use Rattle.pathlines.specs.Lines.{scopeStem, below-stem}
 use Rattle.texts.specs.Domains.{exempt}
-use Rattle.domainline.specs.Lines.{signalsText, poweredText}
 
 -- ---- an entry
 

@@ -1,11 +1,11 @@
 -- The report lines of a domain, by the texts that stand in them. Assumes nothing.
 use Prim.Native.Nat.{ℕ}
 use mathlib.Core.Path.{_≡_, refl}
-use mathlib.Core.List.{List, [], _∷_}
+use mathlib.Core.List.{List}
 use lib.ListN.{length}
 use Rattle.text.specs.Ascii.{Bytes, ascii}
 use Rattle.out.specs.Emit.{_⊕_}
-use Rattle.out.specs.Fill.{fill, format1, format5}
+use Rattle.out.specs.Fill.{format1, format5}
 use Rattle.out.specs.Items.{joined}
 use Rattle.out.specs.Number.{decimal}
 use Rattle.model.specs.Records.{Domain}

@@ -1,6 +1,6 @@
 -- Tables of the elements and of the entries: laws as the needs ask them. Assumes nothing.
-use Prim.Native.Nat.{ℕ, zero, suc, _+_, _-_, _*_, _≤_, _<_, _^_, max}
-use mathlib.Core.Path.{_≡_, refl, sym, ap, _∙_}
+use Prim.Native.Nat.{ℕ, _+_, _-_, _*_, _≤_, _<_, _^_}
+use mathlib.Core.Path.{_≡_, refl, sym, _∙_}
 use mathlib.Core.Bool.{Bool, true, false, cond}
 use mathlib.Core.List.{List, [], _∷_, _++_, map, flatMap, append-assoc, append-nil}
 use native.Mathlib.Omega.{arith}
@@ -9,7 +9,7 @@ use borrow.Author.Needs.{needs}
 use Rattle.text.specs.Ascii.{Bytes}
 use Rattle.text.specs.Compare.{same}
 use Rattle.spans.specs.Span.{_⋯_, bytes}
-use Rattle.spans.specs.Reach.{Held, held-by, reach-end}
+use Rattle.spans.specs.Reach.{held-by, reach-end}
 use Rattle.spans.specs.declared.span.Span.{Span}
 use Rattle.tcl.specs.Lists.{list}
 use Rattle.names.specs.Scoped.{scoped}
@@ -21,13 +21,13 @@ use Rattle.listnames.specs.Lists.{Rooms, Listed}
 use Rattle.design.specs.Lists.{those}
 use Rattle.store.specs.Strings.{string, spanOf}
 use Rattle.store.specs.View.{listBelow, domainOf}
-use Rattle.store.specs.Order.{ofDomain, ofRetention}
+use Rattle.store.specs.Order.{ofRetention}
 use Rattle.store.specs.declared.stored.Stored.{Stored}
 use Rattle.store.specs.declared.state.Domain.{Domain}
 use Rattle.store.specs.declared.state.Retention.{Retention}
 use Rattle.store.specs.declared.state.Retentions.{Retentions}
 use Rattle.made.specs.Made.{reachOf}
-use Rattle.setting.specs.Orders.{Holds, holds-few, holds-long, holds-at, holds-next, holds-end}
+use Rattle.setting.specs.Orders.{holds-few, holds-long, holds-at, holds-next, holds-end}
 use Rattle.domainlists.specs.Own.{flat-first, those-flat}
 use Rattle.domainlists.specs.Lists.{entriesOf, allEntries, isOf, ownEntries, OfDomain, OfRetentions, Names}
 

@@ -1,31 +1,28 @@
 -- Laws: the entries of the stored retentions are those of the records that they stand for; stored records in order give what is asked. Assumes nothing.
-use Prim.Native.Nat.{ℕ, _+_, _≤_, _<_, _^_}
-use mathlib.Core.Path.{_≡_, refl, sym, ap, ap₂, _∙_}
+use Prim.Native.Nat.{ℕ, _+_, _≤_, _<_}
+use mathlib.Core.Path.{_≡_, refl, sym, ap, _∙_}
 use mathlib.Core.Bool.{Bool, true, false, cond}
 use mathlib.Core.List.{List, [], _∷_, _++_, map, flatMap}
-use native.Mathlib.Omega.{arith}
 use lib.ListN.{length, take, getD, length-append}
 use Rattle.text.specs.Ascii.{Bytes}
 use Rattle.text.specs.Compare.{same}
 use Rattle.design.specs.Lists.{those}
 use Rattle.design.specs.Paths.{retainedPath}
-use Rattle.model.specs.Records.{Domain as Domainʳ, Retention as Retentionʳ, Model}
+use Rattle.model.specs.Records.{Domain as Domainʳ, Retention as Retentionʳ}
 use Rattle.model.specs.Within.{total}
 use Rattle.texts.specs.Setting.{Setting}
 use Rattle.texts.specs.Domains.{retainedEntries, ownRetained}
 use Rattle.store.specs.Strings.{string}
 use Rattle.store.specs.View.{Store, domainOf, retentionOf, modelOf}
-use Rattle.store.specs.Order.{Within, none-left, one-more, ofDomain, ofRetention}
-use Rattle.store.specs.Rows.{storeOf}
+use Rattle.store.specs.Order.{Within, none-left, one-more, ofDomain}
 use Rattle.store.specs.Tables.{within-get}
 use Rattle.store.specs.declared.stored.Stored.{Stored}
 use Rattle.store.specs.declared.state.Domain.{Domain}
 use Rattle.store.specs.declared.state.Retention.{Retention}
-use Rattle.store.specs.declared.state.Retentions.{Retentions}
 use Rattle.store.specs.declared.state.State.{State}
 use Rattle.made.specs.Made.{reachOf}
 use Rattle.readfacts.specs.Few as few
-use Rattle.setting.specs.Orders.{Orders, Holds, holds-at, holds-long, domains-hold, retentions-hold}
+use Rattle.setting.specs.Orders.{Orders, holds-at, holds-long, domains-hold, retentions-hold}
 use Rattle.domainlists.specs.Lists.{entriesOf, allEntries, isOf, ownEntries, OfDomain, OfRetentions}
 
 -- ---- the entries
@@ -59,7 +56,8 @@ own-entries mem st s log t d e = rw e (ap (map (retainedPath (t .scope))) (sym (
 
 -- ---- what is asked
 
-within-map : {A B : Type 0} (f : B → ℕ) (g : A → B) (n : ℕ) (l : List A) → Within f n (map g l) → Within (λ (a : A). f (g a)) n l
+-- a bound of the records is one of what stands for them
+pub within-map : {A B : Type 0} (f : B → ℕ) (g : A → B) (n : ℕ) (l : List A) → Within f n (map g l) → Within (λ (a : A). f (g a)) n l
 within-map f g n [] w = none-left
 within-map f g n (x ∷ l) (one-more p w) = one-more p (within-map f g n l w)
 

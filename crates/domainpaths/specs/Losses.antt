@@ -1,8 +1,8 @@
 -- What the walk of a stored domain asks, what it leaves, and what that says of the paths that the domain loses. Assumes nothing.
 use Prim.Native.Nat.{ℕ, _+_, _≤_, _<_, _^_}
-use mathlib.Core.Path.{_≡_, refl, sym, ap, _∙_}
-use mathlib.Core.Bool.{Bool, true, false, not}
-use mathlib.Core.List.{List, [], _∷_, _++_, map, List·Memᴰ as Mem}
+use mathlib.Core.Path.{_≡_, sym, ap, _∙_}
+use mathlib.Core.Bool.{false, not}
+use mathlib.Core.List.{List, [], _++_, List·Memᴰ as Mem}
 use native.Mathlib.Omega.{arith}
 use lib.Dec.{ltb}
 use lib.ListN.{length, take, length-map}

@@ -1,14 +1,12 @@
 -- The report line of a stored domain: laws as the needs ask them. Assumes nothing.
-use Prim.Native.Nat.{ℕ, _≤_, _<_, _^_}
-use mathlib.Core.Path.{_≡_, refl, sym, ap, _∙_}
-use mathlib.Core.Bool.{Bool, true, false, cond}
-use mathlib.Core.List.{List, [], _∷_, _++_, map, flatMap}
+use Prim.Native.Nat.{ℕ, _≤_}
+use mathlib.Core.Path.{_≡_, sym, ap, _∙_}
+use mathlib.Core.List.{List, [], _++_, map, flatMap}
 use native.Mathlib.Omega.{arith}
-use lib.ListN.{length, take, length-append}
+use lib.ListN.{length}
 use borrow.Author.Needs.{needs}
 use Rattle.text.specs.Ascii.{Bytes}
 use Rattle.out.specs.Emit.{Out, emit}
-use Rattle.spans.specs.Span.{bytes}
 use Rattle.spans.specs.declared.span.Span.{Span}
 use Rattle.names.specs.Name.{nameOf, Makes}
 use Rattle.names.specs.declared.name.Name.{Name}
@@ -19,7 +17,7 @@ use Rattle.store.specs.Strings.{spanOf, string, belowOf}
 use Rattle.store.specs.declared.stored.Stored.{Stored}
 use Rattle.store.specs.declared.stored.Below.{Below}
 use Rattle.store.specs.declared.state.Retentions.{Retentions}
-use Rattle.domainlists.specs.Lists.{allEntries, ownEntries, OfRetentions, Names}
+use Rattle.domainlists.specs.Lists.{ownEntries, OfRetentions, Names}
 use Rattle.domainlists.specs.Own.{own-less}
 use Rattle.domainline.specs.Lines.{poweredText, unpoweredText}
 use Rattle.domainreport.specs.Reports.{OfReport}

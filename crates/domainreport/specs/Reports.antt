@@ -1,7 +1,7 @@
 -- What the report line of a domain asks of the stored retentions, and whose line it is. Assumes nothing.
 use Prim.Native.Nat.{ℕ, _≤_, _<_, _^_}
-use mathlib.Core.Path.{_≡_, refl, sym, ap, _∙_}
-use mathlib.Core.List.{List, [], _++_, map}
+use mathlib.Core.Path.{_≡_, ap}
+use mathlib.Core.List.{List, _++_, map}
 use lib.ListN.{length}
 use Rattle.text.specs.Ascii.{Bytes}
 use Rattle.design.specs.Paths.{retainedPath}

@@ -12,6 +12,7 @@ ghost use Rattle.store.specs.Strings.{string, belowOf};
 ghost use Rattle.domainlists.specs.Lists.{ownEntries};
 ghost use Rattle.domainline.specs.Lines.{poweredText, unpoweredText};
 ghost use Rattle.domainreport.specs.Reports.{OfReport};
+use clamps::stored;
 use domainlists::retained_of;
 use names::name::Name;
 use names::name::scoped;
@@ -19,7 +20,6 @@ use store::state::Retentions;
 use store::stored::Below;
 use store::stored::Stored;
 use store::stored::span;
-use storedtexts::name_of;
 
 // A name below its scope.
 pub fn below_name(files: &[u8], area: &[u8], b: Below) -> Name
@@ -58,7 +58,7 @@ fn powered_by<'a>(
         area,
         over,
         from,
-        name_of(domain),
+        stored(domain),
         elements,
         m,
         power,
@@ -96,7 +96,7 @@ pub fn powered_line<'a>(
             area,
             over,
             from,
-            name_of(domain),
+            stored(domain),
             elements,
             m,
             power,
@@ -129,5 +129,5 @@ pub fn powered_line<'a>(
 pub fn unpowered_line(out: &mut [u8], at: usize, files: &[u8], area: &[u8], domain: Stored) -> usize
     ensures { λ r. ⌜ now (out .exit) ▸ r ≡ emit (now (out .entry) ▸ at) (unpoweredText (string (now (files .entry) ++ now (area .entry)) domain)) ⌝ }
 {
-    domainline::unpowered_line(out, at, files, area, name_of(domain))
+    domainline::unpowered_line(out, at, files, area, stored(domain))
 }

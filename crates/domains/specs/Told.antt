@@ -1,8 +1,8 @@
 -- What the texts of all domains ask, and what they leave by the definitions. Assumes nothing.
 use Prim.Native.Nat.{ℕ, _+_, _≤_, _<_, _^_}
 use mathlib.Core.Path.{_≡_}
-use mathlib.Core.Bool.{Bool, true, false}
-use mathlib.Core.List.{List, [], _++_, map}
+use mathlib.Core.Bool.{true, false}
+use mathlib.Core.List.{List, _++_, map}
 use lib.ListN.{length}
 use Rattle.text.specs.Ascii.{Bytes}
 use Rattle.text.specs.Scan.{all}

@@ -2,14 +2,13 @@
 use Prim.Native.Nat.{ℕ, zero, suc, _+_, _-_, _*_, _≤_, _<_, _^_}
 use mathlib.Core.Path.{_≡_, refl, sym, ap, _∙_}
 use mathlib.Core.Bool.{Bool, true, false, cond, not}
-use mathlib.Core.Option.{Option, none, some}
 use mathlib.Core.List.{List, [], _∷_, _++_, map, flatMap, append-nil}
 use native.Mathlib.Omega.{arith}
 use lib.ListN.{length, take, drop, getD, length-append}
 use borrow.Author.Needs.{needs}
-use Rattle.text.specs.Ascii.{Bytes, ascii}
+use Rattle.text.specs.Ascii.{Bytes}
 use Rattle.out.specs.Emit.{Out, emit, emit-append}
-use Rattle.out.specs.Fill.{fill, turns, arg, pick, writes, runs, format1, format2, emit-fill}
+use Rattle.out.specs.Fill.{turns, arg, pick, writes, format2, emit-fill}
 use Rattle.out.specs.Items.{each}
 use Rattle.joblines.specs.Job.{Module}
 use Rattle.jobindex.specs.Index.{moduleRow}
@@ -17,7 +16,7 @@ use Rattle.lookup.specs.Rows.{modules, rowIs, ModuleSeen}
 use Rattle.names.specs.Name.{nameOf}
 use Rattle.names.specs.declared.name.Name.{Name}
 use Rattle.nametable.specs.Table.{rowName, namesFrom, tableNames, names-next, names-none}
-use Rattle.design.specs.Lists.{onSome, those}
+use Rattle.design.specs.Lists.{those}
 use Rattle.design.specs.Lookup.{moduleAt}
 use Rattle.design.specs.Paths.{filledParts}
 use Rattle.texts.specs.Texts.{warningLine}

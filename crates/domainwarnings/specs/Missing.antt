@@ -1,12 +1,12 @@
 -- The warnings about elements of domains, by the design and the scope's module alone. Assumes nothing.
 use Prim.Native.Nat.{ℕ, _+_, _≤_, _<_, _^_}
-use mathlib.Core.Path.{_≡_, refl, ap, _∙_}
+use mathlib.Core.Path.{_≡_, refl, ap}
 use mathlib.Core.Bool.{Bool, true, false, not}
 use mathlib.Core.List.{List, [], _∷_, _++_, map, flatMap}
 use lib.ListN.{length, take}
 use Rattle.text.specs.Ascii.{Bytes}
 use Rattle.out.specs.Emit.{Out, emit}
-use Rattle.out.specs.Fill.{fill, format2}
+use Rattle.out.specs.Fill.{format2}
 use Rattle.out.specs.Items.{each}
 use Rattle.joblines.specs.Job.{Module}
 use Rattle.design.specs.Lists.{onSome, those}
@@ -14,9 +14,8 @@ use Rattle.design.specs.Lookup.{moduleAt}
 use Rattle.design.specs.Paths.{filledParts}
 use Rattle.model.specs.Records.{Domain as Domainʳ}
 use Rattle.texts.specs.Setting.{Setting}
-use Rattle.texts.specs.Domains.{isFound, notFound, withSupplies, domainWarnings}
+use Rattle.texts.specs.Domains.{withSupplies, domainWarnings}
 use Rattle.texts.specs.Texts.{warningLine}
-use Rattle.store.specs.Strings.{string}
 use Rattle.store.specs.View.{domainOf, Store, modelOf}
 use Rattle.store.specs.Order.{Within, ofDomain}
 use Rattle.store.specs.declared.state.Domain.{Domain}

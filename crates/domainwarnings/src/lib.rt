@@ -1,5 +1,4 @@
 // The warnings about elements of domains that lead to no module.
-ghost use mathlib.Core.Path.{_≡_};
 ghost use mathlib.Core.List.{[], _∷_, _++_, flatMap};
 ghost use Prim.Native.Nat.{_≤_, _<_, _^_};
 ghost use lib.ListN.{length, take};
@@ -11,6 +10,7 @@ ghost use Rattle.nametable.specs.Table.{tableNames};
 ghost use Rattle.store.specs.Strings.{string};
 ghost use Rattle.store.specs.View.{domainOf};
 ghost use Rattle.domainwarnings.specs.Missing.{missing, remarks, Told, OfElements, OfDomains};
+use clamps::stored;
 use domainlists::domain_elements;
 use names::name::Name;
 use nametable::row;
@@ -18,7 +18,6 @@ use store::state::Domain;
 use store::state::Domains;
 use store::stored::MaybeBelow;
 use store::stored::Stored;
-use storedtexts::name_of;
 
 // Where the report ends, and how many warnings there are.
 pub struct Warned {
@@ -52,7 +51,7 @@ fn warn_missing(
         b"warning: power domain '{0}': element '{1}' not found\n",
         files,
         area,
-        name_of(domain),
+        stored(domain),
         e,
     );
     Warned {

@@ -1,24 +1,22 @@
 -- One turn of a lookup by the parts of an element: the answer is that of what is left.
 -- Assumes nothing.
 use mathlib.Core.Path.{_≡_, refl, ap, _∙_, sym}
-use Prim.Native.Nat.{ℕ, zero, suc, _+_, _-_, _*_, _<_, _≤_}
+use Prim.Native.Nat.{ℕ, suc, _+_, _-_, _*_, _<_, _≤_}
 use native.Mathlib.Numerals.{add-one}
 use native.Mathlib.Omega.{arith}
-use mathlib.Core.Bool.{Bool, true, false, cond, not}
+use mathlib.Core.Bool.{Bool, true, false, cond}
 use mathlib.Core.List.{List, [], _∷_}
 use mathlib.Core.Option.{Option, none, some, Option·map}
-use lib.ListN.{length, take, drop, set, getD, replicate, length-replicate}
+use lib.ListN.{length, set}
 use lib.Dec.{eqb}
 use borrow.Author.Needs.{needs}
-use borrow.Author.Tests.{eqb-true}
 use Rattle.text.specs.Ascii.{Bytes, byte}
 use Rattle.text.specs.Compare.{same}
 use Rattle.text.specs.Sames.{same-of, same-turned}
 use Rattle.text.specs.Scan.{splitAt, onto}
 use Rattle.fields.specs.declared.Dims.{Dims}
 use Rattle.joblines.specs.Job.{Inst, Module}
-use Rattle.joblines.specs.Sections.{instsIn}
-use Rattle.jobindex.specs.Index.{num, section, moduleRow}
+use Rattle.jobindex.specs.Index.{num, moduleRow}
 use Rattle.jobindex.specs.declared.Span.{Span}
 use Rattle.design.specs.Lists.{first, onSome, those}
 use Rattle.design.specs.Lookup.{moduleNamed, instanceNamed, moduleAt}
@@ -27,17 +25,17 @@ use Rattle.lines.specs.Cursors.{spanned, instIs, InstSeen, Stepped}
 use Rattle.lines.specs.declared.InstAt.{InstAt}
 use Rattle.lines.specs.declared.InstAt.the-variants as inst
 use Rattle.memo.specs.Known.{slots, Begins, Leads, Known, Recalls, Asked, asked-row, asked-slot, asked-fits, recalls-row, recalls-asks, recalls-room, begins-row, begins-first, begins-here, leads-here, known-put}
-use Rattle.lookup.specs.Rows.{modules, rowIs, ModuleSeen, insts-from, insts-end, insts-are, at-none, at-more, below}
+use Rattle.lookup.specs.Rows.{modules, rowIs, ModuleSeen, insts-from, insts-end, at-none, at-more, below}
 use Rattle.spans.specs.Span.{_⋯_, bytes}
 use Rattle.names.specs.Name.{named, nameOf, stepOf}
-use Rattle.names.specs.Parts.{parts, firstPart, others, behind, unslashed, partOf, part-same, part-other, parts-some, first-on, unslashed-parts, unslashed-first}
+use Rattle.names.specs.Parts.{parts, firstPart, others, behind, unslashed, partOf, part-same, part-other, first-on, unslashed-parts, unslashed-first}
 use Rattle.names.specs.Frame.{alone-is}
 use Rattle.names.specs.declared.name.Name.{Name}
 use Rattle.names.specs.declared.name.Step.{Step}
 use Rattle.names.specs.declared.name.Step.the-variants as step
 use Rattle.names.specs.declared.part.Part.{Part}
 use Rattle.names.specs.declared.part.Part.the-variants as part
-use Rattle.elements.specs.Down.{filled, typeBelow, Behind, DownIs, DownSeen, StepSeen}
+use Rattle.elements.specs.Down.{filled, typeBelow, DownIs, DownSeen, StepSeen}
 use Rattle.elements.specs.declared.Down.{Down}
 use Rattle.elements.specs.declared.Down.the-variants as down
 
@@ -64,16 +62,6 @@ parts-shorter : (s t w : Bytes) → parts s ≡ w ∷ parts t → length t < len
 parts-shorter s t w e =
     let z : weight (parts s) ≡ suc (length w) + weight (parts t) = ap weight e in
     omega (arith, parts-weight s, parts-weight t)
-
--- ---- an empty memo
-
-zeros : (n i : ℕ) → _≡_ {A = ℕ} (getD (replicate {A = ℕ} n 0) i 0) 0
-zeros zero i = refl
-zeros (suc n) zero = refl
-zeros (suc n) (suc i) = zeros n i
-
-pub known-none : (job : Bytes) (index : List ℕ) → Known job index (replicate {A = ℕ} 1024 0)
-known-none job index = record { long = length-replicate {A = ℕ} 1024 0; leads = λ h k f e. absurd (omega (arith, zeros 1024 (2 * h), e)) }
 
 -- ---- the slot of the first part
 

@@ -10,7 +10,6 @@ use Rattle.text.specs.Ascii.{Bytes}
 use Rattle.text.specs.Compare.{same}
 use Rattle.joblines.specs.Job.{Inst, Module}
 use Rattle.jobindex.specs.Index.{moduleRow}
-use Rattle.jobindex.specs.declared.Span.{Span}
 use Rattle.design.specs.Lists.{those}
 use Rattle.design.specs.Lookup.{instanceNamed}
 use Rattle.lines.specs.Cursors.{spanned}

@@ -1,6 +1,5 @@
 // The module that an element leads to (the Rust's `module_at`, called for an element). The parts of the element between its slashes are
 // looked up one after the other; the empty ones are left out.
-ghost use mathlib.Core.Path.{_≡_};
 ghost use mathlib.Core.List.{_++_};
 ghost use Prim.Native.Nat.{_<_, _≤_};
 ghost use Rattle.names.specs.Name.{nameOf};

@@ -1,8 +1,8 @@
 -- A command by its number: what it does, by what its name stands for. Assumes nothing.
 use Prim.Native.Nat.{ℕ, zero, suc, _+_, _-_, _≤_, _<_}
 use native.Mathlib.Omega.{arith}
-use mathlib.Core.Path.{_≡_, refl, sym, ap, _∙_}
-use mathlib.Core.List.{List, []}
+use mathlib.Core.Path.{_≡_, refl, ap, _∙_}
+use mathlib.Core.List.{List, [], _++_}
 use lib.ListN.{length}
 use Rattle.text.specs.Ascii.{Bytes}
 use Rattle.spans.specs.Span.{bytes, pairAt}
@@ -11,12 +11,17 @@ use Rattle.model.specs.Names.{Command, Named}
 use Rattle.model.specs.Numbers.{namedBy}
 use Rattle.model.specs.Records.{Model}
 use Rattle.model.specs.Commands.{carriedOut, unsupported}
-use Rattle.store.specs.View.{Store, modelOf}
 use Rattle.store.specs.declared.state.State.{State}
-use Rattle.made.specs.declared.Made.{Made}
-use Rattle.made.specs.Made.{fineMade, Room, Ready, Did}
+use Rattle.store.specs.declared.state.Domains.{Domains}
+use Rattle.store.specs.declared.state.Nets.{Nets}
+use Rattle.store.specs.declared.state.Isolations.{Isolations}
+use Rattle.store.specs.declared.state.Tables.{Tables}
+use Rattle.made.specs.declared.Brief.{Brief}
+use Rattle.made.specs.declared.Deed.{Deed}
+use Rattle.made.specs.declared.Deed.the-variants as deed
+use Rattle.made.specs.Made.{briefOf, Line, Does}
 use Rattle.made.specs.Dids.{did-nothing}
-use Rattle.made.specs.First.{room-first, ready-first}
+use Rattle.made.specs.First.{ready-first}
 
 -- a command that loads no file and moves no scope is carried out; one of no name of the table is passed or remarked
 abbrev pub done : Named → Model → Bytes → List Bytes → Model
@@ -34,6 +39,23 @@ pub record Enters (n c : ℕ) : Type 0 where
   pub no-scope : c ≡ 4 → ⊥
   pub no-switch : c ≡ 21 → ⊥
   pub no-port-state : c ≡ 27 → ⊥
+
+-- what is asked: the words can be stored, and the tables that are looked through have room
+pub record Entering (words : List ℕ) (n c : ℕ) (ds : Domains) (ns : Nets) (is : Isolations) (ts : Tables) : Type 0 where
+  pub line : Line words n
+  pub enters : Enters n c
+  pub domains : ds .n ≤ 32
+  pub nets : ns .n ≤ 32
+  pub isolations : is .n ≤ 32
+  pub tables : ts .n ≤ 32
+
+-- what a command is told of the state
+pub record Told (b : Brief) (ds : Domains) (ns : Nets) (is : Isolations) (ts : Tables) (s : State) : Type 0 where
+  pub brief : briefOf s ≡ b
+  pub domains : s .domains ≡ ds
+  pub nets : s .nets ≡ ns
+  pub isolations : s .isolations ≡ is
+  pub tables : s .tables ≡ ts
 
 above : (k c : ℕ) → k ≤ c → (c ≡ k → ⊥) → k + 1 ≤ c
 above k c h n = omega arith
@@ -86,24 +108,30 @@ parsed c h g =
     let e : c ≡ suc (suc (suc (suc (suc (suc (suc (suc (suc (suc (c - 10)))))))))) = omega arith in
     ap namedBy e ∙ eleven (c - 10) (omega arith)
 
-module _ (long : ℕ) (mem : Bytes) (words : List ℕ) (n c : ℕ) (st : Store) (log : Bytes) (s : State) where
-  abbrev now : Model
-  now = modelOf mem st s log
-
+module _ (files area : Bytes) (words : List ℕ) (n c : ℕ) where
   abbrev w : Bytes
-  w = bytes mem (pairAt words 0)
+  w = bytes (files ++ area) (pairAt words 0)
 
   abbrev ws : List Bytes
-  ws = wordsFrom mem words n 1
+  ws = wordsFrom (files ++ area) words n 1
 
-  -- one of the names
-  pub done-by : (x : Named) (r : Made) → namedBy c ≡ x → Did long mem st log s r (done x now w ws) → Did long mem st log s r (done (namedBy c) now w ws)
-  done-by x r e d = rw e d
+  module _ (K : State → Type 0) (r : Deed) where
+    -- one of the names
+    pub done-by : (x : Named) (J : State → Type 0) → namedBy c ≡ x → ((s : State) → K s → J s) → Does files area words n J r (λ (m : Model). done x m w ws) → Does files area words n K r (λ (m : Model). done (namedBy c) m w ws)
+    done-by x J e k d = λ s h. rw e (d s (k s h))
+
+    -- of the first word alone
+    first-by : (f : Model → Model) → 0 < n → Does files area words 1 (λ (s : State). Unit {0}) r f → Does files area words n K r f
+    first-by f h d = λ s k. record { fits = d s tt .fits; did = λ st log v. d s tt .did st log (ready-first (length files) (files ++ area) words n st s h v) }
+
+    -- no name of the table
+    pub unknown-done : namedBy c ≡ Named.unknown → 0 < n → Does files area words 1 (λ (s : State). Unit {0}) r (λ (m : Model). unsupported m w) → Does files area words n K r (λ (m : Model). done (namedBy c) m w ws)
+    unknown-done e h d = done-by Named.unknown K e (λ s k. k) (first-by (λ (m : Model). unsupported m w) h d)
+
+    -- not simulated
+    pub parsed-done : 10 ≤ c → c ≤ 20 → 0 < n → Does files area words 1 (λ (s : State). Unit {0}) r (λ (m : Model). carriedOut Command.not-simulated m w []) → Does files area words n K r (λ (m : Model). done (namedBy c) m w ws)
+    parsed-done a b h d = done-by (Named.other Command.not-simulated) K (parsed c a b) (λ s k. k) (first-by (λ (m : Model). carriedOut Command.not-simulated m w []) h d)
 
   -- set_retention_control leaves the records as they are
-  pub nothing-done : (r : Made) → c ≡ 25 → Ready long mem words n st s → r ≡ fineMade s → Did long mem st log s r (done (namedBy c) now w ws)
-  nothing-done r e v g = rw (e, g) (did-nothing long mem st log s (v .shaped) (v .bounded))
-
-  -- not simulated
-  pub parsed-done : (r : Made) → 10 ≤ c → c ≤ 20 → Did long mem st log s r (carriedOut Command.not-simulated now w []) → Did long mem st log s r (done (namedBy c) now w ws)
-  parsed-done r h g d = done-by (Named.other Command.not-simulated) r (parsed c h g) d
+  pub nothing-done : (K : State → Type 0) → c ≡ 25 → Does files area words n K deed.Nothing (λ (m : Model). done (namedBy c) m w ws)
+  nothing-done K e = λ s k. record { fits = tt; did = λ st log v. rw e (did-nothing (length files) (files ++ area) st log s (v .shaped) (v .bounded)) }

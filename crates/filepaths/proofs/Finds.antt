@@ -1,22 +1,21 @@
 -- Laws: the last slash of a path, a path below a directory, and the loop over the files. Assumes nothing.
-use Prim.Native.Nat.{ℕ, zero, suc, _+_, _-_, _≤_, _<_}
+use Prim.Native.Nat.{ℕ, suc, _+_, _-_, _≤_, _<_}
 use native.Mathlib.Omega.{arith}
-use native.Mathlib.Nat.{zero-add, add-zero}
-use mathlib.Core.Path.{_≡_, refl, sym, ap, _∙_}
-use mathlib.Core.Bool.{Bool, true, false, cond, not, _&&_, _||_}
+use native.Mathlib.Nat.{zero-add}
+use mathlib.Core.Path.{_≡_, refl, sym, _∙_}
+use mathlib.Core.Bool.{Bool, true, false, cond, not, _&&_}
 use mathlib.Core.List.{List, [], _∷_, _++_}
 use lib.Dec.{eqb, ltb}
 use lib.ListN.{length, take, drop, getD, drop-of-length-le, List·getD-eq-default}
 use borrow.Author.Needs.{needs}
 use borrow.Author.Tests.{eq-eqb, ne-eqb, eqb-true, ltb-true, ltb-false, not-true, not-false}
-use Rattle.text.specs.Ascii.{Bytes, byte}
+use Rattle.text.specs.Ascii.{Bytes}
 use Rattle.text.specs.Compare.{same, startsWith}
-use Rattle.text.specs.Lists.{here, past}
+use Rattle.text.specs.Lists.{here}
 use Rattle.text.specs.Scan.{any}
 use Rattle.text.specs.Sames.{no-true}
 use Rattle.jobindex.specs.Index.{pathAt, fileAt, rows}
 use Rattle.jobindex.specs.Rows.{rows-length, rows-here}
-use Rattle.joblines.specs.Job.{File}
 use Rattle.model.specs.Scope.{below, up}
 use Rattle.model.specs.Up.{slashed, upSize, up-is, size-none, size-at, slashed-here}
 use Rattle.read.specs.Reading.{joinedPath}

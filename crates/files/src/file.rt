@@ -1,21 +1,43 @@
 // Files and their commands: reading a file and carrying out its load_upf lines call each other.
-ghost use Prim.Native.Nat.{_≤_, _<_};
+ghost use mathlib.Core.Path.{_≡_};
 ghost use Rattle.held.specs.Held.{Ran};
 ghost use Rattle.loads.specs.Steps.{commandReads, fileReads, Opening};
 ghost use Rattle.files.specs.Loads.{Loads};
 use cmdnames::number;
 use commands::next::Next;
 use commands::next::next_command;
+use deeds::done;
+use deeds::no_record;
+use deeds::refused;
+use deeds::rows_with;
+use deeds::warnings_with;
 use held::begun;
 use lists::Count;
+use loads::back;
 use loads::before_load;
-use loads::restored;
+use made::brief_of;
+use plain::act;
 use plain::counted;
-use plain::plain;
+use plain::puts;
 use scopes::go::Out;
+use scopes::go::Place;
+use scopes::go::set_scope;
 use spans::span::pair;
+use store::state::Head;
 use store::state::State;
+use store::stored::Stored;
 use text::part::place;
+
+// The head with another scope.
+fn in_scope(h: Head, scope: Stored) -> Head
+    ensures { λ r. ⌜ r ≡ record { scope = scope; top = h .top } ⌝ }
+{
+    let top = h.top;
+    Head {
+        scope: scope,
+        top: top,
+    }
+}
 
 // The load with these words, of file k; `left` loads may still be nested. It has no value that is read as a list.
 fn load(
@@ -37,30 +59,37 @@ fn load(
     if 1024 < s.count.commands {
         return Out { tag: 10, state: s };
     }
-    let b = before_load(job, files, area, nums, count, words, n, s, k, left);
-    let y = b.out;
-    if y.tag != 0 {
-        return y;
+    let h = s.head;
+    let scope = h.scope;
+    let p = Place {
+        scope: scope,
+        scopes: s.count.scopes,
+        end: s.fill.end,
+    };
+    let b = before_load(job, files, area, nums, count, words, n, p, k, left);
+    let w = b.went;
+    let q = w.place;
+    let mut u = s;
+    u.head = in_scope(h, q.scope);
+    u.count.scopes = q.scopes;
+    u.fill.end = q.end;
+    if w.tag != 0 {
+        return Out {
+            tag: w.tag,
+            state: u,
+        };
     }
-    let r = read_file(
-        job,
-        files,
-        area,
-        nums,
-        log,
-        count,
-        y.state,
-        b.file,
-        left - 1,
-    );
+    let r = read_file(job, files, area, nums, log, count, u, b.file, left - 1);
     if r.tag != 0 {
         return r;
     }
-    let u = restored(s, r.state);
+    u = r.state;
+    u.head = back(h, u.head);
     Out { tag: 0, state: u }
 }
 
-// File k, command by command, its words substituted with the variables known when it is opened.
+// File k, command by command, its words substituted with the variables known when it is opened. What is no load is
+// carried out here: the state would be copied for each call that it is passed to.
 pub fn read_file(
     job: &[u8],
     files: &[u8],
@@ -113,12 +142,59 @@ pub fn read_file(
                     return Out { tag: 10, state: u };
                 };
                 u.count.entries = t;
-                let r = plain(files, area, nums, log, &words, n, u, c);
-                if r.tag != 0 {
-                    return r;
-                }
-                u = r.state;
                 at = next;
+                if c == 1 {
+                    let end = puts(files, &area[..e], log, &words, n, u.fill.log);
+                    u.fill.log = end;
+                    continue;
+                }
+                if c == 4 {
+                    let scope = u.head.scope;
+                    let p = Place {
+                        scope: scope,
+                        scopes: u.count.scopes,
+                        end: e,
+                    };
+                    let w = set_scope(files, area, &words, n, p);
+                    let q = w.place;
+                    u.head = in_scope(u.head, q.scope);
+                    u.count.scopes = q.scopes;
+                    u.fill.end = q.end;
+                    if w.tag != 0 {
+                        return Out {
+                            tag: w.tag,
+                            state: u,
+                        };
+                    }
+                    continue;
+                }
+                let b = brief_of(u);
+                let d = act(
+                    files,
+                    &area[..e],
+                    nums,
+                    &words,
+                    n,
+                    b,
+                    u.fill.rows,
+                    u.fill.warnings,
+                    u.domains,
+                    u.nets,
+                    u.isolations,
+                    u.tables,
+                    c,
+                );
+                if refused(d, u.fill.warnings) {
+                    return Out { tag: 10, state: u };
+                }
+                let rows = rows_with(d, u.fill.rows);
+                let warnings = warnings_with(d, u.fill.warnings);
+                u.fill.rows = rows;
+                u.fill.warnings = warnings;
+                if no_record(d) {
+                    continue;
+                }
+                u = done(u, d);
             }
         }
     }

@@ -1,18 +1,16 @@
 -- An argument by its wrap, as its writer asks: o′ is what the one call of a way left. Assumes nothing.
 use Prim.Native.Nat.{ℕ}
-use mathlib.Core.Path.{_≡_, refl, sym, ap, _∙_}
-use mathlib.Core.Bool.{Bool, true, false, cond}
-use mathlib.Core.List.{List, [], _∷_, _++_}
-use lib.Dec.{eqb}
+use mathlib.Core.Path.{_≡_, ap}
+use mathlib.Core.Bool.{false}
+use mathlib.Core.List.{List}
 use borrow.Author.Needs.{needs}
 use borrow.Author.Tests.{eq-eqb, ne-eqb}
 use Rattle.text.specs.Ascii.{Bytes, ascii}
 use Rattle.out.specs.Emit.{Out, emit}
 use Rattle.out.specs.Bytewise.{flat, dotted}
-use Rattle.names.specs.declared.name.Name.{Name}
 use Rattle.design.specs.Paths.{elementPath}
 use Rattle.texts.specs.Supplies.{unrooted}
-use Rattle.refs.specs.Text.{textOf, asDots, wholeRef, jobRef}
+use Rattle.refs.specs.Text.{textOf, asDots}
 use Rattle.refs.specs.declared.Ref.{Ref}
 use Rattle.format.specs.Args.{rooted, literal, argOf, wrappedArg}
 use Rattle.format.specs.declared.arg.Arg.{Arg}

@@ -2,7 +2,7 @@
 use Prim.Native.Nat.{ℕ, _+_, _-_, _≤_, _<_}
 use mathlib.Core.Path.{_≡_, refl, sym, ap, _∙_}
 use mathlib.Core.Bool.{Bool, true, false, cond, _&&_, not}
-use mathlib.Core.List.{List, [], _∷_, _++_, map, flatMap, append-assoc, append-nil}
+use mathlib.Core.List.{List, [], _∷_, _++_, map, flatMap, append-nil}
 use native.Mathlib.Omega.{arith}
 use lib.ListN.{length, take, drop, getD, drop-of-length-le}
 use borrow.Author.Needs.{needs}
@@ -15,19 +15,18 @@ use Rattle.out.specs.Bytewise.{flat, dotted, dottedByte, flat-append, flat-two}
 use Rattle.out.specs.Items.{each}
 use Rattle.names.specs.Laws.{dotted-map, dotted-none}
 use Rattle.design.specs.Lists.{those}
-use Rattle.design.specs.Paths.{childPath, scopePath, elementPath}
-use Rattle.texts.specs.Scope.{slashOf, overrideParts}
+use Rattle.design.specs.Paths.{scopePath, elementPath}
+use Rattle.texts.specs.Scope.{slashOf}
 use Rattle.texts.specs.Setting.{slashed}
 use Rattle.texts.specs.Supplies.{unrooted}
 use Rattle.scope.specs.Parts.{parts, PartSeen}
 use Rattle.scope.specs.declared.PartAt.{PartAt}
 use Rattle.scope.specs.declared.PartAt.the-variants as part
-use Rattle.refs.specs.Text.{textOf, stepOf, dotOf, asDots}
+use Rattle.refs.specs.Text.{dotOf, asDots}
 use Rattle.refs.specs.Laws.{dots-step, dots-none}
-use Rattle.refs.specs.declared.Ref.{Ref}
-use Rattle.refs.specs.declared.Step.{Step}
-use Rattle.refs.specs.declared.Step.the-variants.{Byte, End}
-use Rattle.format.specs.Args.{isThere, led, behindTop, rooted}
+use Rattle.refs.specs.declared.Step.the-variants.{End}
+use Rattle.format.specs.Args.{led, behindTop, rooted}
+use Rattle.refs.specs.Heads.{isThere}
 
 -- a byte in front
 flat-first : (f : ℕ → Bytes) (o o₁ o₂ : Out) (c : ℕ) (t : Bytes) → o₂ ≡ emit o₁ (flat f t) → o₁ ≡ emit o (f c) → o₂ ≡ emit o (flat f (c ∷ t))
@@ -108,17 +107,6 @@ module _ (f : ℕ → Bytes) (over : Bytes) (i : ℕ) (r : PartAt) (seen : PartS
       rw (one-part over i r seen a l next h, ← k, flat-each (λ (m : Bytes). byte "." ∷ m) (parts over next)) (flat-two f o o₁ o₂ p (led (byte ".") false (parts over next)) g e)
 
 pub ruleset leads = (needs, part-less, lead-end, lead-step, there-none, there-one, path-end, path-more)
-
--- ---- a text that is empty or not
-
-module _ (job mem : Bytes) (x : Ref) (p : Step) (e : textOf job mem x ≡ stepOf job mem p) where
-  pub bytes-none : p ≡ End → false ≡ isThere (textOf job mem x)
-  bytes-none h = rw (e, h)
-
-  pub bytes-some : (b : ℕ) (u : Ref) → p ≡ Byte b u → true ≡ isThere (textOf job mem x)
-  bytes-some b u h = rw (e, h)
-
-pub ruleset theres = (needs, bytes-none, bytes-some)
 
 -- ---- a name below the scope, with dots
 

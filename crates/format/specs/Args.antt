@@ -1,9 +1,11 @@
 -- The arguments of a template as byte strings. `scope` has the scope's instance names, `top` is the top's name. Assumes nothing.
-use Prim.Native.Nat.{ℕ}
-use mathlib.Core.Bool.{Bool, true, false, cond}
+use Prim.Native.Nat.{ℕ, _-_}
+use mathlib.Core.Bool.{Bool, cond}
 use mathlib.Core.List.{List, [], _∷_, _++_}
 use lib.Dec.{eqb}
-use Rattle.text.specs.Ascii.{Bytes, ascii}
+use lib.ListN.{getD}
+use Rattle.text.specs.Ascii.{Bytes, ascii, byte}
+use Rattle.text.specs.Classes.{within}
 use Rattle.out.specs.Bytewise.{dotted}
 use Rattle.out.specs.Fill.{arg}
 use Rattle.out.specs.Items.{each}
@@ -14,11 +16,6 @@ use Rattle.texts.specs.Supplies.{unrooted}
 use Rattle.refs.specs.Text.{textOf, asDots, wholeRef, jobRef}
 use Rattle.refs.specs.declared.Ref.{Ref}
 use Rattle.format.specs.declared.arg.Arg.{Arg}
-
--- whether a list has something
-abbrev pub isThere : {A : Type 0} → List A → Bool
-isThere [] = false
-isThere (x ∷ xs) = true
 
 -- each name with a byte before it, and dots where they are wanted
 abbrev pub led : ℕ → Bool → List Bytes → Bytes
@@ -55,6 +52,22 @@ argOf job mem scope top a = wrapOf scope top (a .wrap) (textOf job mem (a .text)
 abbrev pub letters : Bytes → Bytes → List Bytes → Bytes → Arg → Arg → Arg → Arg → Arg → ℕ → Bytes
 letters job mem scope top a b c d e =
     arg (argOf job mem scope top a) (argOf job mem scope top b) (argOf job mem scope top c) (argOf job mem scope top d) (argOf job mem scope top e)
+
+-- ---- a letter: the one of the mark at the head of a text, 0 where it is none of an argument; its argument's number, 5 where it is none; its mode of `becomes`
+
+unfoldable pub letterOf : Bytes → ℕ
+letterOf [] = 0
+letterOf (x ∷ s) = cond (eqb x (byte "}")) 0 (cond (eqb (getD s 0 0) (byte "{")) 0 (getD s 0 0))
+
+abbrev pub letterNumber : ℕ → ℕ
+letterNumber k =
+    cond (within (byte "0") (byte "4") k) (k - byte "0")
+    (cond (within (byte "A") (byte "E") k) (k - byte "A")
+    (cond (within (byte "a") (byte "e") k) (k - byte "a")
+    (cond (within (byte "p") (byte "t") k) (k - byte "p") 5)))
+
+abbrev pub letterMode : ℕ → ℕ
+letterMode k = cond (within (byte "0") (byte "4") k) 0 (cond (within (byte "A") (byte "E") k) 3 (cond (within (byte "a") (byte "e") k) 1 2))
 
 -- ---- arguments that are made
 

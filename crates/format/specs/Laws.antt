@@ -1,8 +1,7 @@
 -- Laws: what the arguments that are made stand for. Assumes nothing.
-use Prim.Native.Nat.{ℕ}
-use mathlib.Core.Path.{_≡_, refl, sym, ap, _∙_}
-use mathlib.Core.List.{List, [], _∷_, _++_}
-use Rattle.text.specs.Ascii.{Bytes, ascii}
+use mathlib.Core.Path.{_≡_, refl, ap, _∙_}
+use mathlib.Core.List.{List, []}
+use Rattle.text.specs.Ascii.{Bytes}
 use Rattle.out.specs.Bytewise.{dotted}
 use Rattle.names.specs.Name.{nameOf}
 use Rattle.names.specs.declared.name.Name.{Name}
@@ -11,7 +10,7 @@ use Rattle.texts.specs.Supplies.{unrooted}
 use Rattle.refs.specs.Text.{textOf, wholeRef}
 use Rattle.refs.specs.Laws.{whole-is, job-is}
 use Rattle.refs.specs.declared.Ref.{Ref}
-use Rattle.format.specs.Args.{rooted, literal, argOf, wrappedArg, nameArg, hierArg, fixedArg}
+use Rattle.format.specs.Args.{rooted, argOf, wrappedArg, nameArg, hierArg, fixedArg}
 
 module _ (job mem : Bytes) (scope : List Bytes) (top : Bytes) where
   pub plain-arg : (r : Ref) → argOf job mem scope top (wrappedArg 0 r) ≡ textOf job mem r

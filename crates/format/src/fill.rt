@@ -7,7 +7,7 @@ ghost use lib.ListN.{length, drop};
 ghost use Rattle.out.specs.Emit.{_▸_, emit};
 ghost use Rattle.out.specs.Fill.{isTemplate, markText, fill as Fill·fill};
 ghost use Rattle.scope.specs.Parts.{parts};
-ghost use Rattle.format.specs.Args.{argOf, letters, pickArg};
+ghost use Rattle.format.specs.Args.{argOf, letterOf, letterNumber, letterMode};
 use super::arg::Arg;
 use super::arg::fixed;
 use super::arg::put as put_arg;
@@ -17,83 +17,63 @@ use out::template::mark_end;
 use out::template::run_end;
 use text::part::peek;
 
-// The argument of a number.
-fn picked(j: u8, a: Arg, b: Arg, c: Arg, d: Arg, e: Arg) -> Arg
-    ensures { λ r. ⌜ r ≡ pickArg j a b c d e ⌝ }
+// The letter of the mark at i; 0 where it is none of an argument.
+fn letter(t: &[u8], i: usize) -> u8
+    requires { ⌜ i ≤ length (now t) ⌝ }
+    ensures { λ r. ⌜ r ≡ letterOf (drop i (now (t .entry))) ⌝ }
 {
-    if j == 0 {
-        return a;
+    if t.len() <= i {
+        return 0;
     }
-    if j == 1 {
-        return b;
+    if t[i] == b'}' {
+        return 0;
     }
-    if j == 2 {
-        return c;
+    let k = peek(t, i + 1);
+    if k == b'{' {
+        return 0;
     }
-    if j == 3 {
-        return d;
-    }
-    e
+    k
 }
 
-// What a byte between braces stands for.
-fn argument(
-    out: &mut [u8],
-    at: usize,
-    k: u8,
-    job: &[u8],
-    files: &[u8],
-    area: &[u8],
-    over: &[u8],
-    from: usize,
-    top: &[u8],
-    a: Arg,
-    b: Arg,
-    c: Arg,
-    d: Arg,
-    e: Arg,
-) -> usize
-    ensures { λ z. ⌜ now (out .exit) ▸ z ≡ emit (now (out .entry) ▸ at) (letters (now (job .entry)) (now (files .entry) ++ now (area .entry)) (parts (now (over .entry)) from) (now (top .entry)) a b c d e k) ⌝ }
+// The number of a letter's argument; 5 where it is none.
+fn number(k: u8) -> u8
+    ensures { λ r. ⌜ r ≡ letterNumber k ⌝ }
 {
     if (b'0' <= k) & (k <= b'4') {
-        let p = picked(k - b'0', a, b, c, d, e);
-        return put_arg(out, at, 0, job, files, area, over, from, top, p);
+        return k - b'0';
     }
     if (b'A' <= k) & (k <= b'E') {
-        let p = picked(k - b'A', a, b, c, d, e);
-        return put_arg(out, at, 3, job, files, area, over, from, top, p);
+        return k - b'A';
     }
     if (b'a' <= k) & (k <= b'e') {
-        let p = picked(k - b'a', a, b, c, d, e);
-        return put_arg(out, at, 1, job, files, area, over, from, top, p);
+        return k - b'a';
     }
     if (b'p' <= k) & (k <= b't') {
-        let p = picked(k - b'p', a, b, c, d, e);
-        return put_arg(out, at, 2, job, files, area, over, from, top, p);
+        return k - b'p';
     }
-    at
+    5
 }
 
-// What the mark at i adds: nothing at the end.
-fn mark(
-    out: &mut [u8],
-    at: usize,
-    t: &[u8],
-    i: usize,
-    job: &[u8],
-    files: &[u8],
-    area: &[u8],
-    over: &[u8],
-    from: usize,
-    top: &[u8],
-    a: Arg,
-    b: Arg,
-    c: Arg,
-    d: Arg,
-    e: Arg,
-) -> usize
+// The mode of `becomes` that a letter asks for.
+fn mode(k: u8) -> u8
+    ensures { λ r. ⌜ r ≡ letterMode k ⌝ }
+{
+    if (b'0' <= k) & (k <= b'4') {
+        return 0;
+    }
+    if (b'A' <= k) & (k <= b'E') {
+        return 3;
+    }
+    if (b'a' <= k) & (k <= b'e') {
+        return 1;
+    }
+    2
+}
+
+// What the mark at i adds where it is none of an argument: a brace, or nothing.
+fn brace(out: &mut [u8], at: usize, t: &[u8], i: usize) -> usize
     requires { ⌜ i ≤ length (now t) ⌝ }
-    ensures { λ z. ⌜ now (out .exit) ▸ z ≡ emit (now (out .entry) ▸ at) (markText (letters (now (job .entry)) (now (files .entry) ++ now (area .entry)) (parts (now (over .entry)) from) (now (top .entry)) a b c d e) (drop i (now (t .entry)))) ⌝ }
+    ensures { λ z. ⌜ now (out .exit) ▸ z ≡ emit (now (out .entry) ▸ at) (markText (λ _. []) (drop i (now (t .entry)))) ⌝ }
 {
     if t.len() <= i {
         return at;
@@ -105,7 +85,7 @@ fn mark(
     if k == b'{' {
         return byte(out, at, b'{');
     }
-    argument(out, at, k, job, files, area, over, from, top, a, b, c, d, e)
+    at
 }
 
 // Writes the template t with its five arguments in their places.
@@ -156,24 +136,31 @@ fn write(
         let z = run_end(t, i);
         let run = &t[i..z];
         o = put(out, o, run);
-        o = mark(
-            out,
-            o,
-            t,
-            z,
-            job,
-            files,
-            area,
-            over,
-            from,
-            top,
-            a,
-            b,
-            c,
-            d,
-            e,
-        );
+        let k = letter(t, z);
+        let j = number(k);
+        let m = mode(k);
         i = mark_end(t, z);
+        if j == 5 {
+            o = brace(out, o, t, z);
+            continue;
+        }
+        if j == 0 {
+            o = put_arg(out, o, m, job, files, area, over, from, top, a);
+            continue;
+        }
+        if j == 1 {
+            o = put_arg(out, o, m, job, files, area, over, from, top, b);
+            continue;
+        }
+        if j == 2 {
+            o = put_arg(out, o, m, job, files, area, over, from, top, c);
+            continue;
+        }
+        if j == 3 {
+            o = put_arg(out, o, m, job, files, area, over, from, top, d);
+            continue;
+        }
+        o = put_arg(out, o, m, job, files, area, over, from, top, e);
     }
     o
 }

@@ -7,11 +7,12 @@ ghost use Rattle.design.specs.Paths.{scopePath, elementPath};
 ghost use Rattle.texts.specs.Supplies.{unrooted};
 ghost use Rattle.scope.specs.Parts.{parts};
 ghost use Rattle.refs.specs.Text.{textOf, asDots};
-ghost use Rattle.format.specs.Args.{isThere, led, behindTop, rooted};
+ghost use Rattle.refs.specs.Heads.{isThere};
+ghost use Rattle.format.specs.Args.{led, behindTop, rooted};
 use out::bytewise::becomes;
 use refs::Ref;
-use refs::Step;
 use refs::dot;
+use refs::has_bytes;
 use scope::PartAt;
 use scope::next_part;
 
@@ -78,16 +79,6 @@ pub fn has_parts(over: &[u8], from: usize) -> bool
             len: _,
             next: _,
         } => true,
-    }
-}
-
-// Whether a text is not empty.
-fn has_bytes(job: &[u8], files: &[u8], area: &[u8], r: Ref) -> bool
-    ensures { λ z. ⌜ z ≡ isThere (textOf (now (job .entry)) (now (files .entry) ++ now (area .entry)) r) ⌝ }
-{
-    match refs::next(job, files, area, r) {
-        Step::End => false,
-        Step::Byte(_, _) => true,
     }
 }
 

@@ -1,13 +1,11 @@
 -- Laws: the order of the state when the memory that is known grows, and by a smaller measure. Assumes nothing.
-use Prim.Native.Nat.{ℕ, _+_, _≤_, max}
+use Prim.Native.Nat.{ℕ, _≤_, max}
 use native.Mathlib.Omega.{arith}
 use native.Mathlib.Nat.{le-trans}
-use mathlib.Core.Path.{_≡_}
 use mathlib.Core.Bool.{Bool, true, false, cond}
-use mathlib.Core.List.{List, [], _∷_}
+use mathlib.Core.List.{List}
 use lib.Dec.{eqb}
 use Rattle.spans.specs.Reach.{reach-end}
-use Rattle.spans.specs.declared.span.Span.{Span}
 use Rattle.made.specs.Made.{reachOf}
 use Rattle.store.specs.Strings.{spanOf, storedOf}
 use Rattle.store.specs.View.{Store}
@@ -19,10 +17,6 @@ use Rattle.store.specs.declared.stored.Below.{Below}
 use Rattle.store.specs.declared.stored.MaybeBelow.{MaybeBelow}
 use Rattle.store.specs.declared.stored.MaybeBelow.the-variants.{Not as Not-below, Given as Given-below}
 use Rattle.store.specs.declared.row.Row.{Row}
-use Rattle.store.specs.declared.state.Domain.{Domain}
-use Rattle.store.specs.declared.state.Port.{Port}
-use Rattle.store.specs.declared.state.Switch.{Switch}
-use Rattle.store.specs.declared.state.Isolation.{Isolation}
 use Rattle.store.specs.declared.state.State.{State}
 
 within-by : {A : Type 0} (f g : A → ℕ) {n m : ℕ} {l : List A} → ((x : A) → g x ≤ f x) → n ≤ m → Within f n l → Within g m l

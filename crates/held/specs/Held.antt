@@ -13,7 +13,7 @@ use Rattle.spans.specs.Reach.{lastOf, reach}
 use Rattle.model.specs.Records.{Model}
 use Rattle.model.specs.Within.{Counted}
 use Rattle.read.specs.Reading.{Reading, done, refused}
-use Rattle.store.specs.View.{Store, modelOf}
+use Rattle.store.specs.View.{modelOf}
 use Rattle.store.specs.Order.{Shaped, Bounded}
 use Rattle.store.specs.Rows.{storeOf}
 use Rattle.store.specs.declared.state.State.{State}

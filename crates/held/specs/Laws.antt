@@ -1,21 +1,20 @@
 -- Laws: the invariant when a command begins, when its entries are counted, and behind a load; the records in the whole area. Assumes nothing.
-use Prim.Native.Nat.{ℕ, _+_, _-_, _*_, _≤_, _<_, _^_}
+use Prim.Native.Nat.{ℕ, _+_, _-_, _≤_}
 use native.Mathlib.Omega.{arith}
 use mathlib.Core.Path.{_≡_, refl, sym, ap, _∙_}
-use mathlib.Core.List.{List, [], _∷_, _++_}
-use lib.ListN.{length, take, drop, length-take, length-append}
-use lib.Seq.{take-take, length-take-le, take-all}
+use mathlib.Core.List.{List, _++_}
+use lib.ListN.{length, take, length-take, length-append}
+use lib.Seq.{take-take, take-all}
 use Rattle.text.specs.Ascii.{Bytes}
 use Rattle.spans.specs.Frame.{known-grows, known-front}
-use Rattle.model.specs.Records.{Model}
 use Rattle.store.specs.View.{Store, modelOf}
-use Rattle.store.specs.Order.{Shaped, Bounded, endOf}
+use Rattle.store.specs.Order.{Shaped, Bounded}
 use Rattle.store.specs.Frame.{model-same}
 use Rattle.store.specs.Rows.{storeOf}
 use Rattle.store.specs.declared.state.State.{State}
 use Rattle.made.specs.Made.{reachOf}
 use Rattle.held.specs.Grows.{bounded-more, bounded-ends}
-use Rattle.held.specs.Held.{memOf, modelAt, countedOf, Lends, Held, Lent}
+use Rattle.held.specs.Held.{memOf, modelAt, Lends, Held, Lent}
 
 -- the state with a command more, whose results end at e
 abbrev pub begun-at : State → ℕ → State

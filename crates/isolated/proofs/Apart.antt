@@ -1,5 +1,5 @@
 -- Ports told apart: by the last byte of their names, or by their elements. Each law is stated as a need asks it. Assumes nothing.
-use Prim.Native.Nat.{ℕ, suc, _+_, _-_, _*_, _<_}
+use Prim.Native.Nat.{ℕ, suc, _+_, _-_, _*_}
 use native.Mathlib.Omega.{arith}
 use mathlib.Core.Path.{_≡_, refl, sym, ap, ap₂, _∙_}
 use mathlib.Core.Bool.{Bool, true, false, cond, not, _&&_, _||_}
@@ -15,11 +15,10 @@ use Rattle.spans.specs.Span.{bytes, gotOf}
 use Rattle.spans.specs.Frame.{shorter}
 use Rattle.spans.specs.declared.span.Span.{Span}
 use Rattle.spans.specs.declared.span.Got.{Got}
-use Rattle.spans.specs.declared.span.Got.the-variants.{Yes, No}
+use Rattle.spans.specs.declared.span.Got.the-variants.{Yes}
 use Rattle.tcl.specs.Rewrite.{rewrite}
 use Rattle.tcl.specs.Join.{jointBy, joinedBy, join}
 use Rattle.tcl.specs.Substitution.{escape, unescape}
-use Rattle.entries.specs.Entry.{entryBytes}
 use Rattle.names.specs.Name.{entryOf, slash, nameOf}
 use Rattle.names.specs.declared.name.Name.{Name}
 use Rattle.nametable.specs.Table.{rowName}

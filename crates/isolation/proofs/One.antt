@@ -35,6 +35,7 @@ use Rattle.store.specs.declared.state.Domains.{Domains}
 use Rattle.store.specs.declared.state.Isolation.{Isolation}
 use Rattle.made.specs.Firsts.{first-map}
 use Rattle.made.specs.Made.{reachOf}
+use Rattle.finddomain.specs.Named.{isNamed}
 use Rattle.setting.specs.Orders.{holds-few, holds-long, holds-at}
 use Rattle.texts.specs.Isolation.{lowered, isClamp, hasElements}
 use Rattle.isolated.specs.Table.{Kept, keptIn}
@@ -49,7 +50,7 @@ use Rattle.strategies.specs.Values.{givenName}
 use Rattle.indomain.specs.Asked.{OfStrategy}
 use Rattle.indomain.specs.Own.{name-is, own-there}
 use Rattle.indomain.specs.Remarks.{remark-answer}
-use Rattle.isolation.specs.Turns.{isNamed, turnGain, OfOne}
+use Rattle.isolation.specs.Turns.{turnGain, OfOne}
 
 -- ---- the first that passes a test, by its place
 

@@ -14,12 +14,11 @@ use Rattle.jobindex.specs.Index.{moduleRow}
 use Rattle.lookup.specs.Rows.{modules}
 use Rattle.model.specs.Records.{Domain as Domainʳ, Isolation as Isolationʳ}
 use Rattle.store.specs.View.{domainOf, isolationOf, modelOf}
-use Rattle.store.specs.Order.{Within, none-left, one-more}
 use Rattle.store.specs.Tables.{sized-length}
 use Rattle.store.specs.declared.state.State.{State}
 use Rattle.setting.specs.Stands.{Stands}
 use Rattle.setting.specs.Orders.{Orders, isolations-hold, domains-hold}
-use Rattle.domainlists.specs.Seen.{elements-few}
+use Rattle.domainlists.specs.Seen.{within-map, elements-few}
 use Rattle.texts.specs.Setting.{Setting}
 use Rattle.texts.specs.Texts.{warningLine}
 use Rattle.texts.specs.Isolation as texts
@@ -101,10 +100,6 @@ module _ (job : Bytes) (nums : List ℕ) (count k : ℕ) (files area over : Byte
       count-is h = ap length (sym (a .rows h)) ∙ kept-long job mem ports 0 (r .ports)
 
 -- ---- what is asked
-
-within-map : {A B : Type 0} (f : B → ℕ) (g : A → B) (n : ℕ) (l : List A) → Within f n (map g l) → Within (λ (a : A). f (g a)) n l
-within-map f g n [] w = none-left
-within-map f g n (x ∷ l) (one-more p w) = one-more p (within-map f g n l w)
 
 pub orders-isolation : (job : Bytes) (nums : List ℕ) (count k : ℕ) (files area : Bytes) (s : State) → Orders files area nums s → count ≤ 128 → k < count → length job < 2 ^ 32 → length files + length area < 2 ^ 31 → OfIsolation job files area count k (s .isolations) (s .domains)
 unfolding modelOf

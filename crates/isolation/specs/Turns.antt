@@ -7,13 +7,10 @@ use mathlib.Core.List.{List, [], _∷_, _++_, flatMap}
 use mathlib.Core.Option.{Option, none, some}
 use lib.ListN.{length, take}
 use Rattle.text.specs.Ascii.{Bytes}
-use Rattle.text.specs.Compare.{same}
 use Rattle.joblines.specs.Job.{Module}
 use Rattle.model.specs.Records.{Domain as Domainʳ, Isolation as Isolationʳ}
-use Rattle.store.specs.Strings.{string}
 use Rattle.store.specs.View.{domainOf}
 use Rattle.store.specs.Order.{Within, ofDomain}
-use Rattle.store.specs.declared.stored.Stored.{Stored}
 use Rattle.store.specs.declared.state.Domain.{Domain}
 use Rattle.store.specs.declared.state.Domains.{Domains}
 use Rattle.store.specs.declared.state.Isolation.{Isolation}
@@ -26,10 +23,6 @@ use Rattle.cover.specs.Aims.{outputAims, elementAims}
 use Rattle.remarks.specs.Lines.{notOutputs, clampUnknown}
 use Rattle.strategies.specs.Gains.{remarkGain, coveredGain, domainGain, foundGain, named, signalGain, strategyGain, chosen, roundGain}
 use Rattle.indomain.specs.Asked.{OfOwn}
-
--- whether a stored domain has a name
-abbrev pub isNamed : Bytes → Stored → Domain → Bool
-isNamed mem name d = same (string mem (d .name)) (string mem name)
 
 -- a strategy in a round
 unfoldable pub turnGain : List Module → Module → List Domainʳ → Bool → ℕ → Isolationʳ → List Kept → Gain

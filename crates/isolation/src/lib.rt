@@ -7,16 +7,16 @@ ghost use lib.ListN.{length, take};
 ghost use Rattle.jobindex.specs.Index.{moduleRow};
 ghost use Rattle.lookup.specs.Rows.{modules};
 ghost use Rattle.names.specs.Name.{nameOf};
-ghost use Rattle.store.specs.First.{firstAt};
 ghost use Rattle.store.specs.View.{domainOf, isolationOf};
 ghost use Rattle.isolated.specs.Table.{keptIn};
 ghost use Rattle.keep.specs.Covered.{Ready, Answer};
 ghost use Rattle.cover.specs.Found.{Asks};
 ghost use Rattle.strategies.specs.Gains.{foundGain, named as Gains·named, strategyGain, roundGain, isolationGain};
 ghost use Rattle.isolation.specs.Asked.{OfIsolation, startAt};
-ghost use Rattle.isolation.specs.Turns.{isNamed, turnGain, OfOne};
+ghost use Rattle.isolation.specs.Turns.{turnGain, OfOne};
 use clamps::clamp;
 use clamps::stored;
+use finddomain::find_domain;
 use indomain::in_domain;
 use keep::Cover;
 use lists::has_entries;
@@ -24,32 +24,12 @@ use names::name::Name;
 use remarks::clamp_unknown;
 use remarks::no_signal;
 use remarks::unknown_domain;
-use spans::span::same_spans;
 use store::state::Domains;
 use store::state::Isolation;
 use store::state::Isolations;
 use store::stored::Maybe;
-use store::stored::Stored;
 use store::stored::span;
 use strategies::given;
-
-// The first domain of a name; the number of domains where there is none.
-fn find_domain<'a>(files: &'a [u8], area: &'a [u8], t: Domains, name: Stored) -> usize
-    requires { ⌜ t .n ≤ 32 ⌝ }
-    ensures { λ r. ⌜ r ≡ firstAt (isNamed (now (files .entry) ++ now (area .entry)) name) (take (t .n) (t .all)) ⌝ }
-{
-    let n = t.n;
-    let mut i = 0;
-    while i < n {
-        let d = t.all[i];
-        let own = d.name;
-        if same_spans(files, area, span(own), span(name)) {
-            return i;
-        }
-        i += 1;
-    }
-    n
-}
 
 // A strategy with a signal and a clamp value.
 fn with_clamp<'a>(

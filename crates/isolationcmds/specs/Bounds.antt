@@ -1,7 +1,6 @@
 -- Laws: the strings of a strategy, each within a bound. Assumes nothing.
 use Prim.Native.Nat.{ℕ, _≤_, max}
-use native.Mathlib.Nat.{le-trans, max-le}
-use mathlib.Core.Path.{_≡_}
+use native.Mathlib.Nat.{max-le}
 use Rattle.store.specs.Order.{ofMaybe, ofIsolation}
 use Rattle.store.specs.declared.stored.Stored.{Stored}
 use Rattle.store.specs.declared.state.Isolation.{Isolation}

@@ -1,21 +1,20 @@
 -- set_isolation and set_isolation_control: the strategy that is meant, and what the commands do. Assumes nothing.
-use Prim.Native.Nat.{ℕ, _+_, _≤_, _<_, _^_, max}
+use Prim.Native.Nat.{ℕ, _+_, _≤_, _<_}
 use native.Mathlib.Omega.{arith}
 use mathlib.Core.Path.{_≡_, refl, sym, ap, _∙_}
-use mathlib.Core.Bool.{Bool, true, false, cond}
-use mathlib.Core.List.{List, [], _∷_, _++_, map}
-use mathlib.Core.Option.{Option, none, some}
+use mathlib.Core.Bool.{Bool, true, false}
+use mathlib.Core.List.{List, _++_}
+use mathlib.Core.Option.{none, some}
 use lib.ListN.{length, getD, set, take}
 use Rattle.text.specs.Ascii.{Bytes, ascii}
-use Rattle.spans.specs.Span.{pairs}
-use Rattle.spans.specs.Reach.{lastOf, reach, none-reach}
+use Rattle.spans.specs.Reach.{reach, none-reach}
 use Rattle.spans.specs.declared.span.Span.{Span}
 use Rattle.spans.specs.declared.span.Found.{Found}
 use Rattle.tcl.specs.Arguments.{optionOf, nameOf, hasFlag}
 use Rattle.args.specs.View.{wordsFrom, Reads, Finds}
 use Rattle.model.specs.Records.{Model, Isolation as Isolationʳ, with-isolations}
-use Rattle.model.specs.Commands.{onFirst, or-warned, warned, isStrategy, domainOf, updated, controlled, added, isolation-command, control-command}
-use Rattle.store.specs.Strings.{string, spanOf, storedOf, foundOr}
+use Rattle.model.specs.Commands.{onFirst, warned, isStrategy, domainOf, updated, controlled, added, isolation-command, control-command}
+use Rattle.store.specs.Strings.{string, storedOf, foundOr}
 use Rattle.store.specs.View.{Store, isolationOf, textOf, modelOf}
 use Rattle.store.specs.Order.{ofIsolation}
 use Rattle.store.specs.Added.{isolation-set}

@@ -1,5 +1,5 @@
 -- A strategy more: what the command does. Assumes nothing.
-use Prim.Native.Nat.{ℕ, _+_, _≤_, _<_, max}
+use Prim.Native.Nat.{ℕ, _+_, _≤_, _<_}
 use native.Mathlib.Omega.{arith}
 use mathlib.Core.Path.{_≡_, refl, sym, ap, _∙_}
 use mathlib.Core.List.{List, [], _∷_, _++_}
@@ -9,7 +9,6 @@ use Rattle.spans.specs.Reach.{reach, none-reach}
 use Rattle.args.specs.View.{wordsFrom}
 use Rattle.model.specs.Records.{Model, Isolation as Isolationʳ, with-isolations}
 use Rattle.model.specs.Commands.{newIsolation, added}
-use Rattle.model.specs.Within.{recordsFit}
 use Rattle.store.specs.Strings.{string}
 use Rattle.store.specs.View.{Store, isolationOf, modelOf}
 use Rattle.store.specs.Added.{isolation-added}

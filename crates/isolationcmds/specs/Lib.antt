@@ -3,3 +3,4 @@ pub mod Bounds
 pub mod Stored
 pub mod Entered
 pub mod Changed
+pub mod Deeds

@@ -1,9 +1,9 @@
 -- Laws: what the code makes of the words stands for the strategies of the definitions. Assumes nothing.
-use Prim.Native.Nat.{ℕ, zero, suc, _+_, _≤_, _<_, _^_, max}
+use Prim.Native.Nat.{ℕ, suc, _+_, _≤_, _<_, _^_}
 use native.Mathlib.Omega.{arith}
 use native.Mathlib.Nat.{le-trans}
 use mathlib.Core.Path.{_≡_, refl, sym, ap, _∙_}
-use mathlib.Core.Bool.{Bool, true, false, cond, not, _&&_, _||_}
+use mathlib.Core.Bool.{Bool, true, false}
 use mathlib.Core.List.{List, [], _∷_, _++_, map}
 use mathlib.Core.Option.{Option, none, some}
 use lib.Dec.{ltb}
@@ -20,18 +20,18 @@ use Rattle.spans.specs.declared.span.Found.{Found}
 use Rattle.spans.specs.declared.span.Found.the-variants.{At, None}
 use Rattle.tcl.specs.Arguments.{optionOf, nameOf}
 use Rattle.tcl.specs.Lists.{list}
-use Rattle.args.specs.View.{wordsFrom, Reads, Finds, foundBy}
+use Rattle.args.specs.View.{wordsFrom, Reads, Finds}
 use Rattle.model.specs.Scope.{scoped}
-use Rattle.model.specs.Commands.{or-else, given, replaced, optionList, listOf, domainOf, controlled}
+use Rattle.model.specs.Commands.{or-else, given, optionList, listOf}
 use Rattle.store.specs.Strings.{string, spanOf, storedOf, maybeOf, maybeFound, foundOr, foundElse}
 use Rattle.store.specs.View.{listBelow, isolationOf}
-use Rattle.store.specs.Order.{ofMaybe, ofIsolation}
+use Rattle.store.specs.Order.{ofMaybe}
 use Rattle.store.specs.declared.stored.Stored.{Stored}
 use Rattle.store.specs.declared.stored.Maybe.{Maybe}
 use Rattle.store.specs.declared.state.Isolation.{Isolation}
 use Rattle.made.specs.Asked.{list-found, or-found, maybe-found, found-by, maybe-by}
 use Rattle.lists.specs.Values.{Whole}
-use Rattle.isolationcmds.specs.Strategies.{newStrategy, renewed, elementsAnew, anew, isStrategyAt, IsolationIs, RenewedIs, AnewIs, ControlledIs}
+use Rattle.isolationcmds.specs.Strategies.{newStrategy, renewed, elementsAnew, isStrategyAt, IsolationIs, RenewedIs, AnewIs, ControlledIs}
 use Rattle.isolationcmds.specs.Bounds.{Bounds, all-bounds, bounds-of}
 
 module _ (mem : Bytes) (words : List ℕ) (n : ℕ) where

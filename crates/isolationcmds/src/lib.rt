@@ -1,33 +1,28 @@
 // set_isolation, set_isolation_control.
 ghost use mathlib.Core.Path.{_≡_};
-ghost use mathlib.Core.List.{List, _++_};
-ghost use Prim.Native.Nat.{ℕ, _≤_, _<_, _^_};
-ghost use lib.ListN.{length, take};
-ghost use Rattle.text.specs.Ascii.{Bytes};
+ghost use mathlib.Core.List.{_++_};
+ghost use Prim.Native.Nat.{_≤_, _<_, _^_};
+ghost use lib.ListN.{take};
 ghost use Rattle.spans.specs.Span.{pairs};
 ghost use Rattle.spans.specs.Reach.{spanEnd, lastOf};
 ghost use Rattle.args.specs.View.{wordsFrom};
 ghost use Rattle.model.specs.Commands.{added, isolation-command, control-command};
-ghost use Rattle.store.specs.View.{Store, modelOf};
 ghost use Rattle.store.specs.First.{firstAt};
-ghost use Rattle.made.specs.Made.{Room, Ready, Did};
+ghost use Rattle.made.specs.Made.{Line, briefOf, Does};
+ghost use Rattle.model.specs.Records.{Model};
+ghost use Rattle.store.specs.declared.state.State.{State};
 ghost use Rattle.isolationcmds.specs.Strategies.{isStrategyAt, IsolationIs, RenewedIs, AnewIs, ControlledIs};
 use args::argument::flag;
 use args::argument::name;
 use args::argument::option;
 use lists::has_entries;
-use made::Made;
-use made::fine;
-use made::full;
-use made::warned;
+use made::Brief;
+use made::Deed;
 use spans::span::Found;
 use spans::span::same_spans;
 use spans::span::size;
 use store::state::Isolation;
 use store::state::Isolations;
-use store::state::State;
-use store::state::add_isolation;
-use store::state::set_isolation as put_isolation;
 use store::stored::Stored;
 use store::stored::as_maybe;
 use store::stored::given;
@@ -184,42 +179,46 @@ fn find_strategy<'a>(
 }
 
 // A new strategy.
-fn enter<'a>(files: &'a [u8], area: &'a [u8], words: &[u32], n: usize, s: State) -> Made
-    requires { ⌜ Room (now words) n s ⌝ }
-    ensures { λ r. ⌜ ((st : Store) (log : Bytes) → Ready (length (now (files .entry))) (now (files .entry) ++ now (area .entry)) (now (words .entry)) n st s → Did (length (now (files .entry))) (now (files .entry) ++ now (area .entry)) st log s r (added (modelOf (now (files .entry) ++ now (area .entry)) st s log) (wordsFrom (now (files .entry) ++ now (area .entry)) (now (words .entry)) n 1))) ⌝ }
+fn enter<'a>(files: &'a [u8], area: &'a [u8], words: &[u32], n: usize, b: Brief) -> Deed
+    requires { ⌜ Line (now words) n ⌝ }
+    ensures { λ r. ⌜ Does (now (files .entry)) (now (area .entry)) (now (words .entry)) n (λ (s : State). briefOf s ≡ b) r (λ (m : Model). added m (wordsFrom (now (files .entry) ++ now (area .entry)) (now (words .entry)) n 1)) ⌝ }
 {
-    if 32 <= s.isolations.n {
-        return full(s);
+    if 32 <= b.isolations {
+        return Deed::Full;
     }
-    let h = s.head;
-    let scope = h.scope;
+    let scope = b.scope;
     let x = isolation(files, area, words, n, scope);
-    fine(add_isolation(s, x))
+    Deed::Isolation(x)
 }
 
 // A new strategy, or one changed; `-no_isolation` is only remarked.
-pub fn set_isolation<'a>(files: &'a [u8], area: &'a [u8], words: &[u32], n: usize, s: State) -> Made
-    requires { ⌜ Room (now words) n s ⌝ }
-    ensures { λ r. ⌜ ((st : Store) (log : Bytes) → Ready (length (now (files .entry))) (now (files .entry) ++ now (area .entry)) (now (words .entry)) n st s → Did (length (now (files .entry))) (now (files .entry) ++ now (area .entry)) st log s r (isolation-command (modelOf (now (files .entry) ++ now (area .entry)) st s log) (wordsFrom (now (files .entry) ++ now (area .entry)) (now (words .entry)) n 1))) ⌝ }
+pub fn set_isolation<'a>(
+    files: &'a [u8],
+    area: &'a [u8],
+    words: &[u32],
+    n: usize,
+    b: Brief,
+    t: Isolations,
+) -> Deed
+    requires { ⌜ Line (now words) n × (t .n ≤ 32) ⌝ }
+    ensures { λ r. ⌜ Does (now (files .entry)) (now (area .entry)) (now (words .entry)) n (λ (s : State). (briefOf s ≡ b) × (s .isolations ≡ t)) r (λ (m : Model). isolation-command m (wordsFrom (now (files .entry) ++ now (area .entry)) (now (words .entry)) n 1)) ⌝ }
 {
     let named = narrow(name(files, area, words, n));
     if flag(files, area, words, n, b"-no_isolation") {
-        return warned(s, 4, named);
+        return Deed::Warning(4, named);
     }
     if !flag(files, area, words, n, b"-update") {
-        return enter(files, area, words, n, s);
+        return enter(files, area, words, n, b);
     }
     let domain = or_empty(option(files, area, words, n, b"-domain"));
-    let t = s.isolations;
     let i = find_strategy(files, area, t, named, domain);
     if t.n <= i {
-        return enter(files, area, words, n, s);
+        return enter(files, area, words, n, b);
     }
-    let h = s.head;
-    let scope = h.scope;
+    let scope = b.scope;
     let old = t.all[i];
     let x = update(files, area, words, n, scope, old);
-    fine(put_isolation(s, i, x))
+    Deed::Controlled(i, x)
 }
 
 // The strategy with the signal and the sense that the words give.
@@ -265,19 +264,19 @@ pub fn set_isolation_control<'a>(
     area: &'a [u8],
     words: &[u32],
     n: usize,
-    s: State,
-) -> Made
-    requires { ⌜ Room (now words) n s ⌝ }
-    ensures { λ r. ⌜ ((st : Store) (log : Bytes) → Ready (length (now (files .entry))) (now (files .entry) ++ now (area .entry)) (now (words .entry)) n st s → Did (length (now (files .entry))) (now (files .entry) ++ now (area .entry)) st log s r (control-command (modelOf (now (files .entry) ++ now (area .entry)) st s log) (wordsFrom (now (files .entry) ++ now (area .entry)) (now (words .entry)) n 1))) ⌝ }
+    b: Brief,
+    t: Isolations,
+) -> Deed
+    requires { ⌜ Line (now words) n × (t .n ≤ 32) ⌝ }
+    ensures { λ r. ⌜ Does (now (files .entry)) (now (area .entry)) (now (words .entry)) n (λ (s : State). (briefOf s ≡ b) × (s .isolations ≡ t)) r (λ (m : Model). control-command m (wordsFrom (now (files .entry) ++ now (area .entry)) (now (words .entry)) n 1)) ⌝ }
 {
     let named = narrow(name(files, area, words, n));
     let domain = or_empty(option(files, area, words, n, b"-domain"));
-    let t = s.isolations;
     let i = find_strategy(files, area, t, named, domain);
     if t.n <= i {
-        return warned(s, 5, named);
+        return Deed::Warning(5, named);
     }
     let old = t.all[i];
     let x = controlled(files, area, words, n, old);
-    fine(put_isolation(s, i, x))
+    Deed::Controlled(i, x)
 }

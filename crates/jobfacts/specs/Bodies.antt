@@ -1,6 +1,6 @@
 -- The bodies of an accepted job's files have together no more bytes than the job.
 -- Assumes nothing.
-use mathlib.Core.Path.{_≡_, refl, sym, ap, _∙_}
+use mathlib.Core.Path.{_≡_, refl}
 use Prim.Native.Nat.{ℕ, zero, suc, _+_, _-_, _≤_}
 use native.Mathlib.Omega.{arith}
 use mathlib.Core.Bool.{Bool, true, false, cond, _&&_}
@@ -16,7 +16,7 @@ use Rattle.text.specs.Scan.{all, any}
 use Rattle.text.specs.Numbers.{isDecimal, valueFrom}
 use Rattle.fields.specs.Fields.{isName, isPath, styleOf}
 use Rattle.joblines.specs.Job.{File, Inst, Module, Job, no-job}
-use Rattle.joblines.specs.Lines.{Read, refuse, on, Due, due-top, due-override, due-start, due-file, due-bytes, due-more, due-style, due-ports, due-decls, due-insts, due-nothing, Checked, bad, good, check, andThen, when, fields, isBody, thisModule, thisInst, portOf, declOf, connOf, fileRead, moduleRead, instRead, withFiles, orElse, firstOf, kindsDue, readLine, topLine, overrideLine, startLine, fileLine, bytesLine, moduleLine, styleLine, portLine, declLine, instLine, connLine, endLine}
+use Rattle.joblines.specs.Lines.{Read, refuse, on, Due, due-top, due-override, due-start, due-file, due-bytes, due-more, due-style, due-ports, due-decls, due-insts, due-nothing, Checked, bad, good, check, andThen, when, fields, isBody, thisModule, thisInst, portOf, declOf, connOf, fileRead, moduleRead, instRead, orElse, firstOf, kindsDue, readLine, topLine, overrideLine, startLine, fileLine, bytesLine, moduleLine, styleLine, portLine, declLine, instLine, connLine, endLine}
 use Rattle.joblines.specs.Parse.{Parsed, accepted, refused, isNothing, hasLine, lineSize, firstLine, behindLine, carryOn, lines, listed, parse}
 use Rattle.jobfacts.specs.WellFormed.{All}
 

@@ -17,7 +17,6 @@ use Rattle.jobindex.specs.declared.Header.{Header}
 use Rattle.jobindex.specs.declared.Open.{Open}
 use Rattle.jobindex.specs.Index.{bytesAt, pathAt, fileAt, nameAt, moduleRow, rows, jobOf}
 use Rattle.jobindex.specs.Rows.{rows-length, rows-map}
-use Rattle.jobsteps.specs.declared.Due.the-variants as due
 use Rattle.jobsteps.specs.declared.Step.{Step}
 use Rattle.jobsteps.specs.declared.Step.the-variants as step
 use Rattle.jobsteps.specs.State.{lineOf, Outside, Asked, Stepped, fileOn, moduleOn}

@@ -1,11 +1,11 @@
 -- Laws: the loop over the files. Assumes nothing.
-use Prim.Native.Nat.{ℕ, zero, suc, _+_, _-_, _*_, _≤_, _<_, _^_}
+use Prim.Native.Nat.{ℕ, _+_, _-_, _*_, _≤_, _<_, _^_}
 use native.Mathlib.Nat.{zero-add}
 use native.Mathlib.Numerals.{add-one}
 use native.Mathlib.Omega.{arith}
-use mathlib.Core.Path.{_≡_, refl, sym, ap, _∙_}
-use mathlib.Core.List.{List, [], _∷_, _++_}
-use lib.ListN.{length, take, drop, getD, set, length-set, length-append}
+use mathlib.Core.Path.{_≡_, refl, _∙_}
+use mathlib.Core.List.{List}
+use lib.ListN.{length, take, drop, getD, set, length-set}
 use borrow.Author.Needs.{needs}
 use Rattle.text.specs.Ascii.{Bytes}
 use Rattle.spans.specs.Area.{Wrote}
@@ -13,8 +13,8 @@ use Rattle.spans.specs.Writes.{wrote-none, wrote-two, wrote-long}
 use Rattle.tcl.specs.Join.{join}
 use Rattle.tcl.specs.Rewrites.{join-short}
 use Rattle.jobindex.specs.Index.{bodyAt}
-use Rattle.joined.specs.Joined.{bodies, bodyBytes, begin-place, length-place, placed, Room, Joined}
-use Rattle.joined.specs.Laws.{bodies-short, body-within, placed-long, placed-below}
+use Rattle.joined.specs.Joined.{bodies, placed, Room, Joined}
+use Rattle.joined.specs.Laws.{bodies-short, body-within, placed-below}
 
 -- k files are joined, up to o
 pub record Going (job files₀ nums₀ files nums : List ℕ) (n k o : ℕ) : Type 0 where

@@ -1,18 +1,14 @@
 -- Laws: the joined files, one by one, and what is kept. Assumes nothing.
-use Prim.Native.Nat.{ℕ, zero, suc, _+_, _-_, _*_, _≤_, _<_, _^_}
-use native.Mathlib.Nat.{le-trans, le-refl, zero-add}
-use native.Mathlib.Numerals.{add-one}
+use Prim.Native.Nat.{ℕ, zero, suc, _+_, _-_, _*_, _≤_, _<_}
 use native.Mathlib.Omega.{arith}
-use mathlib.Core.Path.{_≡_, refl, sym, ap, _∙_}
-use mathlib.Core.Bool.{Bool, true, false, cond}
+use mathlib.Core.Path.{_≡_, refl, _∙_}
+use mathlib.Core.Bool.{Bool, true, false}
 use mathlib.Core.List.{List, _++_, append-assoc}
 use lib.Dec.{eqb}
-use lib.ListN.{length, take, drop, getD, set, length-set, length-append, length-take, length-drop}
-use lib.Seq.{getD-set-same, getD-set-other, drop-set-lt, take-set-le, take-at, drop-at, take-append-le, drop-append-le}
+use lib.ListN.{length, take, drop, getD, set, length-set, length-append}
+use lib.Seq.{getD-set-same, getD-set-other, drop-set-lt, take-set-le, take-at, drop-at}
 use borrow.Author.Tests.{eqb-true, eqb-false}
 use Rattle.text.specs.Ascii.{Bytes}
-use Rattle.spans.specs.Area.{Wrote}
-use Rattle.spans.specs.Writes.{wrote-two}
 use Rattle.tcl.specs.Join.{joined, join}
 use Rattle.tcl.specs.Rewrites.{join-short}
 use Rattle.jobindex.specs.Index.{bodyAt}

@@ -1,11 +1,11 @@
 -- A port that is aimed at: each law is stated as a need asks it. Assumes nothing.
-use Prim.Native.Nat.{ℕ, zero, suc, _+_, _-_, _*_, _≤_, _<_, _^_, min}
+use Prim.Native.Nat.{ℕ, suc, _+_, _-_, _≤_, _<_, _^_, min}
 use native.Mathlib.Omega.{arith}
 use mathlib.Core.Path.{_≡_, refl, sym, ap, _∙_}
 use mathlib.Core.Bool.{Bool, true, false, cond, not, _||_}
-use mathlib.Core.List.{List, [], _∷_, _++_, append-assoc, append-nil}
-use mathlib.Core.Option.{Option, none, some}
-use lib.Dec.{eqb, ltb}
+use mathlib.Core.List.{List, [], _∷_, _++_}
+use mathlib.Core.Option.{none, some}
+use lib.Dec.{eqb}
 use lib.ListN.{length, length-append}
 use borrow.Author.Needs.{needs}
 use borrow.Author.Tests.{eq-eqb, ne-eqb, lt-ltb, le-ltb, not-false, eqb-true, eqb-false}
@@ -14,13 +14,12 @@ use Rattle.text.specs.Compare.{same}
 use Rattle.text.specs.Scan.{any}
 use Rattle.text.specs.Sames.{no-true}
 use Rattle.out.specs.Emit.{_▸_, emit}
-use Rattle.out.specs.Fill.{fill, filled, adds, turns, arg, pick}
+use Rattle.out.specs.Fill.{fill, turns}
 use Rattle.out.specs.Items.{each}
 use Rattle.spans.specs.Span.{_⋯_}
 use Rattle.spans.specs.declared.span.Span.{Span}
 use Rattle.names.specs.Name.{named, nameOf}
 use Rattle.names.specs.declared.name.Name.{Name}
-use Rattle.nametable.specs.Table.{Stores}
 use Rattle.jobindex.specs.declared.Span.{Span as Part}
 use Rattle.refs.specs.Text.{noName, textOf}
 use Rattle.refs.specs.declared.Ref.{Ref}
@@ -36,9 +35,9 @@ use Rattle.isolated.specs.Table.{Fits, portRow, portPut, portRef, netRef, Kept,
 use Rattle.isolated.specs.Others.{Other}
 use Rattle.isolated.specs.Laws.{kept-next, kept-none, kept-long, put-kept}
 use Rattle.isolated.specs.declared.Isolated.{Isolated}
-use Rattle.keep.specs.Gains.{Aim, Gain, stay, notPlain, gainFrom, gainOf}
+use Rattle.keep.specs.Gains.{notPlain, gainFrom, gainOf}
 use Rattle.keep.specs.Held.{heldSpan, heldName, heldPart, part-held}
-use Rattle.keep.specs.Covered.{more, counted, refusedCover, countedCover, warnedCover, Ready, Remarked, KeepSeen, saidBy, withNet, aimOf, Answer}
+use Rattle.keep.specs.Covered.{more, counted, refusedCover, countedCover, warnedCover, Ready, Remarked, KeepSeen, withNet, aimOf, Answer}
 use Rattle.keep.specs.Turns.{answer-stay, said-none}
 use Rattle.keep.specs.Warned.{warned-line, not-warned}
 use Rattle.keep.specs.declared.Cover.{Cover}

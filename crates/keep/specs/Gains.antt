@@ -1,14 +1,14 @@
 -- What a strategy gains from the ports that it aims at: ports that it keeps, lines of the report, and warnings. Assumes nothing.
-use Prim.Native.Nat.{ℕ, suc, _+_, _≤_}
+use Prim.Native.Nat.{ℕ, _+_, _≤_}
 use native.Mathlib.Omega.{arith}
 use mathlib.Core.Path.{_≡_, refl, sym, ap, _∙_}
 use mathlib.Core.Bool.{Bool, true, false, cond}
 use mathlib.Core.List.{List, [], _∷_, _++_, append-assoc, append-nil}
 use mathlib.Core.Option.{Option, none, some}
 use lib.ListN.{length, length-append}
-use Rattle.text.specs.Ascii.{Bytes, ascii}
+use Rattle.text.specs.Ascii.{Bytes}
 use Rattle.out.specs.Fill.{format2}
-use Rattle.design.specs.Lists.{onSome, isIn}
+use Rattle.design.specs.Lists.{isIn}
 use Rattle.isolated.specs.Table.{Kept, kept, keysOf}
 
 -- a port that is aimed at: its key, and its net below the scope where it has a plain one

@@ -1,6 +1,6 @@
 -- Laws: what is gained, turn by turn. What the whole comes to is what was gained so far and what is left; more ports than allowed stay too many.
 -- Assumes nothing.
-use Prim.Native.Nat.{ℕ, zero, suc, _+_, _≤_, _<_, min}
+use Prim.Native.Nat.{ℕ, suc, _+_, _≤_, _<_, min}
 use native.Mathlib.Omega.{arith}
 use mathlib.Core.Path.{_≡_, refl, sym, ap, _∙_}
 use mathlib.Core.Bool.{Bool, true, false, cond}
@@ -15,7 +15,7 @@ use Rattle.out.specs.Items.{each}
 use Rattle.texts.specs.Texts.{warningLine}
 use Rattle.texts.specs.Laws.{each-append}
 use Rattle.isolated.specs.Table.{Kept, keptIn}
-use Rattle.keep.specs.Gains.{Gain, stay, behind, behind-stay, behind-assoc}
+use Rattle.keep.specs.Gains.{Gain, stay, behind, behind-assoc}
 use Rattle.keep.specs.Covered.{more, counted, Ready, saidBy, said, Answer}
 use Rattle.keep.specs.declared.Cover.{Cover}
 

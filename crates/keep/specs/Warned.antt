@@ -1,7 +1,7 @@
 -- Laws: a warning's line, by the template of its text; a warning that is not asked for. Assumes nothing.
 use Prim.Native.Nat.{ℕ}
 use mathlib.Core.Path.{_≡_, refl, sym, ap, _∙_}
-use mathlib.Core.List.{List, [], _∷_, _++_, append-assoc}
+use mathlib.Core.List.{[], _∷_, _++_, append-assoc}
 use mathlib.Core.Bool.{Bool, not, true}
 use Rattle.text.specs.Ascii.{Bytes, ascii}
 use Rattle.out.specs.Fill.{adds, turns, filled, fill, arg, pick}

@@ -10,7 +10,7 @@ ghost use Rattle.refs.specs.Text.{textOf};
 ghost use Rattle.isolated.specs.Table.{Fits, portRow, portRef, keptIn, keysOf};
 ghost use Rattle.keep.specs.Gains.{notPlain, gainOf};
 ghost use Rattle.keep.specs.Held.{heldSpan, heldName, heldPart};
-ghost use Rattle.keep.specs.Covered.{more, refusedCover, countedCover, warnedCover, Ready, Remarked, KeepSeen, withNet, aimOf, Answer};
+ghost use Rattle.keep.specs.Covered.{more, refusedCover, warnedCover, Ready, Remarked, KeepSeen, withNet, aimOf, Answer};
 use actual::Net;
 use format::arg::name as name_arg;
 use format::arg::wrapped;

@@ -1,10 +1,9 @@
 -- What the exported functions answer in numbers, and a template with every kind of place. Assumes nothing.
 use Prim.Native.Nat.{ℕ}
-use mathlib.Core.List.{List, []}
-use Rattle.text.specs.Ascii.{Bytes, ascii}
+use Rattle.text.specs.Ascii.{Bytes}
 use Rattle.text.specs.declared.number.Num.{Num}
 use Rattle.text.specs.declared.number.Num.the-variants.{Of, Bad}
-use Rattle.out.specs.Fill.{fill, format3}
+use Rattle.out.specs.Fill.{format3}
 
 -- the number, and 2 to the 32nd for none: more than any bound
 abbrev pub toNumber : Num → ℕ

@@ -1,15 +1,14 @@
 -- A scan for LF that passes over several bytes at a time. Assumes nothing.
 use mathlib.Core.Path.{_≡_, refl, ap, _∙_, sym}
-use Prim.Native.Nat.{ℕ, zero, suc, _+_, _-_, _<_, _≤_}
+use Prim.Native.Nat.{ℕ, _+_, _-_, _<_, _≤_}
 use native.Mathlib.Omega.{arith}
-use mathlib.Core.Bool.{Bool, true, false, not, _&&_}
-use mathlib.Core.List.{List, [], _∷_}
+use mathlib.Core.Bool.{Bool, false, not, _&&_}
 use lib.ListN.{length, drop, getD}
 use lib.Dec.{eqb}
 use borrow.Author.Needs.{needs}
 use borrow.Author.Tests.{not-true, not-false}
 use Rattle.text.specs.Ascii.{Bytes, byte}
-use Rattle.text.specs.Scan.{before, upTo, is, Ends}
+use Rattle.text.specs.Scan.{upTo, is, Ends}
 use Rattle.text.specs.Scans.{before-step}
 use Rattle.text.specs.Sames.{both}
 use Rattle.lines.specs.Cursors.{Clear}

@@ -3,16 +3,15 @@
 use mathlib.Core.Path.{_≡_, refl, ap, _∙_, sym}
 use Prim.Native.Nat.{ℕ, _+_, _-_, _<_, _≤_}
 use native.Mathlib.Omega.{arith}
-use mathlib.Core.Bool.{Bool, true, false, not, cond}
-use mathlib.Core.List.{List, [], _∷_}
+use mathlib.Core.Bool.{Bool, true, false, not}
+use mathlib.Core.List.{[]}
 use mathlib.Core.Option.{Option, none, some}
 use lib.ListN.{length, take, drop, length-drop}
 use lib.Seq.{take-all}
 use borrow.Author.Needs.{needs}
 use borrow.Author.Tests.{not-true, not-false}
-use Rattle.text.specs.Ascii.{Bytes, ascii, byte}
+use Rattle.text.specs.Ascii.{Bytes, ascii}
 use Rattle.text.specs.Compare.{startsWith}
-use Rattle.text.specs.Scan.{upTo, Ends}
 use Rattle.text.specs.Sames.{no-true}
 use Rattle.fields.specs.Fields.{ansi}
 use Rattle.fields.specs.Meant.{isSome}
@@ -30,19 +29,16 @@ use Rattle.joblines.specs.declared.form.InstForm.{InstForm}
 use Rattle.joblines.specs.declared.form.InstForm.the-variants as instf
 use Rattle.joblines.specs.declared.form.ConnForm.{ConnForm}
 use Rattle.joblines.specs.declared.form.ConnForm.the-variants as connf
-use Rattle.joblines.specs.Sections.{connsStep, linesIn, portHere, declHere, instHere, connHere, gather, instsOf, connsOf, portsIn, declsIn, instsIn, connsIn}
-use Rattle.jobindex.specs.Index.{bytesAt, section}
+use Rattle.joblines.specs.Sections.{connsStep, portHere, declHere, instHere, connHere, gather, instsOf, connsOf, portsIn, declsIn, instsIn, connsIn}
+use Rattle.jobindex.specs.Index.{section}
 use Rattle.jobindex.specs.declared.Span.{Span}
-use Rattle.lines.specs.declared.PortAt.{PortAt}
 use Rattle.lines.specs.declared.PortAt.the-variants as port
-use Rattle.lines.specs.declared.DeclAt.{DeclAt}
 use Rattle.lines.specs.declared.DeclAt.the-variants as decl
-use Rattle.lines.specs.declared.InstAt.{InstAt}
 use Rattle.lines.specs.declared.InstAt.the-variants as inst
 use Rattle.lines.specs.declared.ConnAt.{ConnAt}
 use Rattle.lines.specs.declared.ConnAt.the-variants as conn
-use Rattle.lines.specs.Cursors.{Cut, Stepped, spanned, spanIn, connPlaced, connsLeft, ConnOn, PortSeen, DeclSeen, InstSeen, ConnSeen}
-use Rattle.lines.specs.Steps.{Passed, passed-none, passed-on, section-none, span-is, value-short, cut-empty, cut-last, cut-room, cut-here}
+use Rattle.lines.specs.Cursors.{Cut, Stepped, spanned, spanIn, connPlaced, PortSeen, DeclSeen, InstSeen, ConnSeen}
+use Rattle.lines.specs.Steps.{Passed, passed-none, passed-on, span-is, value-short, cut-empty, cut-last, cut-room, cut-here}
 
 pub ruleset cuts = (needs, cut-empty, cut-last, cut-room, cut-here)
 

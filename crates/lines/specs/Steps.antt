@@ -2,20 +2,18 @@
 -- Assumes nothing.
 use mathlib.Core.Path.{_≡_, refl, ap, _∙_, sym}
 use Prim.Native.Nat.{ℕ, zero, suc, _+_, _-_, _<_, _≤_}
-use native.Mathlib.Nat.{suc-add, add-zero, sub-zero}
-use native.Mathlib.Numerals.{add-one}
+use native.Mathlib.Nat.{suc-add, sub-zero}
 use native.Mathlib.Omega.{arith}
 use mathlib.Core.Bool.{Bool, true, false, cond}
-use mathlib.Core.List.{List, [], _∷_, _++_}
-use lib.ListN.{length, take, drop, getD, length-take, length-drop, take-append-drop, drop-of-length-le}
-use lib.Dec.{eqb, ltb, leb}
-use lib.Seq.{take-take, drop-drop, take-all, length-take-le}
-use borrow.Author.Tests.{lt-ltb, le-ltb, eqb-true, leb-true, leb-false}
+use mathlib.Core.List.{[], _∷_, _++_}
+use lib.ListN.{length, take, drop, length-take, length-drop, take-append-drop}
+use lib.Dec.{eqb, leb}
+use lib.Seq.{take-take, drop-drop, length-take-le}
+use borrow.Author.Tests.{le-ltb, eqb-true, leb-true, leb-false}
 use mir.Val.{Fits}
 use mir.Syntax.{w64}
 use Rattle.text.specs.Ascii.{Bytes, byte}
 use Rattle.text.specs.Scan.{before, upTo, Ends}
-use Rattle.text.specs.Scans.{before-le}
 use Rattle.text.specs.Lists.{drop-take, take-none}
 use Rattle.joblines.specs.Sections.{linesIn, gather, portsIn}
 use Rattle.joblines.specs.Scanned.{Whole, whole-none, whole-append, whole-line, lines-none, lines-at}

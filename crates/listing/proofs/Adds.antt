@@ -1,23 +1,19 @@
 -- A path looked for among the rows of the list, and put behind them. Assumes nothing.
-use Prim.Native.Nat.{ℕ, zero, suc, _+_, _-_, _%_, _<_, _≤_, _^_}
+use Prim.Native.Nat.{ℕ, suc, _+_, _-_, _%_, _<_, _≤_, _^_}
 use mathlib.Core.Path.{_≡_, refl, sym, ap, _∙_}
-use mathlib.Core.Bool.{Bool, true, false, cond, _||_}
+use mathlib.Core.Bool.{Bool, true, false, _||_}
 use mathlib.Core.List.{List, [], _∷_, _++_, append-assoc}
 use native.Mathlib.Omega.{arith}
-use native.Mathlib.Nat.{add-zero, add-suc, suc-add}
 use native.Mathlib.Numerals.{add-one}
-use lib.Dec.{ltb}
-use lib.ListN.{length, take, drop, getD, set, length-append, length-take, length-set, drop-of-length-le}
-use lib.Seq.{drop-cons, getD-take, length-take-le, take-suc-set, take-set-le, take-at, drop-at, take-take, sets, sets-eq, take-append-le, drop-append-le}
+use lib.ListN.{length, take, drop, getD, set, length-append, length-set, drop-of-length-le}
+use lib.Seq.{getD-take, length-take-le, take-suc-set, take-set-le}
 use borrow.Author.Needs.{needs}
-use borrow.Author.Tests.{lt-ltb}
 use Rattle.text.specs.Ascii.{Bytes}
 use Rattle.text.specs.Compare.{same}
 use Rattle.text.specs.Lists.{here}
 use Rattle.text.specs.Scan.{any}
 use Rattle.text.specs.Sames.{no-true}
-use Rattle.text.specs.Classes.{dotOf}
-use Rattle.out.specs.Emit.{Out, _▸_, emit1, emit}
+use Rattle.out.specs.Emit.{_▸_, emit}
 use Rattle.names.specs.Name.{nameOf}
 use Rattle.names.specs.declared.name.Name.{Name}
 use Rattle.design.specs.Lists.{isIn, addNew}
@@ -28,7 +24,7 @@ use Rattle.pathnumber.specs.Number.{number, number-on}
 use Rattle.listing.specs.declared.Walk.{Walk}
 use Rattle.listing.specs.Flags.{flag-low, flagged-on}
 use Rattle.listing.specs.Written.{front-kept, piece-there}
-use Rattle.listing.specs.Listing.{cut, pathsOf, flag-count, flagPlace, Flagged, Ascends, cost, cost-on, past, Within, Ready, NewGiven, Answer, ascends-on, cut-same, cut-on, cut-length}
+use Rattle.listing.specs.Listing.{cut, pathsOf, flagPlace, Flagged, cost, cost-on, past, Within, Ready, NewGiven, Answer, ascends-on, cut-same, cut-on, cut-length}
 use Rattle.walk.specs.Retained.{length-dotted}
 
 -- ---- among the rows

@@ -1,19 +1,16 @@
 -- Laws: the flag of a path that is added. Assumes nothing.
-use Prim.Native.Nat.{ℕ, _+_, _%_, _<_, _≤_}
-use mathlib.Core.Path.{_≡_, refl, sym, ap, _∙_}
-use mathlib.Core.Bool.{Bool, true, false}
-use mathlib.Core.Logic.{_⊎_, inl, inr, ⊎-elim}
-use mathlib.Core.List.{List, [], _∷_, _++_, List·Memᴰ as Mem, List·Memᴰ·append-cases as append-cases, List·Memᴰ·eq-of-singleton as eq-single}
+use Prim.Native.Nat.{ℕ, _+_, _<_, _≤_}
+use mathlib.Core.Path.{_≡_, refl, ap, _∙_}
+use mathlib.Core.Bool.{false}
+use mathlib.Core.Logic.{_⊎_, ⊎-elim}
+use mathlib.Core.List.{List, [], _∷_, _++_, List·Memᴰ·append-cases as append-cases, List·Memᴰ·eq-of-singleton as eq-single}
 use native.Mathlib.Omega.{arith}
-use lib.Dec.{eqb}
 use lib.ListN.{length, set, getD, length-set}
 use lib.Seq.{getD-set-same, getD-set-other}
-use borrow.Author.Tests.{eqb-true, eqb-false}
 use Rattle.text.specs.Ascii.{Bytes}
 use Rattle.text.specs.Scan.{any}
 use Rattle.design.specs.Lists.{isIn}
 use Rattle.design.specs.Laws.{isIn-out, out-isIn}
-use Rattle.pathnumber.specs.Number.{number}
 use Rattle.walk.specs.Limits.{most-paths}
 use Rattle.listing.specs.Listing.{flag-count, flagPlace, Flagged}
 

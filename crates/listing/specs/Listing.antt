@@ -1,11 +1,11 @@
 -- How a text and its ends stand for a list of paths, how far a walk has come, and what its answer says: a refusal exactly where a limit is passed, else the paths.
 -- Assumes nothing.
-use Prim.Native.Nat.{ℕ, zero, suc, _+_, _-_, _%_, _≤_, _<_, _^_}
+use Prim.Native.Nat.{ℕ, suc, _+_, _-_, _%_, _≤_, _<_, _^_}
 use mathlib.Core.Path.{_≡_, refl, sym, ap, _∙_}
-use mathlib.Core.Bool.{Bool, true, false, cond}
+use mathlib.Core.Bool.{true, false}
 use mathlib.Core.List.{List, [], _∷_, _++_}
 use native.Mathlib.Omega.{arith}
-use lib.ListN.{length, take, drop, getD, length-append}
+use lib.ListN.{length, take, drop, getD}
 use lib.Seq.{take-take}
 use Rattle.text.specs.Ascii.{Bytes}
 use Rattle.text.specs.Lists.{drop-take}

@@ -1,12 +1,12 @@
 -- Laws: a walk, turn by turn. What the whole comes to is what was listed so far and what is left; a limit that is passed stays passed.
 -- Assumes nothing.
-use Prim.Native.Nat.{ℕ, _+_, _≤_, _<_}
+use Prim.Native.Nat.{ℕ, _+_, _≤_}
 use mathlib.Core.Path.{_≡_, refl, sym, ap, _∙_}
 use mathlib.Core.Bool.{Bool, true, false, cond}
 use mathlib.Core.List.{List, [], _∷_, _++_}
 use native.Mathlib.Omega.{arith}
 use native.Mathlib.Nat.{add-zero}
-use lib.ListN.{length, take, length-append}
+use lib.ListN.{length, length-append}
 use Rattle.text.specs.Ascii.{Bytes}
 use Rattle.text.specs.Sames.{no-true}
 use Rattle.design.specs.Lists.{isIn, addNew, addAll}

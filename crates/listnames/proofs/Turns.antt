@@ -1,10 +1,10 @@
 -- Loops over the entries of a value, and over the names of a table: laws as the needs ask them. Assumes nothing.
-use Prim.Native.Nat.{ℕ, zero, suc, _+_, _-_, _*_, _≤_, _<_, _^_, max}
+use Prim.Native.Nat.{ℕ, suc, _+_, _-_, _*_, _≤_, _<_, _^_}
 use native.Mathlib.Omega.{arith}
 use mathlib.Core.Path.{_≡_, refl, sym, ap, _∙_}
-use mathlib.Core.Bool.{Bool, true, false, cond}
+use mathlib.Core.Bool.{Bool, true, false}
 use mathlib.Core.List.{List, [], _∷_, _++_, map, append-assoc, append-nil}
-use lib.ListN.{length, take, drop, length-set, length-map}
+use lib.ListN.{length, drop, length-set, length-map}
 use Rattle.text.specs.Ascii.{Bytes}
 use Rattle.out.specs.Emit.{Out, emit}
 use Rattle.out.specs.Items.{joined, rest, unless, join-next, join-done}
@@ -15,16 +15,16 @@ use Rattle.tcl.specs.Lists.{list}
 use Rattle.entries.specs.Entry.{entryBytes, entriesLeft}
 use Rattle.entries.specs.Together.{list-is}
 use Rattle.entries.specs.View.{Finds}
-use Rattle.entries.specs.Loops.{entries-none, entries-first, one-more, entry-less}
+use Rattle.entries.specs.Loops.{entries-none, entries-first, one-more}
 use Rattle.entries.specs.declared.item.Item.{Item}
 use Rattle.entries.specs.declared.item.Item.the-variants.{Entry, None}
 use Rattle.names.specs.Scoped.{scoped}
-use Rattle.names.specs.Name.{named, nameOf, nameEnd, entryOf, Makes}
+use Rattle.names.specs.Name.{named, nameOf, entryOf, Makes}
 use Rattle.names.specs.declared.name.Name.{Name}
 use Rattle.names.specs.Frame.{alone-is}
 use Rattle.nametable.specs.Table.{rowName, rowPut, namesFrom, tableNames, Stores, put-names, names-next, names-none}
-use Rattle.listnames.specs.Lists.{formOf, Rooms, Reads, Listed}
-use Rattle.listnames.specs.Inside.{inside-fits, inside-ends, inside-is}
+use Rattle.listnames.specs.Lists.{Rooms, Reads, Listed}
+use Rattle.listnames.specs.Inside.{inside-fits, inside-ends, inside-formed}
 
 -- ---- from what is asked of a value
 
@@ -118,20 +118,20 @@ module _ (mem text : Bytes) (table₀ : List ℕ) (n : ℕ) (table : List ℕ) (
     pub below-end : r ≡ None → Listed mem table₀ n (map (scoped (bytes mem scope)) (list text)) table k
     below-end h = lists-end (scoped (bytes mem scope)) mem text table₀ n table k at first inv r f h
 
-    pub below-step : (s : Span) (q : Bool) (e : ℕ) (w : Span) (form : ℕ) (x : Name) (table′ : List ℕ) → r ≡ Entry s q e → table′ ≡ rowPut table k x → Makes mem scope w form x → w ≡ (v .at + s .at) ⋯ s .len → form ≡ formOf q → Lists (scoped (bytes mem scope)) mem text table₀ n table′ (k + 1) e false
+    pub below-step : (s : Span) (q : Bool) (e : ℕ) (w : Span) (form : ℕ) (x : Name) (table′ : List ℕ) → r ≡ Entry s q e → table′ ≡ rowPut table k x → Makes mem scope w form x → w ≡ (v .at + s .at) ⋯ s .len → entryOf form (bytes text s) ≡ entryBytes q (bytes text s) → Lists (scoped (bytes mem scope)) mem text table₀ n table′ (k + 1) e false
     below-step s q e w form x table′ h et m ew ef =
         let room = row-room (scoped (bytes mem scope)) mem text table₀ n table k at first inv r f s q e h scope v reads in
-        let is : nameOf mem x ≡ scoped (bytes mem scope) (entryBytes q (bytes text s)) = m .is ∙ rw ew (ap (scoped (bytes mem scope)) (inside-is mem v text (reads .is) (entriesLeft first (drop at text)) r f s q e h form ef)) in
+        let is : nameOf mem x ≡ scoped (bytes mem scope) (entryBytes q (bytes text s)) = m .is ∙ rw ew (ap (scoped (bytes mem scope)) (inside-formed mem v text (reads .is) (entriesLeft first (drop at text)) r f s q e h form ef)) in
         rw et (lists-step (scoped (bytes mem scope)) mem text table₀ n table k at first inv r f s q e h x room is)
 
   module _ (inv : Lists (λ (b : Bytes). b) mem text table₀ n table k at first) where
     pub plain-end : r ≡ None → Listed mem table₀ n (list text) table k
     plain-end h = rw (map-same (list text)) at (lists-end (λ (b : Bytes). b) mem text table₀ n table k at first inv r f h)
 
-    pub plain-step : (s : Span) (q : Bool) (e : ℕ) (w : Span) (form : ℕ) (x : Name) (table′ : List ℕ) → r ≡ Entry s q e → table′ ≡ rowPut table k x → x ≡ named (0 ⋯ 0) false w form → w ≡ (v .at + s .at) ⋯ s .len → form ≡ formOf q → Lists (λ (b : Bytes). b) mem text table₀ n table′ (k + 1) e false
+    pub plain-step : (s : Span) (q : Bool) (e : ℕ) (w : Span) (form : ℕ) (x : Name) (table′ : List ℕ) → r ≡ Entry s q e → table′ ≡ rowPut table k x → x ≡ named (0 ⋯ 0) false w form → w ≡ (v .at + s .at) ⋯ s .len → entryOf form (bytes text s) ≡ entryBytes q (bytes text s) → Lists (λ (b : Bytes). b) mem text table₀ n table′ (k + 1) e false
     plain-step s q e w form x table′ h et ex ew ef =
         let room = row-room (λ (b : Bytes). b) mem text table₀ n table k at first inv r f s q e h scope v reads in
-        let is : nameOf mem x ≡ entryBytes q (bytes text s) = rw ex (alone-is mem w form ∙ rw ew (inside-is mem v text (reads .is) (entriesLeft first (drop at text)) r f s q e h form ef)) in
+        let is : nameOf mem x ≡ entryBytes q (bytes text s) = rw ex (alone-is mem w form ∙ rw ew (inside-formed mem v text (reads .is) (entriesLeft first (drop at text)) r f s q e h form ef)) in
         rw et (lists-step (λ (b : Bytes). b) mem text table₀ n table k at first inv r f s q e h x room is)
 
 -- ---- the names of a table, joined

@@ -31,3 +31,7 @@ module _ (mem : Bytes) (v : Span) (text : Bytes) (is : text ≡ bytes mem v) (t 
   inside-is form h =
       let y : bytes (bytes mem v) s ≡ bytes text s = ap (λ (b : Bytes). bytes b s) (sym is) in
       rw h (form-is q (bytes mem ((v .at + s .at) ⋯ s .len)) ∙ ap (entryBytes q) (inner mem v s ends-in ∙ y))
+
+  -- in any form that reads it so
+  pub inside-formed : (form : ℕ) → entryOf form (bytes text s) ≡ entryBytes q (bytes text s) → entryOf form (bytes mem ((v .at + s .at) ⋯ s .len)) ≡ entryBytes q (bytes text s)
+  inside-formed form h = ap (entryOf form) (inner mem v s ends-in ∙ ap (λ (b : Bytes). bytes b s) (sym is)) ∙ h

@@ -7,6 +7,8 @@ ghost use Rattle.out.specs.Emit.{_▸_, emit};
 ghost use Rattle.out.specs.Items.{joined};
 ghost use Rattle.spans.specs.Span.{_⋯_, bytes};
 ghost use Rattle.tcl.specs.Lists.{list};
+ghost use Rattle.entries.specs.Entry.{entryBytes};
+ghost use Rattle.names.specs.Name.{entryOf};
 ghost use Rattle.model.specs.Commands.{nth as Commands·nth};
 ghost use Rattle.names.specs.Scoped.{scoped as Scoped·scoped};
 ghost use Rattle.nametable.specs.Table.{tableNames};
@@ -23,6 +25,8 @@ use nametable::put_row;
 use nametable::row;
 use out::items::unless;
 use spans::span::Span;
+use text::part::part;
+use text::scan::find;
 
 // The form of an entry of a list.
 pub fn form(quoted: bool) -> u8
@@ -32,6 +36,17 @@ pub fn form(quoted: bool) -> u8
         return 2;
     }
     1
+}
+
+// The form of an entry of a text: without a backslash it is as it stands.
+fn form_in(text: &[u8], s: Span, quoted: bool) -> u8
+    ensures { λ r. ⌜ entryOf r (bytes (now (text .entry)) s) ≡ entryBytes quoted (bytes (now (text .entry)) s) ⌝ }
+{
+    let w = part(text, s.at, s.len);
+    if find(w, 0, b'\\') < w.len() {
+        return form(quoted);
+    }
+    0
 }
 
 // Where an entry of a value lies in memory.
@@ -65,7 +80,7 @@ fn put_below(
         match next_entry(text, at, first) {
             Item::None => return k,
             Item::Entry(s, q, e) => {
-                let name = scoped(files, area, scope, inside(v, s), form(q));
+                let name = scoped(files, area, scope, inside(v, s), form_in(text, s, q));
                 put_row(table, k, name);
                 k += 1;
                 at = e;
@@ -110,7 +125,7 @@ fn put_entries(
         match next_entry(text, at, first) {
             Item::None => return k,
             Item::Entry(s, q, e) => {
-                let name = alone(inside(v, s), form(q));
+                let name = alone(inside(v, s), form_in(text, s, q));
                 put_row(table, k, name);
                 k += 1;
                 at = e;
@@ -134,9 +149,10 @@ pub fn nth<'a>(files: &'a [u8], area: &'a [u8], v: Span, k: usize) -> Name
     requires { ⌜ Whole (length (now files)) v ⌝ }
     ensures { λ r. ⌜ Known (now (files .entry) ++ now (area .entry)) (Commands·nth k (list (bytes (now (files .entry) ++ now (area .entry)) v))) (v .at + v .len) r ⌝ }
 {
-    match entry(value(files, area, v), k) {
+    let text = value(files, area, v);
+    match entry(text, k) {
         Item::None => alone(Span { at: 0, len: 0 }, 0),
-        Item::Entry(s, q, _) => alone(inside(v, s), form(q)),
+        Item::Entry(s, q, _) => alone(inside(v, s), form_in(text, s, q)),
     }
 }
 
@@ -145,9 +161,10 @@ pub fn nth_below<'a>(files: &'a [u8], area: &'a [u8], scope: Span, v: Span, k: u
     requires { ⌜ Whole (length (now files)) v ⌝ }
     ensures { λ r. ⌜ Known (now (files .entry) ++ now (area .entry)) (nthBelow (bytes (now (files .entry) ++ now (area .entry)) scope) k (list (bytes (now (files .entry) ++ now (area .entry)) v))) (max (scope .at + scope .len) (v .at + v .len)) r ⌝ }
 {
-    match entry(value(files, area, v), k) {
+    let text = value(files, area, v);
+    match entry(text, k) {
         Item::None => alone(Span { at: 0, len: 0 }, 0),
-        Item::Entry(s, q, _) => scoped(files, area, scope, inside(v, s), form(q)),
+        Item::Entry(s, q, _) => scoped(files, area, scope, inside(v, s), form_in(text, s, q)),
     }
 }
 

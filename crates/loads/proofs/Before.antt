@@ -1,59 +1,61 @@
 -- Laws: a load before it reads its file, and behind it. Assumes nothing.
-use Prim.Native.Nat.{ℕ, zero, suc, _+_, _-_, _*_, _≤_, _<_, _^_}
+use Prim.Native.Nat.{ℕ, zero, suc, _+_, _-_, _≤_, _<_}
 use native.Mathlib.Omega.{arith}
 use native.Mathlib.Nat.{add-zero}
 use mathlib.Core.Path.{_≡_, refl, sym, ap, _∙_}
-use mathlib.Core.Bool.{Bool, true, false, cond, _&&_}
-use mathlib.Core.List.{List, [], _∷_, _++_}
+use mathlib.Core.Bool.{Bool, true, false, cond}
+use mathlib.Core.List.{List, _++_}
 use mathlib.Core.Option.{Option, none, some}
 use lib.Dec.{leb}
-use lib.ListN.{length, take, drop, length-take}
+use lib.ListN.{length, take, drop}
 use lib.Seq.{length-take-le}
 use borrow.Author.Needs.{needs}
 use borrow.Author.Tests.{leb-true}
 use Rattle.text.specs.Ascii.{Bytes, ascii}
 use Rattle.text.specs.Scan.{all}
 use Rattle.text.specs.Sames.{both}
-use Rattle.spans.specs.Span.{bytes, pairs, strings}
-use Rattle.spans.specs.Reach.{lastOf, reach}
+use Rattle.spans.specs.Span.{bytes}
 use Rattle.spans.specs.declared.span.Span.{Span}
 use Rattle.tcl.specs.Arguments.{optionOf, nameOf}
-use Rattle.tcl.specs.Join.{join}
 use Rattle.tcl.specs.Commands.{commands}
 use Rattle.args.specs.View.{wordsFrom, Reads}
 use Rattle.joblines.specs.Job.{File}
-use Rattle.jobindex.specs.Index.{pathAt, bodyAt, fileAt, rows}
+use Rattle.jobindex.specs.Index.{pathAt}
 use Rattle.model.specs.Records.{Model, with-scope}
 use Rattle.model.specs.Scope.{entered}
 use Rattle.model.specs.Names.{load-upf}
 use Rattle.model.specs.Within.{Counted, total}
-use Rattle.read.specs.Reading.{Reading, done, refused, restored, joinedPath, fileNamed, readBody, readFile, readCommands}
+use Rattle.read.specs.Reading.{Reading, refused, restored, joinedPath, fileNamed, readBody, readFile}
 use Rattle.store.specs.Strings.{string}
 use Rattle.store.specs.View.{modelOf}
-use Rattle.store.specs.Rows.{storeOf}
-use Rattle.store.specs.Added.{scope-set, top-set}
 use Rattle.store.specs.declared.stored.Maybe.{Maybe}
 use Rattle.store.specs.declared.stored.Maybe.the-variants.{Not, Given}
 use Rattle.store.specs.declared.stored.Stored.{Stored}
+use Rattle.store.specs.declared.state.Head.{Head}
 use Rattle.store.specs.declared.state.State.{State}
 use Rattle.scopes.specs.declared.go.Out.{Out}
-use Rattle.scopes.specs.Moves.{scopeFits, Line, In, Stays, Moves, Same, Enters}
-use Rattle.joined.specs.Joined.{joinedAt}
+use Rattle.scopes.specs.declared.go.Place.{Place}
+use Rattle.scopes.specs.declared.go.Went.{Went as Scopes·Went}
+use Rattle.scopes.specs.Moves.{scopeFits, placeOf as Scopes·placeOf, outOf, In, Moves, Same, Enters, Shifts, Leads}
+use Rattle.scopes.specs.States.{enters-at}
 use Rattle.filepaths.specs.Paths.{placeOf, none-named, one-named, one-path, place-below}
-use Rattle.held.specs.Held.{memOf, modelAt, countedOf, Lends, Held, Worded}
+use Rattle.held.specs.Held.{memOf, modelAt, countedOf, Lends, Held}
 use Rattle.loads.specs.declared.Load.{Load}
-use Rattle.loads.specs.Steps.{lineAt, stepFrom, loadAt, filesIn, fileReads, Texts}
-use Rattle.loads.specs.Loads.{restored-by, Restores, Loading, Refuses, Opens, Loaded}
-use Rattle.loads.specs.Scoped.{line-is, words-grow, scoping, in-held, in-model, in-counted, in-log, still-held, scope-within, now-within, far, cond-is}
+use Rattle.loads.specs.Steps.{lineAt, stepFrom, loadAt, filesIn, fileReads}
+use Rattle.loads.specs.Loads.{headBack, loadOf, Asked, Loading, Loaded}
+use Rattle.loads.specs.Scoped.{line-is, words-grow, in-held, in-model, in-counted, in-log, still-held, scope-within, now-within, far, cond-is}
 
--- ---- behind a load
-pub restores-not : (m s u : State) → u ≡ scope-set s (m .head .scope) → m .head .top ≡ Not → Restores m s u
-restores-not m s u e h = e ∙ rw h
+-- ---- the heads behind a load
+head-is : (r : Head) (x : Stored) (t : Maybe) → r .scope ≡ x → r .top ≡ t → r ≡ record { scope = x; top = t }
+head-is r x t p q = rw (← p, ← q)
 
-pub restores-given : (m s u r : State) (t : Stored) → u ≡ scope-set s (m .head .scope) → m .head .top ≡ Given t → r ≡ top-set u (Given t) → Restores m s r
-restores-given m s u r t e h g = g ∙ rw (e, h)
+pub back-not : (h g r : Head) → h .top ≡ Not → r .scope ≡ h .scope → r .top ≡ g .top → r ≡ headBack h g
+back-not h g r e p q = rw e (head-is r (h .scope) (g .top) p q)
 
-pub ruleset restores = (needs, restores-not, restores-given)
+pub back-given : (h g r : Head) (t : Stored) → h .top ≡ Given t → r .scope ≡ h .scope → r .top ≡ Given t → r ≡ headBack h g
+back-given h g r t e p q = rw e (head-is r (h .scope) (Given t) p q)
+
+pub ruleset backs = (needs, back-not, back-given)
 
 -- ---- loads
 cond-true : (b : Bool) (x y : Reading) → b ≡ true → cond b x y ≡ x
@@ -86,9 +88,6 @@ module _ (job files area nums words : List ℕ) (count n k left : ℕ) (s : Stat
 
   abbrev counts : Bytes → Counted
   counts x = record { commands = s .count .commands; substituted = s .count .substituted; scopes = s .count .scopes + length x; entries = s .count .entries }
-
-  pub before-line : Line files area words n s
-  before-line = scoping files area nums 1 s (v .held) words n (v .worded)
 
   scope-is : (text : Bytes) → m text .scope ≡ string (memOf files area s) (s .head .scope)
   unfolding modelOf
@@ -152,11 +151,8 @@ module _ (job files area nums words : List ℕ) (count n k left : ℕ) (s : Stat
     went none e g z = went-same e g
     went (some w) e g z = went-by w e (scopeFits (s .count .scopes) (target w)) refl g z
 
-    abbrev out : Out → ℕ → Load
-    out o f = record { out = o; file = f }
-
     -- the scope is past its limits
-    over-by : (w : Bytes) → optionOf (ascii "-scope") ws ≡ some w → (b : Bool) → scopeFits (s .count .scopes) (target w) ≡ b → Moves files area area′ s (target w) r b → (r .tag ≡ 0 → ⊥) → Loaded job files area area′ nums count words n k left s (out r 0)
+    over-by : (w : Bytes) → optionOf (ascii "-scope") ws ≡ some w → (b : Bool) → scopeFits (s .count .scopes) (target w) ≡ b → Moves files area area′ s (target w) r b → (r .tag ≡ 0 → ⊥) → Loaded job files area area′ nums count words n k left s r 0
     over-by w e true q g z = absurd (z (g .tag))
     over-by w e false q g z =
         record {
@@ -166,25 +162,19 @@ module _ (job files area nums words : List ℕ) (count n k left : ℕ) (s : Stat
           opens = λ h. absurd (z h);
         }
 
-    over : (o : Option Bytes) → optionOf (ascii "-scope") ws ≡ o → Enters files area area′ s o r → (r .tag ≡ 0 → ⊥) → Loaded job files area area′ nums count words n k left s (out r 0)
+    over : (o : Option Bytes) → optionOf (ascii "-scope") ws ≡ o → Enters files area area′ s o r → (r .tag ≡ 0 → ⊥) → Loaded job files area area′ nums count words n k left s r 0
     over none e g z = absurd (z (g .tag))
     over (some w) e g z = over-by w e (scopeFits (s .count .scopes) (target w)) refl g z
 
     module _ (g : Enters files area area′ s (optionOf (ascii "-scope") ws) r) where
-      pub loaded-over : (r .tag ≡ 0 → ⊥) → Loaded job files area area′ nums count words n k left s (out r 0)
+      pub loaded-over : (r .tag ≡ 0 → ⊥) → Loaded job files area area′ nums count words n k left s r 0
       loaded-over z = over (optionOf (ascii "-scope") ws) refl g z
 
       module _ (z : r .tag ≡ 0) where
         gone : Went
         gone = went (optionOf (ascii "-scope") ws) refl g z
 
-        pub end-in : r .state .fill .end ≤ length area′
-        end-in = omega (arith, gone .held .end, gone .held .substituted, gone .held .scopes, lends .area-long)
-
-        pub end-count : r .state .fill .end ≡ length (take (r .state .fill .end) area′)
-        end-count = sym (length-take-le (r .state .fill .end) area′ end-in)
-
-        pub loaded-deep : left ≡ 0 → Loaded job files area area′ nums count words n k left s (out (record { tag = 8; state = r .state }) 0)
+        pub loaded-deep : left ≡ 0 → Loaded job files area area′ nums count words n k left s (record { tag = 8; state = r .state }) 0
         loaded-deep e =
             record {
               kept = gone .kept;
@@ -211,7 +201,7 @@ module _ (job files area nums words : List ℕ) (count n k left : ℕ) (s : Stat
           place-is : f ≡ placeOf (filesIn job nums count) by
           place-is = ef ∙ ap (placeOf (filesIn job nums count)) named-is
 
-          pub loaded-none : f ≡ count → Loaded job files area area′ nums count words n k left s (out (record { tag = 9; state = r .state }) 0)
+          pub loaded-none : f ≡ count → Loaded job files area area′ nums count words n k left s (record { tag = 9; state = r .state }) 0
           loaded-none e =
               let none-is : (text : Bytes) → load by (countedOf (r .state)) (modelAt files area′ nums (r .state) text) ≡ refused 9 (r .state .count .commands) =
               λ text. load-is (filesIn job nums count) left by (countedOf (r .state)) (modelAt files area′ nums (r .state) text) deep ∙ rw (none-named job nums count f by place-is e) in
@@ -222,7 +212,7 @@ module _ (job files area nums words : List ℕ) (count n k left : ℕ) (s : Stat
                 opens = λ h. absurd (omega (arith, h));
               }
 
-          pub loaded-one : (f ≡ count → ⊥) → Loaded job files area area′ nums count words n k left s (out r f)
+          pub loaded-one : (f ≡ count → ⊥) → Loaded job files area area′ nums count words n k left s (record { tag = 0; state = r .state }) f
           unfolding fileReads
           loaded-one h =
               let l : f < count = omega (arith, place-below job nums count f by place-is, h) in
@@ -231,7 +221,7 @@ module _ (job files area nums words : List ℕ) (count n k left : ℕ) (s : Stat
               record {
                 kept = gone .kept;
                 back = gone .back;
-                refuses = λ q. absurd (q z);
+                refuses = λ q. absurd (q refl);
                 opens = λ q. record {
                   deep = deep;
                   file = l;
@@ -241,3 +231,53 @@ module _ (job files area nums words : List ℕ) (count n k left : ℕ) (s : Stat
                   is = λ text. gone .is text ∙ ap (restored (m text)) (one-is text);
                 };
               }
+
+-- ---- of the place
+module _ (files area words : List ℕ) (count n k : ℕ) (p : Place) (v : Asked files area words count n k p) (area′ : List ℕ) (w : Scopes·Went) (len : length area′ ≡ length area) where
+  room : p .end ≤ length area
+  room = omega (arith, v .line .space .room)
+
+  stays-in : w .place ≡ p → w .place .end ≤ length area′
+  stays-in e = omega (arith, ap (λ (q : Place). q .end) e, room, len)
+
+  shifts-in : (t : Bytes) (b : Bool) → scopeFits (p .scopes) t ≡ b → Shifts files area area′ p t w b → w .place .end ≤ length area′
+  shifts-in t true e g =
+      let f : p .scopes + length t ≤ 8192 = leb-true (p .scopes + length t) 8192 (both (leb (length t) 512) (leb (p .scopes + length t) 8192) e .1) in
+      omega (arith, f, g .few, v .line .space .room, len)
+  shifts-in t false e g = stays-in (g .place)
+
+  leads-in : (o : Option Bytes) → Leads files area area′ p o w → w .place .end ≤ length area′
+  leads-in none g = stays-in (g .place)
+  leads-in (some x) g =
+      shifts-in (entered (string (files ++ take (p .end) area) (p .scope)) x) (scopeFits (p .scopes) (entered (string (files ++ take (p .end) area) (p .scope)) x)) refl g
+
+  module _ (g : Leads files area area′ p (optionOf (ascii "-scope") (wordsFrom (files ++ take (p .end) area) words n 1)) w) where
+    pub end-in : w .place .end ≤ length area′
+    end-in = leads-in (optionOf (ascii "-scope") (wordsFrom (files ++ take (p .end) area) words n 1)) g
+
+    pub end-count : w .place .end ≡ length (take (w .place .end) area′)
+    end-count = sym (length-take-le (w .place .end) area′ end-in)
+
+-- ---- of each state that has the place
+module _ (job files area nums words : List ℕ) (count n k left : ℕ) (p : Place) (area′ : List ℕ) (w : Scopes·Went) (len : length area′ ≡ length area)
+    (g : Leads files area area′ p (optionOf (ascii "-scope") (wordsFrom (files ++ take (p .end) area) words n 1)) w) (b : Load) where
+  abbrev Does : Type 0
+  Does = (s : State) → Loading job files area nums words count n k left s → Scopes·placeOf s ≡ p → Loaded job files area area′ nums count words n k left s (outOf s (b .went)) (b .file)
+
+  enters : (s : State) → Scopes·placeOf s ≡ p → Enters files area area′ s (optionOf (ascii "-scope") (wordsFrom (memOf files area s) words n 1)) (outOf s w)
+  enters s e = enters-at files area area′ s (λ q. optionOf (ascii "-scope") (wordsFrom (files ++ take (q .end) area) words n 1)) p w e g
+
+  pub tells-over : (w .tag ≡ 0 → ⊥) → b ≡ loadOf (w .tag) (w .place) 0 → Does
+  tells-over z e s v h = rw e (loaded-over job files area nums words count n k left s v area′ (outOf s w) len (enters s h) z)
+
+  module _ (z : w .tag ≡ 0) where
+    pub tells-deep : left ≡ 0 → b ≡ loadOf 8 (w .place) 0 → Does
+    tells-deep d e s v h = rw e (loaded-deep job files area nums words count n k left s v area′ (outOf s w) len (enters s h) z d)
+
+    module _ (d : left ≡ 0 → ⊥) (named : Span) (a : Reads (files ++ take (w .place .end) area′) words n (nameOf (wordsFrom (files ++ take (w .place .end) area′) words n 1)) named)
+        (f : ℕ) (ef : f ≡ placeOf (filesIn job nums count) (joinedPath (pathAt job nums k) (bytes (files ++ take (w .place .end) area′) named))) where
+      pub tells-none : f ≡ count → b ≡ loadOf 9 (w .place) 0 → Does
+      tells-none q e s v h = rw e (loaded-none job files area nums words count n k left s v area′ (outOf s w) len (enters s h) z d named a f ef q)
+
+      pub tells-one : (f ≡ count → ⊥) → b ≡ loadOf 0 (w .place) f → Does
+      tells-one q e s v h = rw e (loaded-one job files area nums words count n k left s v area′ (outOf s w) len (enters s h) z d named a f ef q)

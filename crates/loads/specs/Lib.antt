@@ -1,3 +1,4 @@
 pub mod Steps
 pub mod Loads
 pub mod Scoped
+pub mod Behind

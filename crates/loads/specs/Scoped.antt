@@ -1,37 +1,34 @@
 -- Laws: the invariant and the records when the scope has moved. Assumes nothing.
-use Prim.Native.Nat.{ℕ, zero, suc, _+_, _-_, _*_, _≤_, _<_, _^_}
+use Prim.Native.Nat.{ℕ, zero, suc, _+_, _-_, _≤_, _<_}
 use native.Mathlib.Omega.{arith}
-use native.Mathlib.Nat.{add-zero, sub-zero, zero-add}
 use mathlib.Core.Path.{_≡_, refl, sym, ap, _∙_}
 use mathlib.Core.Bool.{Bool, true, false, cond, _&&_}
-use mathlib.Core.List.{List, [], _∷_, _++_}
+use mathlib.Core.List.{List, _∷_, _++_}
 use lib.Dec.{leb}
 use lib.ListN.{length, take, drop}
 use lib.Seq.{drop-drop}
 use borrow.Author.Tests.{le-leb}
-use Rattle.text.specs.Ascii.{Bytes, ascii}
+use Rattle.text.specs.Ascii.{Bytes}
 use Rattle.spans.specs.Span.{bytes, pairAt, pairs, strings}
-use Rattle.spans.specs.Frame.{known-grows, lastEnd, strings-same, bytes-same}
+use Rattle.spans.specs.Frame.{known-grows, lastEnd, strings-same}
 use Rattle.spans.specs.Reach.{lastOf, reach, last-end}
 use Rattle.args.specs.View.{wordsFrom}
 use Rattle.args.specs.Laws.{words-all, words-here}
-use Rattle.model.specs.Limits.{most-scope}
 use Rattle.model.specs.Records.{Model, with-scope}
-use Rattle.model.specs.Within.{Counted, recordsFit, countsFit}
-use Rattle.read.specs.Reading.{Line, lineOf, Reading}
+use Rattle.model.specs.Within.{recordsFit, countsFit}
+use Rattle.read.specs.Reading.{Reading}
 use Rattle.store.specs.Strings.{string, spanOf}
 use Rattle.store.specs.View.{Store, modelOf}
 use Rattle.store.specs.Order.{Shaped, Bounded}
 use Rattle.store.specs.Frame.{model-same}
 use Rattle.store.specs.Fits.{fits-all, fit-scope}
 use Rattle.store.specs.Rows.{storeOf}
-use Rattle.store.specs.Steps.{scope-shaped, scope-bounded}
 use Rattle.store.specs.Variables.{now-fits}
 use Rattle.store.specs.declared.stored.Stored.{Stored}
 use Rattle.store.specs.declared.state.State.{State}
 use Rattle.made.specs.Made.{reachOf}
 use Rattle.scopes.specs.declared.go.Out.{Out}
-use Rattle.scopes.specs.Moves.{scopeFits, moved-to, Space, Line as Space·Line, In}
+use Rattle.scopes.specs.Moves.{scopeFits, moved-to, placeOf, Space, Line as Space·Line, In}
 use Rattle.held.specs.Grows.{bounded-more, bounded-ends}
 use Rattle.held.specs.Held.{memOf, modelAt, countedOf, Lends, Held, Worded}
 
@@ -57,10 +54,10 @@ words-grow files area area′ words n o e h g k w =
 
 -- ---- what moving the scope asks
 module _ (files area nums : List ℕ) (k : ℕ) (s : State) (v : Held files area nums k s) where
-  pub space : Space files area s
+  pub space : Space files area (placeOf s)
   space = record { counted = v .scopes; room = omega (arith, v .end, v .substituted, v .lends .area-long, v .scopes); scope = v .bounded .scope; small = v .lends .small }
 
-  pub scoping : (words : List ℕ) (n : ℕ) → Worded files words n s → Space·Line files area words n s
+  pub scoping : (words : List ℕ) (n : ℕ) → Worded files words n s → Space·Line files area words n (placeOf s)
   scoping words n w = record { space = space; line = w }
 
 -- ---- the order looks at the scope alone

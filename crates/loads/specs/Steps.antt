@@ -2,9 +2,8 @@
 use Prim.Native.Nat.{ℕ, zero, suc, _+_, _≤_, _<_}
 use mathlib.Core.Path.{_≡_}
 use mathlib.Core.Bool.{Bool, cond, _&&_}
-use mathlib.Core.List.{List, _++_}
+use mathlib.Core.List.{List}
 use lib.Dec.{leb}
-use lib.ListN.{length}
 use Rattle.text.specs.Ascii.{Bytes}
 use Rattle.text.specs.Scan.{all}
 use Rattle.spans.specs.Span.{strings}

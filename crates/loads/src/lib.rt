@@ -1,34 +1,53 @@
 // A load: what stands before it reads its file, and what is back behind it.
-ghost use Rattle.loads.specs.Loads.{Loading, Loaded, Restores};
+ghost use mathlib.Core.Path.{_≡_};
+ghost use Rattle.store.specs.declared.state.State.{State};
+ghost use Rattle.scopes.specs.Moves.{placeOf, outOf};
+ghost use Rattle.loads.specs.Loads.{headBack, loadOf, Asked, Loading, Loaded};
 use args::argument::name;
 use filepaths::find_file;
-use scopes::go::Out;
+use scopes::go::Place;
+use scopes::go::Went;
 use scopes::go::load_scope;
-use store::state::State;
-use store::state::with_scope;
-use store::state::with_top;
+use store::state::Head;
 use store::stored::Maybe;
 
-// The state s behind a load, with the scope and the design top that the loader m had.
-pub fn restored(m: State, s: State) -> State
-    ensures { λ r. ⌜ Restores m s r ⌝ }
+// Behind a load: the scope that stood before it, and the design top where there was one, else that of the load.
+pub fn back(h: Head, g: Head) -> Head
+    ensures { λ r. ⌜ r ≡ headBack h g ⌝ }
 {
-    let h = m.head;
     let scope = h.scope;
     let top = h.top;
-    let u = with_scope(s, scope);
+    let other = g.top;
     match top {
-        Maybe::Not => u,
-        Maybe::Given(t) => with_top(u, Maybe::Given(t)),
+        Maybe::Not => Head {
+            scope: scope,
+            top: other,
+        },
+        Maybe::Given(t) => Head {
+            scope: scope,
+            top: Maybe::Given(t),
+        },
     }
 }
 
-// What a load needs before it reads: the state in its scope, or the refusal, and the file.
+// What a load needs before it reads: the refusal's number and its scope, and the file.
 pub struct Load {
-    pub out: Out,
+    pub went: Went,
     pub file: usize,
 }
 
+// The refusal of a load, or its file.
+fn told(tag: usize, p: Place, file: usize) -> Load
+    ensures { λ r. ⌜ r ≡ loadOf tag p file ⌝ }
+{
+    let w = Went { tag: tag, place: p };
+    Load {
+        went: w,
+        file: file,
+    }
+}
+
+// A load up to its file: the scope that it enters, and the file that it names; `left` loads may still be nested.
 pub fn before_load(
     job: &[u8],
     files: &[u8],
@@ -37,28 +56,26 @@ pub fn before_load(
     count: usize,
     words: &[u32],
     n: usize,
-    s: State,
+    p: Place,
     k: usize,
     left: usize,
 ) -> Load
-    requires { ⌜ Loading (now job) (now files) (now area) (now nums) (now words) count n k left s ⌝ }
-    ensures { λ r. ⌜ Loaded (now (job .entry)) (now (files .entry)) (now (area .entry)) (now (area .exit)) (now (nums .entry)) count (now (words .entry)) n k left s r ⌝ }
+    requires { ⌜ Asked (now files) (now area) (now words) count n k p ⌝ }
+    ensures { λ r. ⌜ ((s : State) → Loading (now (job .entry)) (now (files .entry)) (now (area .entry)) (now (nums .entry)) (now (words .entry)) count n k left s → placeOf s ≡ p → Loaded (now (job .entry)) (now (files .entry)) (now (area .entry)) (now (area .exit)) (now (nums .entry)) count (now (words .entry)) n k left s (outOf s (r .went)) (r .file)) ⌝ }
 {
-    let r = load_scope(files, area, words, n, s);
-    if r.tag != 0 {
-        return Load { out: r, file: 0 };
+    let w = load_scope(files, area, words, n, p);
+    let q = w.place;
+    if w.tag != 0 {
+        return told(w.tag, q, 0);
     }
-    let u = r.state;
     if left == 0 {
-        let o = Out { tag: 8, state: u };
-        return Load { out: o, file: 0 };
+        return told(8, q, 0);
     }
-    let e = u.fill.end;
+    let e = q.end;
     let named = name(files, &area[..e], words, n);
     let f = find_file(job, nums, count, k, files, &area[..e], named);
     if f == count {
-        let o = Out { tag: 9, state: u };
-        return Load { out: o, file: 0 };
+        return told(9, q, 0);
     }
-    Load { out: r, file: f }
+    told(0, q, f)
 }

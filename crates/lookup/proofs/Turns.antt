@@ -1,28 +1,28 @@
 -- One turn of a lookup: the answer is that of what is left.
 -- Assumes nothing.
-use mathlib.Core.Path.{_≡_, refl, ap, _∙_, sym}
-use Prim.Native.Nat.{ℕ, zero, suc, _+_, _-_, _<_, _≤_}
+use mathlib.Core.Path.{_≡_, ap, _∙_, sym}
+use Prim.Native.Nat.{ℕ, _+_, _-_, _<_, _≤_}
 use native.Mathlib.Numerals.{add-one}
 use native.Mathlib.Omega.{arith}
-use mathlib.Core.Bool.{Bool, true, false, cond}
-use mathlib.Core.List.{List, [], _∷_}
-use mathlib.Core.Option.{Option, none, some}
-use lib.ListN.{length, take, drop, drop-of-length-le}
+use mathlib.Core.Bool.{Bool, true, false}
+use mathlib.Core.List.{List}
+use mathlib.Core.Option.{Option}
+use lib.ListN.{drop, drop-of-length-le}
 use borrow.Author.Needs.{needs}
 use Rattle.text.specs.Ascii.{Bytes}
 use Rattle.text.specs.Compare.{same}
 use Rattle.fields.specs.declared.Dims.{Dims}
-use Rattle.joblines.specs.Job.{Inst, Module}
+use Rattle.joblines.specs.Job.{Inst}
 use Rattle.joblines.specs.Sections.{instsIn}
-use Rattle.jobindex.specs.Index.{section, nameAt, moduleRow, rows}
+use Rattle.jobindex.specs.Index.{section, nameAt, moduleRow}
 use Rattle.jobindex.specs.Rows.{rows-length, rows-here}
 use Rattle.jobindex.specs.declared.Span.{Span}
-use Rattle.design.specs.Lists.{first, onSome}
+use Rattle.design.specs.Lists.{first}
 use Rattle.design.specs.Lookup.{moduleNamed, instanceNamed}
-use Rattle.lines.specs.Cursors.{spanned, InstSeen, Stepped, instsLeft, InstOn}
+use Rattle.lines.specs.Cursors.{spanned, InstSeen, Stepped}
 use Rattle.lines.specs.declared.InstAt.{InstAt}
 use Rattle.lines.specs.declared.InstAt.the-variants as inst
-use Rattle.lookup.specs.Rows.{modules, rowIs, ModuleSeen, insts-from, insts-end, insts-are, lineIs, InstanceSeen, below}
+use Rattle.lookup.specs.Rows.{modules, rowIs, ModuleSeen, insts-from, insts-end, insts-are, InstanceSeen, below}
 
 -- ---- modules
 module _ (job : Bytes) (index : List ℕ) (count : ℕ) (name : Bytes) (k : ℕ) (inv : moduleNamed (modules job index count) name ≡ moduleNamed (drop k (modules job index count)) name) where

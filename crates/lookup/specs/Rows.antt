@@ -7,10 +7,10 @@ use mathlib.Core.Option.{Option, none, some}
 use Rattle.text.specs.Ascii.{Bytes}
 use Rattle.joblines.specs.Job.{Inst, Module}
 use Rattle.joblines.specs.Sections.{instsIn}
-use Rattle.jobindex.specs.Index.{num, rowAt, section, nameAt, moduleRow, rows}
+use Rattle.jobindex.specs.Index.{num, rowAt, section, moduleRow, rows}
 use Rattle.design.specs.Lists.{onSome}
 use Rattle.design.specs.Lookup.{moduleNamed, instanceNamed, moduleAt}
-use Rattle.lines.specs.Cursors.{instIs, Stepped}
+use Rattle.lines.specs.Cursors.{instIs}
 use Rattle.lines.specs.declared.InstAt.{InstAt}
 use Rattle.lines.specs.declared.InstAt.the-variants as inst
 use native.Mathlib.Omega.{arith}

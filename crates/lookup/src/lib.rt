@@ -1,7 +1,6 @@
 // Modules and instances by name, over the job and its index (the Rust's `instances` and `module_at`). A module is the number of its row;
 // where there may be none, it is one more than that number, and 0 is none.
 ghost use mathlib.Core.Path.{_≡_};
-ghost use mathlib.Core.List.{[], _∷_};
 ghost use Prim.Native.Nat.{_≤_};
 ghost use Rattle.lookup.specs.Rows.{ModuleSeen, InstanceSeen, modules, below, insts-from, insts-end};
 ghost use Rattle.jobindex.specs.Index.{moduleRow};

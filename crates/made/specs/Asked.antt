@@ -1,10 +1,9 @@
 -- Laws: what the arguments of a command come to when they are stored. Assumes nothing.
 use Prim.Native.Nat.{ℕ, _+_, _≤_, _<_, _^_, max}
 use native.Mathlib.Omega.{arith}
-use mathlib.Core.Path.{_≡_, refl, sym, ap, _∙_}
-use mathlib.Core.Bool.{Bool}
+use mathlib.Core.Path.{_≡_, refl, ap, _∙_}
 use mathlib.Core.List.{List, []}
-use mathlib.Core.Option.{Option, none, some}
+use mathlib.Core.Option.{Option}
 use Rattle.text.specs.Ascii.{Bytes}
 use borrow.Author.Needs.{needs}
 use Rattle.spans.specs.Span.{_⋯_, bytes, pairs}
@@ -20,8 +19,6 @@ use Rattle.model.specs.Commands.{or-else, listOf}
 use Rattle.store.specs.Strings.{string, spanOf, storedOf, no-string, maybeOf, maybeFound, belowFound, foundOr}
 use Rattle.store.specs.Order.{ofMaybe, ofMaybeBelow}
 use Rattle.store.specs.declared.stored.Stored.{Stored}
-use Rattle.store.specs.declared.state.State.{State}
-use Rattle.made.specs.Made.{Room}
 
 -- nothing has no entries
 pub list-none : list [] ≡ []
@@ -74,11 +71,4 @@ module _ (mem : Bytes) (words : List ℕ) (n : ℕ) where
   pub found-fits : (t : Option Bytes) (f : Found) → Finds mem words n t f → lastOf spanEnd (pairs words 0 n) < 2 ^ 32 → foundEnd f < 2 ^ 32
   found-fits t f a h = omega (arith, a .within spanEnd refl)
 
-  module _ (s : State) (m : Room words n s) where
-    pub read-stored : (t : Bytes) (r : Span) → Reads mem words n t r → r .at + r .len < 2 ^ 32
-    read-stored t r a = read-fits t r a (m .line)
-
-    pub found-stored : (t : Option Bytes) (f : Found) → Finds mem words n t f → foundEnd f < 2 ^ 32
-    found-stored t f a = found-fits t f a (m .line)
-
-pub ruleset asks = (needs, read-fits, found-fits, read-stored, found-stored)
+pub ruleset asks = (needs, read-fits, found-fits)

@@ -1,32 +1,29 @@
 -- Laws: what a command does, from what it leaves. Assumes nothing.
-use Prim.Native.Nat.{ℕ, zero, suc, _+_, _*_, _≤_, _<_, max}
+use Prim.Native.Nat.{ℕ, _+_, _≤_, _<_}
 use native.Mathlib.Omega.{arith}
-use mathlib.Core.Path.{_≡_, refl, sym, ap, _∙_}
-use mathlib.Core.Bool.{Bool, true, false, cond}
-use mathlib.Core.List.{List, [], _∷_, _++_, map}
-use mathlib.Core.Option.{Option, none, some}
-use lib.Dec.{eqb, leb}
-use lib.ListN.{length, take, length-append, length-map}
+use mathlib.Core.Path.{_≡_, refl, sym, _∙_}
+use mathlib.Core.Bool.{Bool, true, false}
+use mathlib.Core.List.{List, [], _∷_, _++_}
+use lib.Dec.{leb}
+use lib.ListN.{length, length-append, length-map}
 use borrow.Author.Tests.{le-leb, lt-leb, ne-eqb, leb-true, leb-false}
 use Rattle.text.specs.Ascii.{Bytes}
-use Rattle.model.specs.Records.{Model, with-warnings}
+use Rattle.model.specs.Records.{Model}
 use Rattle.model.specs.Within.{recordsFit}
 use Rattle.model.specs.Commands.{warned as warnedʳ}
 use Rattle.spans.specs.Span.{_⋯_}
 use Rattle.spans.specs.Reach.{filed, reach-held}
 use Rattle.store.specs.Strings.{string, no-string}
 use Rattle.store.specs.View.{Store, modelOf, textOf, warningText, warningsIn}
-use Rattle.store.specs.Order.{ofRow, Sized, Shaped, Bounded}
+use Rattle.store.specs.Order.{ofRow, Shaped, Bounded}
 use Rattle.store.specs.Rows.{Packs}
-use Rattle.store.specs.Added.{row-counted, warning-counted}
+use Rattle.store.specs.Added.{warning-counted}
 use Rattle.store.specs.Rowed.{rowed, with-row, warning-view, warning-shaped, warning-bounded}
-use Rattle.store.specs.Fits.{Fits, fits-all, fit-warnings}
+use Rattle.store.specs.Fits.{fits-all, fit-warnings}
 use Rattle.store.specs.Variables.{now-fits}
 use Rattle.store.specs.declared.stored.Stored.{Stored}
-use Rattle.store.specs.declared.row.Row.{Row}
 use Rattle.store.specs.declared.state.State.{State}
-use Rattle.made.specs.declared.Made.{Made}
-use Rattle.made.specs.Made.{no-row, fineMade, fullMade, rowMade, warning-row, warnedMade, madeOf, fitted, reachOf, Kept, Did}
+use Rattle.made.specs.Made.{no-row, fineMade, fullMade, warning-row, warnedMade, reachOf, Kept, Did}
 
 pub reach-none : (long : ℕ) → reachOf long no-string ≡ 0
 reach-none long = reach-held long (0 ⋯ 0) (filed (omega arith))

@@ -1,14 +1,13 @@
 -- Laws: a command is carried out where the state that it leaves is in order, since every such state is within the limits of records. Assumes nothing.
-use Prim.Native.Nat.{ℕ, _+_, _≤_, _<_, max}
+use Prim.Native.Nat.{ℕ, _<_}
 use native.Mathlib.Omega.{arith}
 use mathlib.Core.Path.{_≡_, refl, sym, ap, _∙_}
-use mathlib.Core.Bool.{Bool, true, false, cond}
+use mathlib.Core.Bool.{true}
 use mathlib.Core.List.{List}
-use mathlib.Core.Option.{Option, none, some, Option·map}
+use mathlib.Core.Option.{Option, Option·map}
 use lib.ListN.{length}
 use borrow.Author.Tests.{ne-eqb}
 use Rattle.text.specs.Ascii.{Bytes}
-use Rattle.spans.specs.Span.{bytes}
 use Rattle.spans.specs.declared.span.Found.{Found}
 use Rattle.spans.specs.declared.span.Found.the-variants.{At, None}
 use Rattle.args.specs.View.{Finds}
@@ -20,7 +19,7 @@ use Rattle.store.specs.View.{Store, modelOf}
 use Rattle.store.specs.Order.{Shaped, Bounded}
 use Rattle.store.specs.Rows.{Packs}
 use Rattle.store.specs.Added.{row-counted}
-use Rattle.store.specs.Rowed.{rowed, with-row}
+use Rattle.store.specs.Rowed.{rowed}
 use Rattle.store.specs.Fits.{fits-all}
 use Rattle.store.specs.Variables.{now-fits}
 use Rattle.store.specs.declared.stored.Stored.{Stored}

@@ -5,10 +5,10 @@ use Prim.Native.Nat.{ℕ, zero, suc, _+_, _*_, _≤_, _<_, _^_}
 use mathlib.Core.Path.{_≡_, refl, sym, ap, _∙_}
 use mathlib.Core.Bool.{Bool, true, false}
 use mathlib.Core.List.{List, [], _∷_}
-use mathlib.Core.Option.{Option, none, some}
+use mathlib.Core.Option.{Option, some}
 use native.Mathlib.Omega.{arith}
 use lib.Dec.{eqb}
-use lib.ListN.{length, set, length-set}
+use lib.ListN.{length, set, getD, replicate, length-set, length-replicate}
 use lib.Seq.{getD-set-same, getD-set-other}
 use borrow.Author.Tests.{eqb-true, eqb-false}
 use Rattle.text.specs.Ascii.{Bytes}
@@ -117,6 +117,16 @@ module _ (job : Bytes) (index : List ℕ) (k p : ℕ) (r : InstAt) (seen : InstS
           head-or : Inst → List Inst → Inst
           head-or z [] = z
           head-or z (x ∷ xs) = x
+
+-- ---- an empty memo
+
+zeros : (n i : ℕ) → _≡_ {A = ℕ} (getD (replicate {A = ℕ} n 0) i 0) 0
+zeros zero i = refl
+zeros (suc n) zero = refl
+zeros (suc n) (suc i) = zeros n i
+
+pub known-none : (job : Bytes) (index : List ℕ) → Known job index (replicate {A = ℕ} memo-size 0)
+known-none job index = record { long = length-replicate {A = ℕ} memo-size 0; leads = λ h k f e. absurd (omega (arith, zeros memo-size (2 * h), e)) }
 
 -- ---- a memo with one instance more
 

@@ -2,17 +2,16 @@
 -- `ws` the words behind it. Assumes nothing.
 use Prim.Native.Nat.{ℕ}
 use Prim.Native.String.{String}
-use mathlib.Core.Bool.{Bool, true, false, cond, not, _&&_, _||_}
+use mathlib.Core.Bool.{Bool, cond, not, _&&_, _||_}
 use mathlib.Core.List.{List, [], _∷_, _++_, map, flatMap}
 use mathlib.Core.Option.{Option, none, some, Option·map}
 use Rattle.text.specs.Ascii.{Bytes, ascii}
 use Rattle.text.specs.Compare.{same}
 use Rattle.text.specs.Scan.{any}
-use Rattle.out.specs.Fill.{fill, format1, format2}
-use Rattle.tcl.specs.Substitution.{Variable}
+use Rattle.out.specs.Fill.{format1}
 use Rattle.tcl.specs.Lists.{list}
 use Rattle.tcl.specs.Arguments.{positionals, optionOf, hasFlag, nameOf, lastPositional, State, states}
-use Rattle.model.specs.Records.{Domain, SupplyPort, Connection, Supply, Control, OnState, Named, Switch, Isolation, Retention, Shifter, PortState, TableState, Table, Model, with-design-top, with-scope, with-domains, with-nets, with-ports, with-connections, with-switches, with-isolations, with-retentions, with-shifters, with-port-states, with-tables, with-warnings, with-variables, with-log}
+use Rattle.model.specs.Records.{Domain, Supply, Control, OnState, Named, Isolation, Table, Model, with-design-top, with-scope, with-domains, with-nets, with-ports, with-connections, with-switches, with-isolations, with-retentions, with-shifters, with-port-states, with-tables, with-warnings, with-variables, with-log}
 use Rattle.model.specs.Scope.{scoped, moved}
 use Rattle.model.specs.Names.{Command, isQuery}
 

@@ -1,10 +1,10 @@
 -- "The command names stand in one constant table": thirty names. Assumes nothing.
 use Prim.Native.String.{String}
-use mathlib.Core.Bool.{Bool, cond}
+use mathlib.Core.Bool.{Bool}
 use mathlib.Core.List.{List, [], _∷_}
 use mathlib.Core.Option.{Option, none, some}
 use Rattle.text.specs.Ascii.{Bytes, ascii}
-use Rattle.text.specs.Compare.{same, startsWith}
+use Rattle.text.specs.Compare.{startsWith}
 use Rattle.fields.specs.Fields.{among}
 
 -- a command that moves no scope

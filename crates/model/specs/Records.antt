@@ -1,6 +1,5 @@
 -- The records that the commands enter (document 01, "Files and commands"; the Rust's `Model`). Names are as the Rust stores them: scoped where it
 -- scopes them. Assumes nothing.
-use Prim.Native.Nat.{ℕ}
 use mathlib.Core.List.{List, []}
 use mathlib.Core.Option.{Option, none}
 use Rattle.text.specs.Ascii.{Bytes}

@@ -1,6 +1,6 @@
 -- The non-output ports of a module, listed one after the other: those stored so far, and those behind the cursor, are all; and a name looked for among them.
 -- Assumes nothing.
-use Prim.Native.Nat.{ℕ, _+_, _*_, _≤_, _<_, _^_}
+use Prim.Native.Nat.{ℕ, _+_, _*_, _≤_, _<_}
 use mathlib.Core.Path.{_≡_, refl, sym, ap, ap₂, _∙_}
 use mathlib.Core.Bool.{Bool, true, false, _||_}
 use mathlib.Core.List.{List, [], _∷_, _++_, append-nil, append-assoc}
@@ -10,7 +10,7 @@ use borrow.Author.Needs.{needs}
 use Rattle.text.specs.Ascii.{Bytes}
 use Rattle.text.specs.Compare.{same}
 use Rattle.text.specs.Scan.{any}
-use Rattle.jobindex.specs.Index.{num, moduleRow, rows}
+use Rattle.jobindex.specs.Index.{moduleRow, rows}
 use Rattle.jobindex.specs.Rows.{rows-more, rows-length, rows-same, rows-here}
 use Rattle.jobindex.specs.declared.Span.{Span}
 use Rattle.lines.specs.Cursors.{spanned}

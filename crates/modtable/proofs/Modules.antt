@@ -1,17 +1,17 @@
 -- The table, module by module: what is stored stays. Assumes nothing.
-use Prim.Native.Nat.{ℕ, suc, _+_, _*_, _≤_, _<_, _^_}
-use mathlib.Core.Path.{_≡_, refl, sym, ap, ap₂, _∙_}
+use Prim.Native.Nat.{ℕ, _+_, _≤_, _<_, _^_}
+use mathlib.Core.Path.{_≡_, refl, _∙_}
 use mathlib.Core.Logic.{⊎-elim}
 use mathlib.Core.List.{List}
 use native.Mathlib.Omega.{arith}
 use native.Mathlib.Nat.{eq-or-lt-of-le}
-use lib.ListN.{length, take}
+use lib.ListN.{length}
 use borrow.Author.Needs.{needs}
 use Rattle.text.specs.Ascii.{Bytes}
-use Rattle.jobindex.specs.Index.{num, moduleRow, rows}
+use Rattle.jobindex.specs.Index.{num}
 use Rattle.jobindex.specs.Rows.{rows-same}
 use Rattle.modtable.specs.Table.{names-at, name-place, ways-at, way-place, nameIn, wayIn, namesOf, waysOf, ModuleTabled, Tabled}
-use Rattle.modtable.specs.Making.{Limited, InputsGiven, InputsPut, NamesGiven, NamesPut, WaysGiven, WaysPut, MakeGiven}
+use Rattle.modtable.specs.Making.{InputsGiven, InputsPut, NamesGiven, NamesPut, WaysGiven, WaysPut, MakeGiven}
 use Rattle.modtable.proofs.Numbers.{num-front}
 
 module _ (job : Bytes) (t t′ : List ℕ) (k : ℕ) where

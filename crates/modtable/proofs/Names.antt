@@ -1,10 +1,10 @@
 -- The names that a module loses, put one after the other: those stored so far, and those behind the cursor, are all. Assumes nothing.
-use Prim.Native.Nat.{ℕ, suc, _+_, _*_, _≤_, _<_, _^_}
+use Prim.Native.Nat.{ℕ, _+_, _≤_, _<_}
 use mathlib.Core.Path.{_≡_, refl, sym, ap, ap₂, _∙_}
-use mathlib.Core.Bool.{Bool, true, false, cond, not}
+use mathlib.Core.Bool.{Bool, true, false}
 use mathlib.Core.List.{List, [], _∷_, _++_, append-nil, append-assoc}
 use native.Mathlib.Omega.{arith}
-use lib.ListN.{length, take, set, getD, length-append, length-set}
+use lib.ListN.{length, take, set, length-append}
 use lib.Seq.{getD-set-same, getD-set-other, take-set-le}
 use borrow.Author.Needs.{needs}
 use Rattle.text.specs.Ascii.{Bytes}
@@ -20,7 +20,7 @@ use Rattle.ports.specs.Cursors.{ports-from, candidatesFrom, losableFrom, Cursor
 use Rattle.ports.specs.Starts.{losable-start}
 use Rattle.design.specs.Lists.{those, isIn}
 use Rattle.design.specs.Ports.{inputPorts, losable}
-use Rattle.modtable.specs.Table.{names-at, name-place, nameIn, namesOf, inputIn, lowOf, partPut}
+use Rattle.modtable.specs.Table.{names-at, name-place, nameIn, inputIn, lowOf, partPut}
 use Rattle.modtable.specs.Making.{NamesGiven, NamesPut}
 use Rattle.modtable.proofs.Numbers.{low-small, put-part, put-other, put-front, put-long}
 

@@ -1,14 +1,14 @@
 -- Numbers stored and read again. Assumes nothing.
-use Prim.Native.Nat.{ℕ, _+_, _*_, _≤_, _<_, _^_}
+use Prim.Native.Nat.{ℕ, _+_, _≤_, _<_, _^_}
 use mathlib.Core.Path.{_≡_, refl, sym, ap, ap₂, _∙_}
-use mathlib.Core.Bool.{Bool, true, false, cond}
-use mathlib.Core.List.{List, [], _∷_}
+use mathlib.Core.Bool.{Bool, true, false}
+use mathlib.Core.List.{List}
 use native.Mathlib.Omega.{arith}
 use lib.Dec.{ltb}
 use lib.ListN.{length, take, drop, set, getD, length-set, length-drop, drop-of-length-le}
 use lib.Seq.{getD-take, getD-set-same, getD-set-other, take-set-le, take-all}
 use borrow.Author.Needs.{needs}
-use borrow.Author.Tests.{lt-ltb, le-ltb, ltb-true, ltb-false}
+use borrow.Author.Tests.{lt-ltb, le-ltb, ltb-false}
 use Rattle.text.specs.Ascii.{Bytes}
 use Rattle.jobindex.specs.Index.{num, bytesAt}
 use Rattle.jobindex.specs.declared.Span.{Span}

@@ -1,14 +1,14 @@
 -- The instances through which the walk goes down, put one after the other: those stored so far, and those of the lines left, are all.
 -- Assumes nothing.
-use Prim.Native.Nat.{ℕ, suc, _+_, _-_, _*_, _≤_, _<_, _^_}
+use Prim.Native.Nat.{ℕ, suc, _+_, _-_, _≤_, _<_}
 use mathlib.Core.Path.{_≡_, refl, sym, ap, ap₂, _∙_}
-use mathlib.Core.Bool.{Bool, true, false, cond}
+use mathlib.Core.Bool.{cond}
 use mathlib.Core.Logic.{⊎-elim}
 use mathlib.Core.Option.{Option, none, some}
 use mathlib.Core.List.{List, [], _∷_, _++_, append-nil, append-assoc}
 use native.Mathlib.Omega.{arith}
 use native.Mathlib.Nat.{eq-or-lt-of-le}
-use lib.ListN.{length, take, set, getD, length-append, length-set}
+use lib.ListN.{length, take, set, length-append, length-set}
 use lib.Seq.{getD-set-same, getD-set-other, take-set-le}
 use borrow.Author.Needs.{needs}
 use Rattle.text.specs.Ascii.{Bytes}
@@ -27,9 +27,9 @@ use Rattle.lookup.specs.Rows.{modules, rowIs, ModuleSeen, insts-from, insts-end
 use Rattle.design.specs.Lists.{onSome}
 use Rattle.design.specs.Lookup.{moduleNamed}
 use Rattle.walk.specs.Walk.{entered}
-use Rattle.modtable.specs.Table.{Way, ways-at, way-place, wayIn, waysOf, waysDown, lowOf, partPut}
+use Rattle.modtable.specs.Table.{Way, ways-at, way-place, wayIn, waysDown, lowOf, partPut}
 use Rattle.modtable.specs.Making.{WaysGiven, WaysPut}
-use Rattle.modtable.proofs.Numbers.{low-small, put-at, put-len, put-part, put-other, put-front, put-long}
+use Rattle.modtable.proofs.Numbers.{low-small, put-part, put-other, put-front, put-long}
 
 -- ---- through an instance
 

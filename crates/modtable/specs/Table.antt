@@ -5,7 +5,7 @@ use mathlib.Core.Path.{_≡_}
 use mathlib.Core.Bool.{cond}
 use mathlib.Core.List.{List, [], _∷_}
 use lib.Dec.{ltb}
-use lib.ListN.{length, set}
+use lib.ListN.{set}
 use Rattle.text.specs.Ascii.{Bytes}
 use Rattle.joblines.specs.Job.{Inst, Module}
 use Rattle.jobindex.specs.Index.{num, bytesAt, moduleRow, rows}

@@ -1,8 +1,8 @@
 -- The first byte of a word or an entry and of a name, and a name below a scope: laws as the needs ask them. Assumes nothing.
-use Prim.Native.Nat.{ℕ, _+_, _≤_, max}
-use mathlib.Core.Path.{_≡_, refl, sym, ap, _∙_}
-use mathlib.Core.Bool.{Bool, true, false, cond, _&&_}
-use mathlib.Core.List.{List, [], _∷_, _++_}
+use Prim.Native.Nat.{ℕ, _+_}
+use mathlib.Core.Path.{_≡_, refl}
+use mathlib.Core.Bool.{Bool, true, false, _&&_}
+use mathlib.Core.List.{[], _∷_, _++_}
 use native.Mathlib.Omega.{arith}
 use lib.Dec.{eqb}
 use borrow.Author.Needs.{needs}
@@ -16,7 +16,7 @@ use Rattle.spans.specs.declared.span.Got.the-variants.{Yes, No}
 use Rattle.entries.specs.Entry.{entryBytes}
 use Rattle.entries.specs.View.{entryGot}
 use Rattle.names.specs.Scoped.{scoped}
-use Rattle.names.specs.Name.{named, entryOf, slash, nameOf, nameEnd, spanEnd, formGot, stepOf, Makes}
+use Rattle.names.specs.Name.{named, entryOf, slash, nameOf, formGot, stepOf, Makes}
 use Rattle.names.specs.declared.name.Name.{Name}
 use Rattle.names.specs.declared.name.Step.{Step}
 

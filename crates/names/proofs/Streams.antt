@@ -1,9 +1,8 @@
 -- Loops over what is left of a name. Each law is stated as a loop's needs ask it. Assumes nothing.
 use Prim.Native.Nat.{ℕ, _+_, _≤_, _<_}
-use mathlib.Core.Path.{_≡_, refl, ap, _∙_}
-use mathlib.Core.Bool.{Bool, true, false, cond}
-use mathlib.Core.List.{List, [], _∷_, _++_}
-use lib.Dec.{eqb, ltb}
+use mathlib.Core.Path.{_≡_}
+use mathlib.Core.Bool.{Bool, true, false}
+use lib.Dec.{ltb}
 use lib.ListN.{length, drop, getD, drop-of-length-le}
 use borrow.Author.Needs.{needs}
 use borrow.Author.Tests.{eq-eqb, ne-eqb}
@@ -12,7 +11,7 @@ use Rattle.text.specs.Compare.{same, less}
 use Rattle.text.specs.Lists.{here}
 use Rattle.text.specs.Classes.{dotOf}
 use Rattle.out.specs.Emit.{Out, emit, emit-append}
-use Rattle.out.specs.Bytewise.{flat, becomes, dotted}
+use Rattle.out.specs.Bytewise.{flat, dotted}
 use Rattle.names.specs.Name.{nameOf, stepOf}
 use Rattle.names.specs.Laws.{dotted-step, dotted-none, shorter, dot-slash, dot-other}
 use Rattle.names.specs.declared.name.Name.{Name}

@@ -3,7 +3,7 @@ use mathlib.Core.Path.{_≡_, refl}
 use mathlib.Core.Bool.{true, false}
 use mathlib.Core.Option.{none, some}
 use mathlib.Core.List.{[], _∷_}
-use Rattle.text.specs.Ascii.{Bytes, ascii}
+use Rattle.text.specs.Ascii.{ascii}
 use Rattle.text.specs.Compare.{same}
 use Rattle.text.specs.Scan.{splitAt}
 use Rattle.spans.specs.Span.{_⋯_, bytes}

@@ -1,8 +1,8 @@
 -- Laws for all who keep names: what is read when the area grows, and the name of a word or an entry alone. Assumes nothing.
-use Prim.Native.Nat.{ℕ, _+_, _≤_, max}
+use Prim.Native.Nat.{ℕ, _+_, _≤_}
 use mathlib.Core.Path.{_≡_, refl}
 use mathlib.Core.Bool.{true, false}
-use mathlib.Core.List.{List, _++_}
+use mathlib.Core.List.{_++_}
 use native.Mathlib.Omega.{arith}
 use lib.ListN.{take}
 use Rattle.text.specs.Ascii.{Bytes}

@@ -7,17 +7,14 @@ ghost use Rattle.text.specs.Compare.{same as Compare·same, less as Compare·le
 ghost use Rattle.text.specs.Classes.{dotOf};
 ghost use Rattle.spans.specs.Span.{bytes};
 ghost use Rattle.out.specs.Bytewise.{dotted};
-ghost use Rattle.names.specs.Name.{entryOf, slash, nameOf};
+ghost use Rattle.names.specs.Name.{slash, nameOf};
 use super::name::Name;
 use super::name::Step;
 use super::name::alone;
 use super::name::next;
 use spans::span::Span;
 use spans::span::fetch;
-use spans::span::is;
 use spans::span::same_spans;
-use text::compare::starts_with;
-use text::part::rest;
 
 // Whether two names are the same, byte by byte.
 fn same_streams(files: &[u8], area: &[u8], a: Name, b: Name) -> bool

@@ -2,7 +2,7 @@
 ghost use mathlib.Core.Path.{_≡_};
 ghost use mathlib.Core.List.{_++_};
 ghost use Rattle.names.specs.Name.{nameOf};
-ghost use Rattle.names.specs.Parts.{parts, others, behind, unslashed, restOf, partOf};
+ghost use Rattle.names.specs.Parts.{parts, behind, unslashed, partOf};
 use super::name::Name;
 use super::name::Step;
 use super::name::next;

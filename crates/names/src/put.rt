@@ -3,7 +3,7 @@ ghost use mathlib.Core.Path.{_≡_};
 ghost use mathlib.Core.List.{_++_};
 ghost use Rattle.spans.specs.Span.{bytes};
 ghost use Rattle.out.specs.Emit.{_▸_, emit};
-ghost use Rattle.out.specs.Bytewise.{becomes as Bytewise·becomes, flat as Bytewise·flat, mangle as Bytewise·mangle, dotted as Bytewise·dotted, svStr};
+ghost use Rattle.out.specs.Bytewise.{becomes as Bytewise·becomes, flat as Bytewise·flat, dotted as Bytewise·dotted};
 ghost use Rattle.names.specs.Name.{entryOf, slash, nameOf};
 use super::name::Name;
 use super::name::Step;

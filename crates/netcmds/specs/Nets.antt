@@ -1,5 +1,5 @@
 -- create_supply_net: the nets that are known, and what the command does. Assumes nothing.
-use Prim.Native.Nat.{ℕ, zero, suc, _+_, _≤_, _<_, max}
+use Prim.Native.Nat.{ℕ, suc, _+_, _≤_, _<_}
 use native.Mathlib.Omega.{arith}
 use native.Mathlib.Numerals.{add-one}
 use mathlib.Core.Path.{_≡_, refl, sym, ap, _∙_}
@@ -10,8 +10,8 @@ use lib.Seq.{drop-cons, drop-length, length-take-le, getD-take}
 use Rattle.text.specs.Ascii.{Bytes}
 use Rattle.text.specs.Compare.{same}
 use Rattle.text.specs.Scan.{any}
-use Rattle.spans.specs.Span.{bytes, pairs}
-use Rattle.spans.specs.Reach.{lastOf, reach, none-reach}
+use Rattle.spans.specs.Span.{bytes}
+use Rattle.spans.specs.Reach.{reach, none-reach}
 use Rattle.spans.specs.declared.span.Span.{Span}
 use Rattle.names.specs.Name.{nameOf as Name·nameOf, Makes}
 use Rattle.names.specs.declared.name.Name.{Name}
@@ -28,11 +28,13 @@ use Rattle.store.specs.Tables.{sized-length}
 use Rattle.store.specs.Fits.{fit-nets}
 use Rattle.store.specs.Variables.{now-fits}
 use Rattle.store.specs.Steps.{net-view, net-shaped, net-bounded}
-use Rattle.store.specs.declared.stored.Stored.{Stored}
 use Rattle.store.specs.declared.stored.Below.{Below}
+use Rattle.store.specs.declared.state.Nets.{Nets}
 use Rattle.store.specs.declared.state.State.{State}
 use Rattle.made.specs.declared.Made.{Made}
-use Rattle.made.specs.Made.{fineMade, fullMade, reachOf, Ready, Did}
+use Rattle.made.specs.declared.Brief.{Brief}
+use Rattle.made.specs.declared.Deed.the-variants as deed
+use Rattle.made.specs.Made.{briefOf, fineMade, fullMade, reachOf, Ready, Did, Does}
 use Rattle.made.specs.Dids.{one-over, did-full, did-nothing}
 use Rattle.made.specs.Done.{did-state}
 use Rattle.portcmds.specs.Named.{BelowIs}
@@ -131,3 +133,30 @@ module _ (long : ℕ) (mem : Bytes) (words : List ℕ) (n : ℕ) (st : Store) (l
         (net-shaped st s (v .shaped) net h)
         (net-bounded (reachOf long) (length mem) st s (v .bounded) net l (omega (arith, a .within (reach long) (none-reach long), v .line, v .bounded .scope)))
         (record { count = refl; scope = refl; end = refl; log = refl; words = refl }))
+
+-- ---- its deed
+module _ (files area : Bytes) (words : List ℕ) (n : ℕ) (b : Brief) (t : Nets) (net : Below) (k : Bool) where
+  abbrev does : Model → Model
+  does m = net-command m (wordsFrom (files ++ area) words n 1)
+
+  abbrev isKnown : Nets → Bool
+  isKnown u = any (isCalled (files ++ area) (belowOf (files ++ area) net)) (take (u .n) (u .all))
+
+  pub nets-known : BelowIs (files ++ area) words n (b .scope) net → k ≡ isKnown t → k ≡ true → Does files area words n (λ (s : State). (briefOf s ≡ b) × (s .nets ≡ t)) deed.Nothing does
+  nets-known a e h s q =
+      let a′ : BelowIs (files ++ area) words n (s .head .scope) net = rw (ap (λ (z : Brief). z .scope) (q .0)) a in
+      let e′ : k ≡ isKnown (s .nets) = rw (q .1) e in
+      record { fits = tt; did = λ st log v. net-known (length files) (files ++ area) words n st log s v net k a′ e′ (fineMade s) h refl }
+
+  pub nets-full : BelowIs (files ++ area) words n (b .scope) net → k ≡ isKnown t → k ≡ false → 32 ≤ t .n → Does files area words n (λ (s : State). (briefOf s ≡ b) × (s .nets ≡ t)) deed.Full does
+  nets-full a e h l s q =
+      let a′ : BelowIs (files ++ area) words n (s .head .scope) net = rw (ap (λ (z : Brief). z .scope) (q .0)) a in
+      let e′ : k ≡ isKnown (s .nets) = rw (q .1) e in
+      record { fits = tt; did = λ st log v. net-full (length files) (files ++ area) words n st log s v net k a′ e′ (fullMade s) h (rw (q .1) l) refl }
+
+  pub nets-more : BelowIs (files ++ area) words n (b .scope) net → k ≡ isKnown t → k ≡ false → t .n < 32 → Does files area words n (λ (s : State). (briefOf s ≡ b) × (s .nets ≡ t)) (deed.Net net) does
+  nets-more a e h l s q =
+      let a′ : BelowIs (files ++ area) words n (s .head .scope) net = rw (ap (λ (z : Brief). z .scope) (q .0)) a in
+      let e′ : k ≡ isKnown (s .nets) = rw (q .1) e in
+      let l′ : s .nets .n < 32 = rw (q .1) l in
+      record { fits = l′; did = λ st log v. net-fine (length files) (files ++ area) words n st log s v net k a′ e′ (net-added s net) (fineMade (net-added s net)) h l′ refl refl }

@@ -1,27 +1,24 @@
 // create_supply_net: a net that is known is no new one.
-ghost use mathlib.Core.List.{List, _++_};
+ghost use mathlib.Core.List.{_++_};
 ghost use mathlib.Core.Path.{_≡_};
-ghost use Prim.Native.Nat.{ℕ, _≤_};
-ghost use lib.ListN.{length, take};
-ghost use Rattle.text.specs.Ascii.{Bytes};
+ghost use Prim.Native.Nat.{_≤_};
+ghost use lib.ListN.{take};
 ghost use Rattle.text.specs.Scan.{any};
 ghost use Rattle.names.specs.Name.{nameOf};
 ghost use Rattle.args.specs.View.{wordsFrom};
 ghost use Rattle.model.specs.Commands.{net-command};
 ghost use Rattle.store.specs.Strings.{belowOf};
-ghost use Rattle.store.specs.View.{Store, modelOf};
-ghost use Rattle.made.specs.Made.{Room, Ready, Did};
+ghost use Rattle.made.specs.Made.{Line, briefOf, Does};
+ghost use Rattle.model.specs.Records.{Model};
+ghost use Rattle.store.specs.declared.state.State.{State};
 ghost use Rattle.netcmds.specs.Nets.{isCalled};
-use made::Made;
-use made::fine;
-use made::full;
+use made::Brief;
+use made::Deed;
 use names::compare::same_names;
 use names::name::Name;
 use names::name::scoped;
 use portcmds::named_below;
 use store::state::Nets;
-use store::state::State;
-use store::state::add_net;
 use store::stored::Below;
 use store::stored::span;
 
@@ -59,20 +56,19 @@ pub fn create_supply_net<'a>(
     area: &'a [u8],
     words: &[u32],
     n: usize,
-    s: State,
-) -> Made
-    requires { ⌜ Room (now words) n s ⌝ }
-    ensures { λ r. ⌜ ((st : Store) (log : Bytes) → Ready (length (now (files .entry))) (now (files .entry) ++ now (area .entry)) (now (words .entry)) n st s → Did (length (now (files .entry))) (now (files .entry) ++ now (area .entry)) st log s r (net-command (modelOf (now (files .entry) ++ now (area .entry)) st s log) (wordsFrom (now (files .entry) ++ now (area .entry)) (now (words .entry)) n 1))) ⌝ }
+    b: Brief,
+    t: Nets,
+) -> Deed
+    requires { ⌜ Line (now words) n × (t .n ≤ 32) ⌝ }
+    ensures { λ r. ⌜ Does (now (files .entry)) (now (area .entry)) (now (words .entry)) n (λ (s : State). (briefOf s ≡ b) × (s .nets ≡ t)) r (λ (m : Model). net-command m (wordsFrom (now (files .entry) ++ now (area .entry)) (now (words .entry)) n 1)) ⌝ }
 {
-    let h = s.head;
-    let scope = h.scope;
+    let scope = b.scope;
     let net = named_below(files, area, words, n, scope);
-    let t = s.nets;
     if known_net(files, area, t, net) {
-        return fine(s);
+        return Deed::Nothing;
     }
     if 32 <= t.n {
-        return full(s);
+        return Deed::Full;
     }
-    fine(add_net(s, net))
+    Deed::Net(net)
 }

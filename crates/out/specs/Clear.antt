@@ -1,10 +1,10 @@
 -- "Outputs past their length, and the work areas, are zero after every call." Assumes nothing.
-use Prim.Native.Nat.{ℕ, zero, suc, _+_, _-_, _<_, _≤_}
+use Prim.Native.Nat.{ℕ, zero, suc, _+_, _-_, _≤_}
 use native.Mathlib.Numerals.{add-one}
 use native.Mathlib.Omega.{arith}
 use mathlib.Core.Path.{_≡_, refl, sym, ap, _∙_}
 use mathlib.Core.List.{List, [], _∷_, _++_}
-use lib.ListN.{length, set, take, drop, replicate}
+use lib.ListN.{length, set, replicate}
 
 -- the first `at` elements as they were, and zeros behind them up to the length
 unfoldable pub clearedFrom : ℕ → List ℕ → List ℕ

@@ -2,8 +2,8 @@
 -- What does not fit is dropped, and the place is then one past the end for good. Assumes nothing.
 use Prim.Native.Nat.{ℕ, _+_, _-_, _<_, _≤_}
 use mathlib.Core.Path.{_≡_, refl, _∙_}
-use mathlib.Core.Bool.{Bool, true, false, cond}
-use mathlib.Core.List.{List, [], _∷_, _++_}
+use mathlib.Core.Bool.{true, false, cond}
+use mathlib.Core.List.{[], _∷_, _++_}
 use Rattle.text.specs.Ascii.{Bytes}
 use lib.ListN.{length, set, getD, drop, drop-of-length-le, length-set}
 use lib.Seq.{drop-cons}

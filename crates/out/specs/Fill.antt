@@ -1,16 +1,16 @@
 -- A template: Rust's format strings with places such as `{0}`, `{{` for `{` and `}}` for `}`. Assumes nothing.
 use Prim.Native.String.{String}
-use Prim.Native.Nat.{ℕ, zero, suc, _+_, _-_, _<_, _≤_}
-use mathlib.Core.Path.{_≡_, refl, sym, _∙_}
+use Prim.Native.Nat.{ℕ, _+_, _-_}
+use mathlib.Core.Path.{_≡_, refl}
 use mathlib.Core.Bool.{Bool, true, false, cond, _&&_, _||_}
-use mathlib.Core.List.{List, [], _∷_, _++_}
+use mathlib.Core.List.{[], _∷_, _++_}
 use lib.Dec.{eqb, leb, ltb}
-use lib.ListN.{length, getD, take, drop}
+use lib.ListN.{getD}
 use Rattle.text.specs.Ascii.{Bytes, ascii, byte}
 use Rattle.text.specs.Classes.{within}
 use Rattle.text.specs.Scan.{before}
 use Rattle.out.specs.Emit.{Out, emit1, emit, emit-append}
-use Rattle.out.specs.Bytewise.{flat, mangle, dotted, svStr}
+use Rattle.out.specs.Bytewise.{mangle, dotted, svStr}
 
 -- the argument of a number
 unfoldable pub pick : ℕ → Bytes → Bytes → Bytes → Bytes → Bytes → Bytes

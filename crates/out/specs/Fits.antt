@@ -1,13 +1,13 @@
 -- What a whole text is after it was written from the start of a buffer: there, where it fits, and else the place is one past the end.
 -- Assumes nothing.
-use Prim.Native.Nat.{ℕ, zero, suc, _+_, _<_, _≤_}
+use Prim.Native.Nat.{ℕ, _+_, _<_, _≤_}
 use native.Mathlib.Nat.{add-zero, add-suc, suc-add, zero-add}
 use native.Mathlib.Numerals.{add-one}
 use native.Mathlib.Omega.{arith}
-use mathlib.Core.Path.{_≡_, refl, ap, sym, _∙_}
-use mathlib.Core.List.{List, [], _∷_, _++_}
+use mathlib.Core.Path.{_≡_, refl, ap, _∙_}
+use mathlib.Core.List.{[], _∷_, _++_}
 use Rattle.text.specs.Ascii.{Bytes}
-use lib.ListN.{length, set, take, drop, length-set}
+use lib.ListN.{length, set, drop, length-set}
 use lib.Seq.{sets, sets-eq}
 use lib.Dec.{ltb}
 use mathlib.Core.Bool.{Bool, true, false}

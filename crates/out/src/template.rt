@@ -6,7 +6,6 @@ ghost use Prim.Native.Nat.{_+_, _≤_, _<_};
 ghost use lib.ListN.{length, drop};
 ghost use Rattle.text.specs.Scan.{Ends, before};
 ghost use Rattle.out.specs.Emit.{_▸_, emit};
-ghost use Rattle.out.specs.Bytewise.{flat as Bytewise·flat, becomes as Bytewise·becomes, mangle as Bytewise·mangle, dotted as Bytewise·dotted, svStr};
 ghost use Rattle.out.specs.Fill.{pick, arg, isTemplate, isBrace, markText, markSize, fill as Fill·fill};
 use super::bytewise::dotted;
 use super::bytewise::mangle;

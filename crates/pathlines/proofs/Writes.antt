@@ -2,7 +2,7 @@
 use Prim.Native.Nat.{ℕ, _+_, _-_, _≤_, _<_}
 use mathlib.Core.Path.{_≡_, refl, sym, ap, _∙_}
 use mathlib.Core.Bool.{Bool, true, false, cond, not}
-use mathlib.Core.List.{List, [], _∷_, _++_, map, append-nil}
+use mathlib.Core.List.{List, [], _∷_, _++_, map}
 use native.Mathlib.Omega.{arith}
 use lib.ListN.{length, take, drop, getD, drop-of-length-le}
 use lib.Seq.{getD-take, length-take-le}
@@ -16,13 +16,13 @@ use Rattle.out.specs.Bytewise.{flat, becomes, flat-same}
 use Rattle.out.specs.Items.{each}
 use Rattle.jobindex.specs.Index.{section}
 use Rattle.design.specs.Lists.{those}
-use Rattle.design.specs.Paths.{childPath, scopePath}
+use Rattle.design.specs.Paths.{scopePath}
 use Rattle.paths.specs.Pieces.{stem}
 use Rattle.listing.specs.Listing.{cut, pathsOf}
 use Rattle.texts.specs.Domains.{force, release}
 use Rattle.texts.specs.Scope.{slashOf}
 use Rattle.scope.specs.Parts.{parts}
-use Rattle.format.specs.Args.{isThere}
+use Rattle.refs.specs.Heads.{isThere}
 use Rattle.pathlines.specs.Lines.{scopeStem, below-stem, below, lineOf, force-lines, release-lines}
 
 -- ---- what stands before a path

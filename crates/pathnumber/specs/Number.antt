@@ -1,7 +1,7 @@
 -- The number of a text, byte by byte: texts with different numbers differ. Assumes nothing.
 use Prim.Native.Nat.{ℕ, _+_, _*_, _%_}
 use mathlib.Core.Path.{_≡_, refl}
-use mathlib.Core.List.{List, [], _∷_, _++_}
+use mathlib.Core.List.{[], _∷_, _++_}
 use Rattle.text.specs.Ascii.{Bytes}
 
 -- of a text whose number is h, with a byte more

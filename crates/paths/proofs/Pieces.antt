@@ -1,8 +1,8 @@
 -- A path compared piece by piece, from the back, and written. Assumes nothing.
-use Prim.Native.Nat.{ℕ, zero, suc, _+_, _<_, _≤_, _^_}
+use Prim.Native.Nat.{ℕ, _+_, _<_, _^_}
 use mathlib.Core.Path.{_≡_, refl, sym, ap, _∙_}
-use mathlib.Core.Bool.{Bool, true, false, cond, not, _&&_}
-use mathlib.Core.List.{List, [], _∷_, _++_}
+use mathlib.Core.Bool.{Bool, true, false, not, _&&_}
+use mathlib.Core.List.{[], _∷_, _++_}
 use native.Mathlib.Omega.{arith}
 use lib.Dec.{eqb}
 use lib.ListN.{length, take, drop, length-append, length-drop}
@@ -12,7 +12,7 @@ use borrow.Author.Tests.{not-true, not-false}
 use Rattle.text.specs.Ascii.{Bytes}
 use Rattle.text.specs.Compare.{same}
 use Rattle.text.specs.Sames.{differ}
-use Rattle.out.specs.Emit.{Out, _▸_, emit, emit-append}
+use Rattle.out.specs.Emit.{Out, emit, emit-append}
 use Rattle.out.specs.Bytewise.{dotted as Bytewise·dotted}
 use Rattle.names.specs.Name.{nameOf}
 use Rattle.names.specs.Laws.{dotted-map}

@@ -1,10 +1,10 @@
 -- Laws: how long a stored name can be. Assumes nothing.
 use Prim.Native.Nat.{ℕ, zero, suc, _+_, _*_, _≤_}
 use mathlib.Core.Bool.{Bool, true, false, cond}
-use mathlib.Core.List.{List, [], _∷_, _++_}
+use mathlib.Core.List.{[], _∷_, _++_}
 use native.Mathlib.Omega.{arith}
 use lib.Dec.{eqb}
-use lib.ListN.{length, take, drop, length-append, length-take}
+use lib.ListN.{length, drop, length-append, length-take}
 use Rattle.text.specs.Ascii.{Bytes}
 use Rattle.tcl.specs.Rewrite.{rewrite}
 use Rattle.tcl.specs.Join.{join}

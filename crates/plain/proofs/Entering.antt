@@ -1,40 +1,38 @@
 -- Laws: a command that writes neither the area nor the log nor words of states. Assumes nothing.
-use Prim.Native.Nat.{ℕ, zero, suc, _+_, _-_, _*_, _≤_, _<_}
+use Prim.Native.Nat.{ℕ, zero, suc, _+_, _-_, _*_, _≤_}
 use Prim.Native.String.{String}
 use native.Mathlib.Omega.{arith}
 use mathlib.Core.Path.{_≡_, refl, sym, ap, _∙_}
 use mathlib.Core.Bool.{Bool, true, false, cond}
-use mathlib.Core.List.{List, [], _∷_, _++_}
-use lib.ListN.{length, take, drop}
-use lib.Seq.{length-take-le}
-use borrow.Author.Needs.{needs}
+use mathlib.Core.List.{List, [], _∷_}
+use lib.ListN.{length, drop}
 use Rattle.text.specs.Ascii.{Bytes}
 use Rattle.text.specs.Sames.{no-true}
-use Rattle.spans.specs.Span.{bytes, pairAt, pairs, strings}
+use Rattle.spans.specs.Span.{bytes, pairAt}
 use Rattle.args.specs.View.{wordsFrom}
-use Rattle.model.specs.Names.{Command, Named, names}
+use Rattle.model.specs.Names.{Named, names}
 use Rattle.model.specs.Numbers.{namedIn, namedBy}
 use Rattle.model.specs.Records.{Model}
 use Rattle.model.specs.Within.{recordsFit}
-use Rattle.read.specs.Reading.{Reading, done, refused, Line, lineOf, actsBy, scopesBy}
+use Rattle.read.specs.Reading.{done, refused, Line, lineOf, actsBy, scopesBy}
 use Rattle.store.specs.View.{Store, modelOf}
-use Rattle.store.specs.Rows.{storeOf}
+use Rattle.store.specs.Rows.{Packs, storeOf}
 use Rattle.store.specs.Rowed.{with-row}
 use Rattle.store.specs.declared.state.State.{State}
 use Rattle.made.specs.declared.Made.{Made}
-use Rattle.made.specs.Made.{Room, Ready, Did}
+use Rattle.made.specs.Made.{Ready, Did}
 use Rattle.statecmds.specs.Stays.{worded-records, records-stay, unsupported-stays, room-stays}
-use Rattle.enter.specs.Entered.{done as carried, Enters}
-use Rattle.scopes.specs.declared.go.Out.{Out}
-use Rattle.held.specs.Held.{memOf, modelAt, countedOf, Logged, Held, Ran, Comes}
+use Rattle.enter.specs.Entered.{done as carried}
+use Rattle.held.specs.Held.{memOf, modelAt, countedOf, Ran}
 use Rattle.loads.specs.Steps.{acted, lineAt}
 use Rattle.loads.specs.Scoped.{line-is}
-use Rattle.plain.specs.Asks.{Asks, Others}
-use Rattle.plain.specs.Stores.{rowStored, outOf, RowRoom, Stores}
-use Rattle.plain.proofs.Holds.{ready, room, end-in, Steady, steady, acted-is, row-room, stored-held, stored-lent, stored-comes, made-is, tag-zero, ran-at, comes-at}
+use Rattle.plain.specs.Asks.{Asks}
+use Rattle.plain.specs.Reads.{Steady, steady, acted-is, comes-at}
+use Rattle.plain.specs.Stores.{rowStored, outOf}
+use Rattle.plain.proofs.Holds.{ready, same-rows, stored-held, stored-lent, stored-comes, made-is, tag-zero}
 
 -- ---- the names that move the scope or load
-abbrev moves : Named → Bool
+abbrev pub moves : Named → Bool
 moves Named.load-upf = true
 moves Named.set-scope = true
 moves (Named.other c) = false
@@ -107,15 +105,18 @@ module _ (files area nums words : List ℕ) (n c : ℕ) (s : State) (v : Asks fi
     did : (text : Bytes) → Did (length files) mem (storeOf nums s) text s r (left text)
     did text = e (storeOf nums s) text (ready files area nums 1 s (v .held) words n (v .worded))
 
-    pub row-asked : RowRoom nums r
-    row-asked = row-room files area nums s steady-now [] r (left []) (did [])
+    pub row-packs : Packs (r .row)
+    row-packs = did [] .packs
+
+    pub row-same : r .row .kind ≡ 0 → r .state .fill .rows ≡ s .fill .rows
+    row-same = same-rows files area nums s steady-now [] r (left []) (did [])
 
     words-in : r .tag ≡ 0 → r .state .fill .words ≤ 63 * (r .state .switches .n + r .state .portstates .n)
     words-in z =
         room-stays mem [] (storeOf nums s) (with-row (storeOf nums s) (r .row)) s (r .state) (left []) (v .held .shaped) (did [] .shaped) (made-is files area nums s steady-now [] r (left []) (did []) z)
         (still-records (namedBy c) still (now []) (bytes mem (pairAt words 0)) (wordsFrom mem words n 1)) (did [] .kept .words) (v .held .words)
 
-    ran : (log : Bytes) → Ran files area area nums (rowStored nums r) log log s (outOf r) (λ text. acted (namedBy c) (lineAt files area words n s) (countedOf s) (now text))
+    pub ran : (log : Bytes) → Ran files area area nums (rowStored nums r) log log s (outOf r) (λ text. acted (namedBy c) (lineAt files area words n s) (countedOf s) (now text))
     ran log =
         record {
           held = λ h. stored-held files area nums s steady-now [] r (left []) (did []) (tag-zero (r .tag) h) (words-in (tag-zero (r .tag) h));
@@ -124,20 +125,3 @@ module _ (files area nums words : List ℕ) (n c : ℕ) (s : State) (v : Asks fi
           reads = λ log₀ text h. comes-at files area (rowStored nums r) log₀ log (outOf r) (acted (namedBy c) (lineAt files area words n s) (countedOf s) (now text)) (cond (recordsFit (left text)) (done (countedOf s) (left text)) (refused 10 (s .count .commands))) (acted-as text)
               (stored-comes files area nums s steady-now text r (left text) (did text) log₀ log h);
         }
-
-    pub others-ran : (nums′ : List ℕ) (o : Out) → Stores nums nums′ r o → (log : Bytes) → Ran files area area nums nums′ log log s o (λ text. acted (namedBy c) (lineAt files area words n s) (countedOf s) (now text))
-    others-ran nums′ o g log = ran-at files area nums nums′ (rowStored nums r) log log s o (outOf r) (λ text. acted (namedBy c) (lineAt files area words n s) (countedOf s) (now text)) (g .becomes) (g .out) (ran log)
-
--- ---- as the needs ask it
-module _ (files area nums words : List ℕ) (n c : ℕ) (s : State) (v : Others files area nums words n c s) where
-  pub others-still : moves (namedBy c) ≡ false
-  others-still = no-move c (v .enters .no-load) (v .enters .no-scope)
-
-  pub others-room : Room words n s × Enters n c
-  others-room = (room files area nums 1 s (v .asks .held) words n (v .asks .worded) (omega (arith, v .asks .held .rows, v .asks .counted)), v .enters)
-
-  pub others-end : s .fill .end ≤ length area
-  others-end = end-in files area nums 1 s (v .asks .held)
-
-  pub others-count : s .fill .end ≡ length (take (s .fill .end) area)
-  others-count = sym (length-take-le (s .fill .end) area others-end)

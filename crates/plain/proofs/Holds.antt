@@ -1,37 +1,33 @@
 -- Laws: what a command leaves that writes neither the area nor the log. Assumes nothing.
-use Prim.Native.Nat.{ℕ, zero, suc, _+_, _-_, _*_, _≤_, _<_, _^_, max}
+use Prim.Native.Nat.{ℕ, _+_, _-_, _*_, _≤_, _<_}
 use native.Mathlib.Omega.{arith}
-use native.Mathlib.Nat.{add-zero}
 use mathlib.Core.Path.{_≡_, refl, sym, ap, _∙_}
-use mathlib.Core.Bool.{Bool, true, false, cond, _&&_}
+use mathlib.Core.Bool.{Bool, true, false, cond}
 use mathlib.Core.List.{List, [], _∷_, _++_}
-use mathlib.Core.Option.{Option, none, some}
-use lib.Dec.{eqb, leb}
-use lib.ListN.{length, take, drop, length-append}
+use mathlib.Core.Option.{none, some}
+use lib.Dec.{eqb}
+use lib.ListN.{length, take, length-append}
 use lib.Seq.{length-take-le}
-use borrow.Author.Tests.{eq-eqb, ne-eqb, eqb-true, eqb-false, le-leb}
+use borrow.Author.Tests.{eq-eqb, ne-eqb, eqb-true, eqb-false}
 use Rattle.text.specs.Ascii.{Bytes}
 use Rattle.out.specs.Emit.{_▸_, emit}
-use Rattle.spans.specs.Span.{bytes, pairAt, pairs, strings}
+use Rattle.spans.specs.Span.{pairs}
 use Rattle.spans.specs.Reach.{spanEnd, lastOf, reach, reach-end}
 use Rattle.spans.specs.declared.span.Span.{Span}
-use Rattle.args.specs.View.{wordsFrom}
-use Rattle.model.specs.Names.{Command, Named}
 use Rattle.model.specs.Records.{Model}
-use Rattle.model.specs.Within.{Counted, recordsFit, countsFit}
-use Rattle.read.specs.Reading.{Reading, done, refused, Line, lineOf, actsBy, scopesBy}
+use Rattle.model.specs.Within.{recordsFit}
+use Rattle.read.specs.Reading.{Reading, done, refused}
 use Rattle.store.specs.View.{Store, modelOf}
 use Rattle.store.specs.Order.{Shaped, Bounded}
-use Rattle.store.specs.Rows.{Packs, row-place, row-put, rowsIn, wordsIn, storeOf, rows-put, words-kept}
+use Rattle.store.specs.Rows.{row-put, rowsIn, wordsIn, storeOf, rows-put, words-kept}
 use Rattle.store.specs.Rowed.{rowed, with-row}
-use Rattle.store.specs.declared.stored.Stored.{Stored}
 use Rattle.store.specs.declared.state.State.{State}
 use Rattle.made.specs.declared.Made.{Made}
-use Rattle.made.specs.Made.{Room, Ready, Kept, Did, reachOf}
+use Rattle.made.specs.Made.{Line as Words·Line, Ready, Did, reachOf}
 use Rattle.scopes.specs.declared.go.Out.{Out}
-use Rattle.held.specs.Held.{memOf, modelAt, countedOf, logOf, readingOf, Logged, Lends, Held, Worded, Lent, Comes, Ran}
-use Rattle.loads.specs.Steps.{acted, scopesOn}
-use Rattle.plain.specs.Stores.{rowStored, outOf, RowRoom, Stores}
+use Rattle.held.specs.Held.{memOf, modelAt, countedOf, Logged, Held, Worded, Lent, Comes, Ran}
+use Rattle.plain.specs.Reads.{Steady, model-log, cond-true, cond-false, reading-done, reading-refused}
+use Rattle.plain.specs.Stores.{rowStored, outOf}
 use Rattle.plain.proofs.Rows.{rows-length, stored-long, stored-low, stored-high}
 
 -- ---- what a command asks
@@ -57,29 +53,8 @@ module _ (files area nums : List ℕ) (k : ℕ) (s : State) (v : Held files area
           small = omega (arith, known-long, v .lends .files-short, v .end, v .substituted, v .scopes);
         }
 
-    pub room : s .fill .rows < 1024 → Room words n s
-    room h =
-        record {
-          line = omega (arith, last-span (length files) (pairs words 0 n), w, v .lends .small, end-in);
-          rows = h;
-          domains = v .shaped .domains .count;
-          nets = v .shaped .nets .count;
-          isolations = v .shaped .isolations .count;
-          tables = v .shaped .tables .count;
-        }
-
--- ---- the state before its row is put: what of the invariant no command looks at
-pub record Steady (files area nums : List ℕ) (s : State) : Type 0 where
-  pub lends : Lends files area nums
-  pub commands : s .count .commands ≤ 1024
-  pub substituted : s .count .substituted ≤ 16384
-  pub scopes : s .count .scopes ≤ 8192
-  pub entries : s .count .entries ≤ 1024
-  pub end : s .fill .end ≤ s .count .substituted + s .count .scopes
-  pub rows : s .fill .rows + 1 ≤ s .count .commands
-
-pub steady : (files area nums : List ℕ) (s : State) → Held files area nums 1 s → s .count .commands ≤ 1024 → Steady files area nums s
-steady files area nums s v h = record { lends = v .lends; commands = h; substituted = v .substituted; scopes = v .scopes; entries = v .entries; end = v .end; rows = v .rows }
+    pub room : Words·Line words n
+    room = omega (arith, last-span (length files) (pairs words 0 n), w, v .lends .small, end-in)
 
 shaped-at : (st st′ : Store) (s : State) → st ≡ st′ → Shaped st′ s → Shaped st s
 shaped-at st st′ s e v = rw e v
@@ -87,45 +62,9 @@ shaped-at st st′ s e v = rw e v
 bounded-at : (long n n′ : ℕ) (st st′ : Store) (s : State) → st ≡ st′ → n ≡ n′ → Bounded (reachOf long) n′ st′ s → Bounded (reachOf long) n st s
 bounded-at long n n′ st st′ s e f v = rw (e, f) v
 
-pub model-log : (mem : Bytes) (st : Store) (s : State) (log : Bytes) → modelOf mem st s log .log ≡ log
-unfolding modelOf
-model-log mem st s log = refl
-
-cond-true : {A : Type 0} (b : Bool) (x y : A) → b ≡ true → cond b x y ≡ x
-cond-true b x y e = rw e
-
-cond-false : {A : Type 0} (b : Bool) (x y : A) → b ≡ false → cond b x y ≡ y
-cond-false b x y e = rw e
-
-module _ (files area nums : List ℕ) (log : Bytes) (o : Out) where
-  pub reading-done : (n : Counted) (t : Model) → o .tag ≡ 0 → countedOf (o .state) ≡ n → modelAt files area nums (o .state) log ≡ t → readingOf files area nums log o ≡ done n t
-  reading-done n t z p q =
-      cond-true (eqb (o .tag) 0) (done (countedOf (o .state)) (modelAt files area nums (o .state) log)) (refused (o .tag) (o .state .count .commands)) (eq-eqb (o .tag) 0 z)
-      ∙ ap (λ (x : Counted). done x (modelAt files area nums (o .state) log)) p
-      ∙ ap (done n) q
-
-  pub reading-refused : (k : ℕ) → o .tag ≡ 10 → o .state .count .commands ≡ k → readingOf files area nums log o ≡ refused 10 k
-  reading-refused k z p =
-      cond-false (eqb (o .tag) 0) (done (countedOf (o .state)) (modelAt files area nums (o .state) log)) (refused (o .tag) (o .state .count .commands)) (ne-eqb (o .tag) 0 (λ q. absurd (omega (arith, z, q))))
-      ∙ ap (λ (x : ℕ). refused x (o .state .count .commands)) z
-      ∙ ap (refused 10) p
-
--- ---- a command that moves no scope is carried out within the limits of records alone
-counts-on : (n : Counted) (k : ℕ) → k ≡ 0 → _≡_ {A = Counted} (record { commands = n .commands; substituted = n .substituted; scopes = n .scopes + k; entries = n .entries }) n
-counts-on n k e = rw (e, add-zero)
-
-module _ (files area nums : List ℕ) (s : State) (v : Steady files area nums s) where
-  counts-fit : countsFit (countedOf s) ≡ true
-  counts-fit = rw (le-leb (s .count .commands) 1024 (v .commands), le-leb (s .count .substituted) 16384 (v .substituted), le-leb (s .count .scopes) 8192 (v .scopes), le-leb (s .count .entries) 1024 (v .entries))
-
-  pub acted-is : (c : Named) (l : Line) (m : Model) → scopesBy c l (actsBy c m l) ≡ 0 → acted c l (countedOf s) m ≡ cond (recordsFit (actsBy c m l)) (done (countedOf s) (actsBy c m l)) (refused 10 (s .count .commands))
-  acted-is c l m z =
-      ap (λ (x : Counted). cond (countsFit x && recordsFit (actsBy c m l)) (done x (actsBy c m l)) (refused 10 (s .count .commands))) (counts-on (countedOf s) (scopesBy c l (actsBy c m l)) z)
-      ∙ ap (λ (b : Bool). cond (b && recordsFit (actsBy c m l)) (done (countedOf s) (actsBy c m l)) (refused 10 (s .count .commands))) counts-fit
-
 -- ---- its answer, with the row in the store
 module _ (files area nums : List ℕ) (s : State) (v : Steady files area nums s) (log : Bytes) (r : Made) (t : Model) (d : Did (length files) (memOf files area s) (storeOf nums s) log s r t) where
-  same-rows : r .row .kind ≡ 0 → r .state .fill .rows ≡ s .fill .rows
+  pub same-rows : r .row .kind ≡ 0 → r .state .fill .rows ≡ s .fill .rows
   same-rows z =
       let a : with-row (storeOf nums s) (r .row) ≡ storeOf nums s = cond-true (eqb (r .row .kind) 0) (storeOf nums s) (rowed (storeOf nums s) (r .row)) (eq-eqb (r .row .kind) 0 z) in
       d .shaped .rows ∙ ap (λ (st : Store). length (st .rows)) a ∙ rows-length nums (s .fill .rows)
@@ -134,9 +73,6 @@ module _ (files area nums : List ℕ) (s : State) (v : Steady files area nums s)
   more-rows z =
       let a : with-row (storeOf nums s) (r .row) ≡ rowed (storeOf nums s) (r .row) = cond-false (eqb (r .row .kind) 0) (storeOf nums s) (rowed (storeOf nums s) (r .row)) (ne-eqb (r .row .kind) 0 z) in
       omega (arith, d .shaped .rows ∙ ap (λ (st : Store). length (st .rows)) a, length-append (rowsIn nums (s .fill .rows)) (r .row ∷ []), rows-length nums (s .fill .rows))
-
-  pub row-room : RowRoom nums r
-  row-room = record { long = v .lends .nums-long; packs = d .packs; some = λ z. omega (arith, more-rows z); few = λ z. omega (arith, more-rows z, v .rows, v .commands) }
 
   few-rows : r .state .fill .rows ≤ s .fill .rows + 1
   few-rows = go (eqb (r .row .kind) 0) refl
@@ -227,7 +163,7 @@ module _ (files area nums : List ℕ) (s : State) (v : Steady files area nums s)
       go true e = cc
       go false e = absurd (let y : _≡_ {A = ℕ} 0 1 = cc in omega arith)
 
--- ---- the answer that `stored` makes
+-- ---- the answer with its row
 pub tag-zero : (k : ℕ) → _≡_ {A = ℕ} (cond (eqb k 0) 0 10) 0 → k ≡ 0
 tag-zero k e = go (eqb k 0) refl e
   where
@@ -237,6 +173,3 @@ tag-zero k e = go (eqb k 0) refl e
 
 pub ran-at : (files area nums₀ nums nums′ log₁ log : List ℕ) (s : State) (o o′ : Out) (D : Bytes → Reading) → nums ≡ nums′ → o ≡ o′ → Ran files area area nums₀ nums′ log₁ log s o′ D → Ran files area area nums₀ nums log₁ log s o D
 ran-at files area nums₀ nums nums′ log₁ log s o o′ D e f v = rw (e, f) v
-
-pub comes-at : (files area nums log₀ log : List ℕ) (o : Out) (d d′ : Reading) → d ≡ d′ → Comes files area nums log₀ log o d′ → Comes files area nums log₀ log o d
-comes-at files area nums log₀ log o d d′ e v = rw e v

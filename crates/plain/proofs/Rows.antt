@@ -1,46 +1,57 @@
 -- Laws: a row put into the store. Assumes nothing.
-use Prim.Native.Nat.{ℕ, zero, suc, _+_, _-_, _*_, _≤_, _<_}
+use Prim.Native.Nat.{ℕ, zero, suc, _+_, _-_, _≤_, _<_}
 use native.Mathlib.Omega.{arith}
-use mathlib.Core.Path.{_≡_, refl, sym, ap, _∙_}
+use mathlib.Core.Path.{_≡_, refl, _∙_}
 use mathlib.Core.Bool.{Bool, true, false, cond}
-use mathlib.Core.List.{List, [], _∷_, _++_}
-use lib.Dec.{eqb}
+use mathlib.Core.List.{List, [], _∷_}
+use lib.Dec.{eqb, leb}
 use lib.ListN.{length, take, drop, set, length-append}
 use lib.Seq.{take-set-le, drop-set-lt}
-use borrow.Author.Needs.{needs}
-use borrow.Author.Tests.{eq-eqb, ne-eqb}
-use Rattle.store.specs.Rows.{Packs, row-place, word-place, code, row-put, word-put, rowAt, rowsIn, row-put-long}
+use borrow.Author.Tests.{eqb-true}
+use Rattle.store.specs.Rows.{row-place, word-place, code, row-put, word-put, rowAt, rowsIn, row-put-long}
 use Rattle.store.specs.declared.stored.Stored.{Stored}
 use Rattle.store.specs.declared.row.Row.{Row}
 use Rattle.statecmds.specs.Words.{wordsPut}
+use Rattle.store.specs.declared.state.State.{State}
+use Rattle.store.specs.Added.{warning-counted}
 use Rattle.made.specs.declared.Made.{Made}
-use Rattle.scopes.specs.declared.go.Out.{Out}
-use Rattle.plain.specs.Stores.{rowStored, outOf, RowRoom, Stores}
+use Rattle.made.specs.declared.Deed.{Deed}
+use Rattle.made.specs.declared.Deed.the-variants as deed
+use Rattle.made.specs.Made.{fullMade, warning-row, doneBy}
+use Rattle.deeds.specs.Deeds.{deedPut}
+use Rattle.plain.specs.Stores.{rowStored}
 
--- ---- stored
-module _ (nums : List ℕ) (r : Made) where
-  pub row-asks : RowRoom nums r → (r .row .kind ≡ 0 → ⊥) → (r .state .fill .rows - 1 < 1024) × ((16384 ≤ length nums) × Packs (r .row))
-  row-asks v z = (omega (arith, v .few z, v .some z), (v .long, v .packs))
+-- ---- the row of a deed
+put-by : (nums : List ℕ) (k : ℕ) (r : Row) → (b : Bool) → (b ≡ true → k + 1 ≡ k) → row-put nums k r ≡ cond b nums (row-put nums (k + 1 - 1) r)
+put-by nums k r true h = absurd (omega (arith, h refl))
+put-by nums k r false h = let e : k + 1 - 1 ≡ k = omega arith in rw e
 
-  pub row-some : RowRoom nums r → (r .row .kind ≡ 0 → ⊥) → 1 ≤ r .state .fill .rows
-  row-some v z = v .some z
+abbrev warned : State → ℕ → Stored → Bool → Made
+warned s kind name b = cond b (fullMade s) (record { tag = 0; state = warning-counted s; row = warning-row kind name })
 
-  pub stores-refused : (r .tag ≡ 0 → ⊥) → Stores nums nums r (record { tag = 10; state = r .state })
-  stores-refused z = let e : eqb (r .tag) 0 ≡ false = ne-eqb (r .tag) 0 z in record { out = rw e; becomes = rw e }
-
-  pub stores-none : r .tag ≡ 0 → r .row .kind ≡ 0 → Stores nums nums r (record { tag = 0; state = r .state })
-  stores-none z k =
-      let e : eqb (r .tag) 0 ≡ true = eq-eqb (r .tag) 0 z in
-      let f : eqb (r .row .kind) 0 ≡ true = eq-eqb (r .row .kind) 0 k in
-      record { out = rw e; becomes = rw (e, f) }
-
-  pub stores-row : (nums′ : List ℕ) → r .tag ≡ 0 → (r .row .kind ≡ 0 → ⊥) → nums′ ≡ row-put nums (r .state .fill .rows - 1) (r .row) → Stores nums nums′ r (record { tag = 0; state = r .state })
-  stores-row nums′ z k b =
-      let e : eqb (r .tag) 0 ≡ true = eq-eqb (r .tag) 0 z in
-      let f : eqb (r .row .kind) 0 ≡ false = ne-eqb (r .row .kind) 0 k in
-      record { out = rw e; becomes = rw (e, f) b }
-
-pub ruleset stores = (needs, row-asks, row-some, stores-refused, stores-none, stores-row)
+-- a row is counted, so that its kind is not 0
+pub put-is : (nums : List ℕ) (s : State) (d : Deed) → (doneBy s d .row .kind ≡ 0 → doneBy s d .state .fill .rows ≡ s .fill .rows) → deedPut nums (s .fill .rows) (s .fill .warnings) d ≡ rowStored nums (doneBy s d)
+put-is nums s deed.Nothing h = refl
+put-is nums s deed.Full h = refl
+put-is nums s (deed.Warning kind name) h = go (leb 256 (s .fill .warnings)) h
+  where
+    go : (b : Bool) → (warned s kind name b .row .kind ≡ 0 → warned s kind name b .state .fill .rows ≡ s .fill .rows) → cond b nums (row-put nums (s .fill .rows) (warning-row kind name)) ≡ rowStored nums (warned s kind name b)
+    go true g = refl
+    go false g = put-by nums (s .fill .rows) (warning-row kind name) (eqb kind 0) (λ q. g (eqb-true kind 0 q))
+put-is nums s (deed.Row r) h = put-by nums (s .fill .rows) r (eqb (r .kind) 0) (λ q. h (eqb-true (r .kind) 0 q))
+put-is nums s (deed.Variable a b) h = refl
+put-is nums s (deed.Top t) h = refl
+put-is nums s (deed.Domain x) h = refl
+put-is nums s (deed.Supplied i x) h = refl
+put-is nums s (deed.Net x) h = refl
+put-is nums s (deed.Port x) h = refl
+put-is nums s (deed.Isolation x) h = refl
+put-is nums s (deed.Controlled i x) h = refl
+put-is nums s (deed.Retention x) h = refl
+put-is nums s (deed.Shifter x) h = refl
+put-is nums s (deed.Table x) h = refl
+put-is nums s (deed.Switch x e) h = refl
+put-is nums s (deed.PortState x e) h = refl
 
 -- ---- how many
 pub rows-length : (nums : List ℕ) (k : ℕ) → length (rowsIn nums k) ≡ k

@@ -1,40 +1,39 @@
 -- Laws: a command that puts words of states into the store. Assumes nothing.
-use Prim.Native.Nat.{ℕ, zero, suc, _+_, _-_, _*_, _≤_, _<_}
+use Prim.Native.Nat.{ℕ, _+_, _-_, _≤_}
 use native.Mathlib.Omega.{arith}
 use mathlib.Core.Path.{_≡_, refl, sym, ap, _∙_}
 use mathlib.Core.Bool.{Bool, true, false, cond, _||_}
-use mathlib.Core.List.{List, [], _∷_, _++_}
-use mathlib.Core.Option.{Option, none, some}
+use mathlib.Core.List.{List, []}
 use lib.ListN.{length, take, drop}
 use Rattle.text.specs.Ascii.{Bytes, ascii}
 use Rattle.text.specs.Compare.{same}
 use Rattle.text.specs.Sames.{same-eq}
-use Rattle.fields.specs.Fields.{among}
-use Rattle.spans.specs.Span.{bytes, pairAt, pairs, strings}
+use Rattle.spans.specs.Span.{bytes, pairAt}
 use Rattle.tcl.specs.Arguments.{isKey}
 use Rattle.args.specs.View.{wordsFrom}
 use Rattle.model.specs.Names.{Command, Named, commandNamed}
 use Rattle.model.specs.Numbers.{namedBy}
 use Rattle.model.specs.Records.{Model}
-use Rattle.model.specs.Commands.{switch-command, port-state-command, carriedOut}
+use Rattle.model.specs.Commands.{carriedOut}
 use Rattle.model.specs.Within.{recordsFit}
-use Rattle.read.specs.Reading.{done, refused, Line, lineOf, actsBy, scopesBy}
-use Rattle.store.specs.View.{Store, modelOf}
-use Rattle.store.specs.Rows.{storeOf, word-place}
+use Rattle.read.specs.Reading.{done, refused, lineOf}
+use Rattle.store.specs.View.{Store}
+use Rattle.store.specs.Rows.{Packs, storeOf}
 use Rattle.store.specs.declared.stored.Stored.{Stored}
 use Rattle.store.specs.declared.state.State.{State}
 use Rattle.made.specs.declared.Made.{Made}
-use Rattle.made.specs.Made.{Room, Ready, Did}
-use Rattle.statecmds.specs.Words.{wordsPut, worded, words-set, words-long, store-more}
-use Rattle.statecmds.specs.Stated.{WordRoom, WordsDid}
-use Rattle.scopes.specs.declared.go.Out.{Out}
-use Rattle.held.specs.Held.{memOf, modelAt, countedOf, Logged, Lends, Held, Lent, Ran, Comes}
+use Rattle.made.specs.declared.Deed.{Deed}
+use Rattle.made.specs.Made.{Did, words-set, briefOf, doneBy}
+use Rattle.statecmds.specs.Words.{wordsPut, worded, words-long, store-more}
+use Rattle.statecmds.specs.Stated.{WordRoom, WordsDone}
+use Rattle.held.specs.Held.{memOf, modelAt, countedOf, Lent, Ran}
 use Rattle.loads.specs.Steps.{acted, lineAt}
 use Rattle.loads.specs.Scoped.{line-is}
 use Rattle.plain.specs.Asks.{Asks}
-use Rattle.plain.specs.Stores.{rowStored, outOf, RowRoom, Stores}
+use Rattle.plain.specs.Reads.{Steady, steady, acted-is, comes-at}
+use Rattle.plain.specs.Stores.{rowStored, outOf}
 use Rattle.plain.proofs.Rows.{words-low, words-high}
-use Rattle.plain.proofs.Holds.{ready, room, Steady, steady, acted-is, row-room, stored-held, stored-lent, stored-comes, tag-zero, comes-at, ran-at}
+use Rattle.plain.proofs.Holds.{ready, room, same-rows, stored-held, stored-lent, stored-comes, tag-zero}
 
 did-at : (long : ℕ) (mem : Bytes) (st st′ : Store) (log : Bytes) (s : State) (r : Made) (t : Model) → st ≡ st′ → Did long mem st′ log s r t → Did long mem st log s r t
 did-at long mem st st′ log s r t e d = rw e d
@@ -52,23 +51,26 @@ module _ (files area nums words : List ℕ) (n c : ℕ) (s : State) (v : Asks fi
       ∙ acted-is files area nums s (steady files area nums s (v .held) (v .counted)) (Named.other x) (lineAt files area words n s) (modelAt files area nums s text) refl
       ∙ ap (λ (l : List Bytes). cond (recordsFit (carriedOut x (modelAt files area nums s text) (lineOf l .name) (lineOf l .rest))) (done (countedOf s) (carriedOut x (modelAt files area nums s text) (lineOf l .name) (lineOf l .rest))) (refused 10 (s .count .commands))) (line-is mem words n (v .named))
 
-  module _ (nums₁ : List ℕ) (r : Made) (g : WordsDid (length files) mem words n nums nums₁ s r (λ (m : Model). carriedOut x m (bytes mem (pairAt words 0)) (wordsFrom mem words n 1))) where
+  module _ (nums₁ : List ℕ) (d : Deed) (put : List Stored) (becomes : nums₁ ≡ wordsPut nums (s .fill .words) put) (g : WordsDone files (take (s .fill .end) area) words n put s d (λ (m : Model). carriedOut x m (bytes mem (pairAt words 0)) (wordsFrom mem words n 1))) where
     abbrev s₁ : State
-    s₁ = words-set s (s .fill .words + length (g .put))
+    s₁ = words-set s (s .fill .words + length put)
 
-    plain-did : (text : Bytes) → Did (length files) mem (worded (storeOf nums s) (g .put)) text s₁ r (left text)
+    abbrev r : Made
+    r = doneBy s d
+
+    plain-did : (text : Bytes) → Did (length files) mem (worded (storeOf nums s) put) text s₁ r (left text)
     plain-did text = g .did (storeOf nums s) text (ready files area nums 1 s (v .held) words n (v .worded))
 
-    few : s .fill .words + length (g .put) ≤ 4032
+    few : s .fill .words + length put ≤ 4032
     few = omega (arith, plain-did [] .kept .words, g .stored, plain-did [] .shaped .switches .count, plain-did [] .shaped .portstates .count)
 
-    store-is : storeOf nums₁ s₁ ≡ worded (storeOf nums s) (g .put)
+    store-is : storeOf nums₁ s₁ ≡ worded (storeOf nums s) put
     store-is =
-        ap (λ (l : List ℕ). storeOf l s₁) (g .becomes)
-        ∙ store-more nums s (g .put) (omega (arith, v .held .rows, v .counted)) (omega (arith, few, v .held .lends .nums-long))
+        ap (λ (l : List ℕ). storeOf l s₁) becomes
+        ∙ store-more nums s put (omega (arith, v .held .rows, v .counted)) (omega (arith, few, v .held .lends .nums-long))
 
-    long-is : length nums₁ ≡ length nums
-    long-is = ap length (g .becomes) ∙ words-long nums (s .fill .words) (g .put)
+    pub long-is : length nums₁ ≡ length nums
+    long-is = ap length becomes ∙ words-long nums (s .fill .words) put
 
     steady-on : Steady files area nums₁ s₁
     steady-on =
@@ -83,10 +85,13 @@ module _ (files area nums words : List ℕ) (n c : ℕ) (s : State) (v : Asks fi
         }
 
     did : (text : Bytes) → Did (length files) mem (storeOf nums₁ s₁) text s₁ r (left text)
-    did text = did-at (length files) mem (storeOf nums₁ s₁) (worded (storeOf nums s) (g .put)) text s₁ r (left text) store-is (plain-did text)
+    did text = did-at (length files) mem (storeOf nums₁ s₁) (worded (storeOf nums s) put) text s₁ r (left text) store-is (plain-did text)
 
-    pub words-row : RowRoom nums₁ r
-    words-row = row-room files area nums₁ s₁ steady-on [] r (left []) (did [])
+    pub words-packs : Packs (r .row)
+    words-packs = did [] .packs
+
+    pub words-same : r .row .kind ≡ 0 → r .state .fill .rows ≡ s .fill .rows
+    words-same = same-rows files area nums₁ s₁ steady-on [] r (left []) (did [])
 
     lent : Lent (s .fill .end) area area nums (rowStored nums₁ r)
     lent =
@@ -94,12 +99,12 @@ module _ (files area nums words : List ℕ) (n c : ℕ) (s : State) (v : Asks fi
         record {
           kept = refl;
           back = refl;
-          low = b .low ∙ ap (take 1472) (g .becomes) ∙ words-low nums (s .fill .words) (g .put);
-          high = b .high ∙ ap (drop 14656) (g .becomes) ∙ words-high nums (s .fill .words) (g .put) few;
+          low = b .low ∙ ap (take 1472) becomes ∙ words-low nums (s .fill .words) put;
+          high = b .high ∙ ap (drop 14656) becomes ∙ words-high nums (s .fill .words) put few;
         }
 
-    ran : (log : Bytes) → Ran files area area nums (rowStored nums₁ r) log log s (outOf r) (λ text. acted (namedBy c) (lineAt files area words n s) (countedOf s) (modelAt files area nums s text))
-    ran log =
+    pub words-ran : (log : Bytes) → Ran files area area nums (rowStored nums₁ r) log log s (outOf r) (λ text. acted (namedBy c) (lineAt files area words n s) (countedOf s) (modelAt files area nums s text))
+    words-ran log =
         record {
           held = λ h. stored-held files area nums₁ s₁ steady-on [] r (left []) (did []) (tag-zero (r .tag) h) (g .stored);
           more = λ h. omega (arith, did [] .kept .end);
@@ -108,13 +113,10 @@ module _ (files area nums words : List ℕ) (n c : ℕ) (s : State) (v : Asks fi
               (stored-comes files area nums₁ s₁ steady-on text r (left text) (did text) log₀ log h);
         }
 
-    pub words-ran : (nums′ : List ℕ) (o : Out) → Stores nums₁ nums′ r o → (log : Bytes) → Ran files area area nums nums′ log log s o (λ text. acted (namedBy c) (lineAt files area words n s) (countedOf s) (modelAt files area nums s text))
-    words-ran nums′ o q log = ran-at files area nums nums′ (rowStored nums₁ r) log log s o (outOf r) (λ text. acted (namedBy c) (lineAt files area words n s) (countedOf s) (modelAt files area nums s text)) (q .becomes) (q .out) (ran log)
-
-  pub words-room : (one two : Bytes) → isKey one two (bytes mem (pairAt words 0)) ≡ false → WordRoom one two mem words n nums s
+  pub words-room : (one two : Bytes) → isKey one two (bytes mem (pairAt words 0)) ≡ false → WordRoom one two mem words n nums (briefOf s)
   words-room one two k =
       record {
-        room = room files area nums 1 s (v .held) words n (v .worded) (omega (arith, v .held .rows, v .counted));
+        line = room files area nums 1 s (v .held) words n (v .worded);
         few = v .few;
         named = k;
         long = v .held .lends .nums-long;
@@ -156,12 +158,12 @@ state-unknown = refl
 named-as : (files area nums words : List ℕ) (n c : ℕ) (s : State) → Asks files area nums words n c s → commandNamed (bytes (memOf files area s) (pairAt words 0)) ≡ namedBy c
 named-as files area nums words n c s v = ap (λ (l : List Bytes). commandNamed (lineOf l .name)) (sym (line-is (memOf files area s) words n (v .named))) ∙ v .is
 
-pub switch-room : (files area nums words : List ℕ) (n : ℕ) (s : State) → Asks files area nums words n 21 s → WordRoom (ascii "-on_state") (ascii "-off_state") (memOf files area s) words n nums s
+pub switch-room : (files area nums words : List ℕ) (n : ℕ) (s : State) → Asks files area nums words n 21 s → WordRoom (ascii "-on_state") (ascii "-off_state") (memOf files area s) words n nums (briefOf s)
 switch-room files area nums words n s v =
     words-room files area nums words n 21 s v Command.create-power-switch refl (ascii "-on_state") (ascii "-off_state")
     (no-key (ascii "-on_state") (ascii "-off_state") (bytes (memOf files area s) (pairAt words 0)) Command.create-power-switch (named-as files area nums words n 21 s v) on-unknown off-unknown)
 
-pub port-room : (files area nums words : List ℕ) (n : ℕ) (s : State) → Asks files area nums words n 27 s → WordRoom (ascii "-state") (ascii "-state") (memOf files area s) words n nums s
+pub port-room : (files area nums words : List ℕ) (n : ℕ) (s : State) → Asks files area nums words n 27 s → WordRoom (ascii "-state") (ascii "-state") (memOf files area s) words n nums (briefOf s)
 port-room files area nums words n s v =
     words-room files area nums words n 27 s v Command.add-port-state refl (ascii "-state") (ascii "-state")
     (no-key (ascii "-state") (ascii "-state") (bytes (memOf files area s) (pairAt words 0)) Command.add-port-state (named-as files area nums words n 27 s v) state-unknown state-unknown)

@@ -8,7 +8,6 @@ use Rattle.model.specs.Numbers.{namedBy}
 use Rattle.store.specs.declared.state.State.{State}
 use Rattle.lists.specs.Values.{Whole}
 use Rattle.held.specs.Held.{Held, Worded}
-use Rattle.enter.specs.Entered.{Enters}
 use Rattle.loads.specs.Steps.{lineAt}
 
 -- counting its entries: its words are whole in the files or in the area
@@ -27,8 +26,3 @@ pub record Asks (files area nums words : List ℕ) (n c : ℕ) (s : State) : Typ
   pub known : c ≤ 30
   pub no-load : c ≡ 2 → ⊥
   pub is : commandNamed (lineAt files area words n s .name) ≡ namedBy c
-
--- of these those that write neither the area nor the log nor words of states
-pub record Others (files area nums words : List ℕ) (n c : ℕ) (s : State) : Type 0 where
-  pub asks : Asks files area nums words n c s
-  pub enters : Enters n c

@@ -1,32 +1,32 @@
 // A command that loads nothing.
 ghost use mathlib.Core.Path.{_≡_};
-ghost use mathlib.Core.List.{List, _++_};
-ghost use Prim.Native.Nat.{ℕ, _≤_};
-ghost use lib.ListN.{length};
+ghost use mathlib.Core.List.{_++_};
+ghost use Rattle.out.specs.Emit.{_▸_, emit};
 ghost use Rattle.spans.specs.Span.{strings};
+ghost use Rattle.args.specs.View.{wordsFrom};
 ghost use Rattle.model.specs.Numbers.{namedBy};
 ghost use Rattle.model.specs.Within.{entriesOf, listsBy};
 ghost use Rattle.read.specs.Reading.{lineOf};
-ghost use Rattle.text.specs.Ascii.{Bytes};
-ghost use Rattle.held.specs.Held.{countedOf, modelAt, Ran};
-ghost use Rattle.loads.specs.Steps.{acted, lineAt};
-ghost use Rattle.plain.specs.Asks.{Lists, Asks, Others};
+ghost use Rattle.plain.specs.Acts.{Acting, Acts};
+ghost use Rattle.plain.specs.Asks.{Lists};
 ghost use Rattle.plain.specs.Counted.{countedIn};
-ghost use Rattle.plain.specs.Stores.{RowRoom, Stores};
+ghost use Rattle.plain.specs.Puts.{saying};
 use args::argument::last_positional;
+use deeds::put_deed;
 use enter::enter;
 use lists::Count;
 use lists::entries;
-use made::Made;
+use made::Brief;
+use made::Deed;
 use names::name::alone;
 use names::put::put_name;
 use out::emit::put;
-use scopes::go::Out;
-use scopes::go::set_scope;
 use statecmds::add_port_state;
 use statecmds::create_power_switch;
-use store::row::put_row;
-use store::state::State;
+use store::state::Domains;
+use store::state::Isolations;
+use store::state::Nets;
+use store::state::Tables;
 
 // Whether the command is within the limits of commands and lists, and how many entries there are with it.
 pub fn counted<'a>(
@@ -47,122 +47,64 @@ pub fn counted<'a>(
     entries(files, area, words, n, c, before)
 }
 
-// The answer of a command, with its row in the store.
-fn stored(nums: &mut [u32], r: Made) -> Out
-    requires { ⌜ RowRoom (now nums) r ⌝ }
-    ensures { λ o. ⌜ Stores (now (nums .entry)) (now (nums .exit)) r o ⌝ }
-{
-    let s = r.state;
-    let row = r.row;
-    if r.tag != 0 {
-        return Out { tag: 10, state: s };
-    }
-    if row.kind == 0 {
-        return Out { tag: 0, state: s };
-    }
-    put_row(nums, s.fill.rows - 1, row);
-    Out { tag: 0, state: s }
-}
-
-// A command that writes neither the area nor the log nor words of states.
-fn others<'a>(
-    files: &'a [u8],
-    area: &'a [u8],
-    nums: &mut [u32],
-    words: &[u32],
-    n: usize,
-    s: State,
-    c: usize,
-) -> Out
-    requires { ⌜ Others (now files) (now area) (now nums) (now words) n c s ⌝ }
-    ensures { λ r. ⌜ ((log : Bytes) → Ran (now (files .entry)) (now (area .entry)) (now (area .entry)) (now (nums .entry)) (now (nums .exit)) log log s r (λ text. acted (namedBy c) (lineAt (now (files .entry)) (now (area .entry)) (now (words .entry)) n s) (countedOf s) (modelAt (now (files .entry)) (now (area .entry)) (now (nums .entry)) s text))) ⌝ }
-{
-    let o = s.fill.end;
-    let r = enter(files, &area[..o], words, n, s, c);
-    stored(nums, r)
-}
-
-// puts.
-fn puts<'a>(
+// puts: what it writes to the log, and where that ends.
+pub fn puts<'a>(
     files: &'a [u8],
     area: &'a [u8],
     log: &mut [u8],
     words: &[u32],
     n: usize,
-    s: State,
-) -> Out
-    requires { ⌜ s .fill .end ≤ length (now area) ⌝ }
-    ensures { λ r. ⌜ ((nums : List ℕ) → Asks (now (files .entry)) (now (area .entry)) nums (now (words .entry)) n 1 s → Ran (now (files .entry)) (now (area .entry)) (now (area .entry)) nums nums (now (log .entry)) (now (log .exit)) s r (λ text. acted (namedBy 1) (lineAt (now (files .entry)) (now (area .entry)) (now (words .entry)) n s) (countedOf s) (modelAt (now (files .entry)) (now (area .entry)) nums s text))) ⌝ }
+    at: usize,
+) -> usize
+    ensures { λ r. ⌜ now (log .exit) ▸ r ≡ emit (now (log .entry) ▸ at) (saying (wordsFrom (now (files .entry) ++ now (area .entry)) (now (words .entry)) n 1)) ⌝ }
 {
-    let o = s.fill.end;
-    let w = last_positional(files, &area[..o], words, n);
-    let a = put(log, s.fill.log, b"[UPF] ");
-    let b = put_name(log, a, files, &area[..o], alone(w, 0));
-    let e = put(log, b, b"\n");
-    let mut u = s;
-    u.fill.log = e;
-    Out { tag: 0, state: u }
+    let w = last_positional(files, area, words, n);
+    let a = put(log, at, b"[UPF] ");
+    let b = put_name(log, a, files, area, alone(w, 0));
+    put(log, b, b"\n")
 }
 
-// create_power_switch.
-fn switch<'a>(
+// What command c does to the records, with its row in the store.
+pub fn act<'a>(
     files: &'a [u8],
     area: &'a [u8],
     nums: &mut [u32],
     words: &[u32],
     n: usize,
-    s: State,
-) -> Out
-    requires { ⌜ Asks (now files) (now area) (now nums) (now words) n 21 s ⌝ }
-    ensures { λ r. ⌜ ((log : Bytes) → Ran (now (files .entry)) (now (area .entry)) (now (area .entry)) (now (nums .entry)) (now (nums .exit)) log log s r (λ text. acted (namedBy 21) (lineAt (now (files .entry)) (now (area .entry)) (now (words .entry)) n s) (countedOf s) (modelAt (now (files .entry)) (now (area .entry)) (now (nums .entry)) s text))) ⌝ }
-{
-    let o = s.fill.end;
-    let r = create_power_switch(files, &area[..o], words, n, nums, s);
-    stored(nums, r)
-}
-
-// add_port_state.
-fn port_state<'a>(
-    files: &'a [u8],
-    area: &'a [u8],
-    nums: &mut [u32],
-    words: &[u32],
-    n: usize,
-    s: State,
-) -> Out
-    requires { ⌜ Asks (now files) (now area) (now nums) (now words) n 27 s ⌝ }
-    ensures { λ r. ⌜ ((log : Bytes) → Ran (now (files .entry)) (now (area .entry)) (now (area .entry)) (now (nums .entry)) (now (nums .exit)) log log s r (λ text. acted (namedBy 27) (lineAt (now (files .entry)) (now (area .entry)) (now (words .entry)) n s) (countedOf s) (modelAt (now (files .entry)) (now (area .entry)) (now (nums .entry)) s text))) ⌝ }
-{
-    let o = s.fill.end;
-    let r = add_port_state(files, &area[..o], words, n, nums, s);
-    stored(nums, r)
-}
-
-// Command c of the table of names.
-pub fn plain(
-    files: &[u8],
-    area: &mut [u8],
-    nums: &mut [u32],
-    log: &mut [u8],
-    words: &[u32],
-    n: usize,
-    s: State,
+    b: Brief,
+    rows: usize,
+    warnings: usize,
+    domains: Domains,
+    nets: Nets,
+    isolations: Isolations,
+    tables: Tables,
     c: usize,
-) -> Out
-    requires { ⌜ Asks (now files) (now area) (now nums) (now words) n c s ⌝ }
-    ensures { λ r. ⌜ Ran (now (files .entry)) (now (area .entry)) (now (area .exit)) (now (nums .entry)) (now (nums .exit)) (now (log .entry)) (now (log .exit)) s r (λ text. acted (namedBy c) (lineAt (now (files .entry)) (now (area .entry)) (now (words .entry)) n s) (countedOf s) (modelAt (now (files .entry)) (now (area .entry)) (now (nums .entry)) s text)) ⌝ }
+) -> Deed
+    requires { ⌜ Acting (now files) (now area) (now nums) (now words) n c rows warnings b domains nets isolations tables ⌝ }
+    ensures { λ r. ⌜ ((v : Acting (now (files .entry)) (now (area .entry)) (now (nums .entry)) (now (words .entry)) n c rows warnings b domains nets isolations tables) → Acts (now (files .entry)) (v .whole) (now (nums .entry)) (now (nums .exit)) (now (words .entry)) n c (v .state) r) ⌝ }
 {
-    if c == 1 {
-        return puts(files, area, log, words, n, s);
-    }
-    if c == 4 {
-        return set_scope(files, area, words, n, s);
-    }
     if c == 21 {
-        return switch(files, area, nums, words, n, s);
+        let d = create_power_switch(files, area, words, n, nums, b);
+        put_deed(nums, rows, warnings, d);
+        return d;
     }
     if c == 27 {
-        return port_state(files, area, nums, words, n, s);
+        let d = add_port_state(files, area, words, n, nums, b);
+        put_deed(nums, rows, warnings, d);
+        return d;
     }
-    others(files, area, nums, words, n, s, c)
+    let d = enter(
+        files,
+        area,
+        words,
+        n,
+        b,
+        domains,
+        nets,
+        isolations,
+        tables,
+        c,
+    );
+    put_deed(nums, rows, warnings, d);
+    d
 }

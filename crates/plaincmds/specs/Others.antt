@@ -1,23 +1,22 @@
 -- Commands of no name of the table, and those that are not simulated. Assumes nothing.
-use Prim.Native.Nat.{ℕ, _+_, _≤_, _<_, min}
+use Prim.Native.Nat.{ℕ, _≤_, _<_, min}
 use native.Mathlib.Omega.{arith}
 use mathlib.Core.Path.{_≡_, refl, sym, ap, _∙_}
-use mathlib.Core.Bool.{Bool, true, false, cond}
-use mathlib.Core.List.{List, [], _∷_, _++_}
+use mathlib.Core.Bool.{Bool, true, false}
+use mathlib.Core.List.{List, []}
 use lib.Dec.{leb}
 use lib.ListN.{length, take, drop, length-take}
 use lib.Seq.{take-take, take-all}
 use borrow.Author.Tests.{leb-true, leb-false}
 use Rattle.text.specs.Ascii.{Bytes, ascii}
 use Rattle.text.specs.Compare.{same}
-use Rattle.out.specs.Fill.{format1}
-use Rattle.spans.specs.Span.{_⋯_, bytes, pairAt, pairs}
-use Rattle.spans.specs.Reach.{lastOf, reach, one-of}
+use Rattle.spans.specs.Span.{_⋯_, bytes, pairAt}
+use Rattle.spans.specs.Reach.{reach, one-of}
 use Rattle.spans.specs.declared.span.Span.{Span}
 use Rattle.model.specs.Names.{Command, isQuery}
 use Rattle.model.specs.Records.{Model}
 use Rattle.model.specs.Commands.{warned, unsupported, carriedOut}
-use Rattle.store.specs.Strings.{string, spanOf, storedOf}
+use Rattle.store.specs.Strings.{string, storedOf}
 use Rattle.store.specs.View.{Store, textOf, modelOf}
 use Rattle.store.specs.declared.stored.Stored.{Stored}
 use Rattle.store.specs.declared.state.State.{State}

@@ -2,9 +2,7 @@
 use Prim.Native.Nat.{ℕ, _+_, _≤_, _<_, max}
 use native.Mathlib.Omega.{arith}
 use mathlib.Core.Path.{_≡_, refl, sym, ap, _∙_}
-use mathlib.Core.Bool.{Bool, true, false, cond}
 use mathlib.Core.List.{List, [], _∷_, _++_, map}
-use mathlib.Core.Option.{Option, none, some}
 use lib.ListN.{length}
 use Rattle.text.specs.Ascii.{Bytes, ascii}
 use Rattle.spans.specs.Span.{_⋯_, pairs}
@@ -12,7 +10,6 @@ use Rattle.spans.specs.Reach.{lastOf, reach, none-reach}
 use Rattle.spans.specs.declared.span.Span.{Span}
 use Rattle.spans.specs.declared.span.Found.{Found}
 use Rattle.tcl.specs.Arguments.{optionOf, nameOf}
-use Rattle.tcl.specs.Lists.{list}
 use Rattle.args.specs.View.{wordsFrom, Reads, Finds}
 use Rattle.model.specs.Scope.{scoped}
 use Rattle.model.specs.Within.{recordsFit}
@@ -25,7 +22,7 @@ use Rattle.made.specs.Made.{fineMade, fullMade, reachOf, Ready, Did}
 use Rattle.made.specs.Dids.{one-over, did-full}
 use Rattle.made.specs.Done.{did-state}
 use Rattle.model.specs.Records.{Model, Retention as Retentionʳ, with-retentions}
-use Rattle.model.specs.Commands.{or-else, listOf, optionList, domainOf, retention-command}
+use Rattle.model.specs.Commands.{optionList, domainOf, retention-command}
 use Rattle.store.specs.Strings.{string, spanOf, storedOf, foundOr}
 use Rattle.store.specs.View.{Store, retentionOf, modelOf}
 use Rattle.store.specs.Order.{ofRetention}

@@ -6,8 +6,8 @@ use mathlib.Core.List.{List, [], _∷_, _++_}
 use mathlib.Core.Option.{Option, none, some, Option·none-ne-some, Option·some-ne-none, Option·some-injective}
 use lib.ListN.{length}
 use Rattle.text.specs.Ascii.{Bytes}
-use Rattle.spans.specs.Span.{bytes, pairs}
-use Rattle.spans.specs.Reach.{lastOf, reach, none-reach}
+use Rattle.spans.specs.Span.{bytes}
+use Rattle.spans.specs.Reach.{reach, none-reach}
 use Rattle.spans.specs.declared.span.Span.{Span}
 use Rattle.spans.specs.declared.span.Found.{Found}
 use Rattle.spans.specs.declared.span.Found.the-variants.{At, None}
@@ -17,7 +17,7 @@ use Rattle.args.specs.View.{wordsFrom, pick, Reads, Finds}
 use Rattle.model.specs.Records.{Model, with-variables}
 use Rattle.model.specs.Commands.{setTo, set-command}
 use Rattle.model.specs.Within.{recordsFit}
-use Rattle.store.specs.Strings.{string, spanOf, storedOf}
+use Rattle.store.specs.Strings.{storedOf}
 use Rattle.store.specs.View.{Store, modelOf}
 use Rattle.store.specs.Added.{variable-added}
 use Rattle.store.specs.Fits.{fit-variables}
@@ -25,10 +25,10 @@ use Rattle.store.specs.Variables.{variables-length, variable-view, variable-sha
 use Rattle.store.specs.declared.stored.Stored.{Stored}
 use Rattle.store.specs.declared.state.State.{State}
 use Rattle.made.specs.declared.Made.{Made}
-use Rattle.made.specs.Made.{fineMade, fullMade, reachOf, Room, Ready, Did}
+use Rattle.made.specs.Made.{fineMade, fullMade, reachOf, Line, Ready, Did}
 use Rattle.made.specs.Dids.{one-over, did-full, did-nothing}
 use Rattle.made.specs.Done.{did-state}
-use Rattle.made.specs.Asked.{found-stored}
+use Rattle.made.specs.Asked.{found-fits}
 
 -- without a second positional word nothing is set
 set-none : (m : Model) (ps : List Bytes) → none ≡ pick 1 ps → setTo m ps ≡ m
@@ -44,10 +44,10 @@ set-two m (p ∷ []) v e = absurd (Option·some-ne-none v e)
 set-two m (p ∷ q ∷ ps) v e = rw (Option·some-injective v q e)
 
 -- the word can be stored
-pub set-stored : (mem : Bytes) (words : List ℕ) (n : ℕ) (s : State) (t : Option Bytes) (w : Span) (f : Found) → Room words n s → Finds mem words n t f → f ≡ At w → w .at + w .len < 2 ^ 32
-set-stored mem words n s t w f m g e =
+pub set-stored : (mem : Bytes) (words : List ℕ) (n : ℕ) (t : Option Bytes) (w : Span) (f : Found) → Line words n → Finds mem words n t f → f ≡ At w → w .at + w .len < 2 ^ 32
+set-stored mem words n t w f m g e =
     let a : Finds mem words n t (At w) = rw e at g in
-    found-stored mem words n s m t (At w) a
+    found-fits mem words n t (At w) a m
 
 module _ (long : ℕ) (mem : Bytes) (words : List ℕ) (n : ℕ) (st : Store) (log : Bytes) (s : State) (v : Ready long mem words n st s) where
   abbrev ws : List Bytes

@@ -1,10 +1,8 @@
 -- set_level_shifter: what its words come to, and what it does. Assumes nothing.
-use Prim.Native.Nat.{ℕ, _+_, _≤_, _<_, max}
+use Prim.Native.Nat.{ℕ, _+_, _≤_, _<_}
 use native.Mathlib.Omega.{arith}
 use mathlib.Core.Path.{_≡_, refl, sym, ap, _∙_}
-use mathlib.Core.Bool.{Bool, true, false, cond}
-use mathlib.Core.List.{List, [], _∷_, _++_, map}
-use mathlib.Core.Option.{Option, none, some}
+use mathlib.Core.List.{List, [], _∷_, _++_}
 use lib.ListN.{length}
 use Rattle.text.specs.Ascii.{Bytes, ascii}
 use Rattle.spans.specs.Span.{_⋯_, pairs}
@@ -12,9 +10,7 @@ use Rattle.spans.specs.Reach.{lastOf, reach, none-reach}
 use Rattle.spans.specs.declared.span.Span.{Span}
 use Rattle.spans.specs.declared.span.Found.{Found}
 use Rattle.tcl.specs.Arguments.{optionOf, nameOf}
-use Rattle.tcl.specs.Lists.{list}
 use Rattle.args.specs.View.{wordsFrom, Reads, Finds}
-use Rattle.model.specs.Scope.{scoped}
 use Rattle.model.specs.Within.{recordsFit}
 use Rattle.store.specs.declared.stored.Stored.{Stored}
 use Rattle.store.specs.declared.state.State.{State}
@@ -25,8 +21,8 @@ use Rattle.made.specs.Made.{fineMade, fullMade, reachOf, Ready, Did}
 use Rattle.made.specs.Dids.{one-over, did-full}
 use Rattle.made.specs.Done.{did-state}
 use Rattle.model.specs.Records.{Model, Shifter as Shifterʳ, with-shifters}
-use Rattle.model.specs.Commands.{or-else, domainOf, shifter-command}
-use Rattle.store.specs.Strings.{string, spanOf, storedOf, foundOr}
+use Rattle.model.specs.Commands.{domainOf, shifter-command}
+use Rattle.store.specs.Strings.{spanOf, storedOf, foundOr}
 use Rattle.store.specs.View.{Store, shifterOf, modelOf}
 use Rattle.store.specs.Order.{ofShifter}
 use Rattle.store.specs.Added.{shifter-added}

@@ -1,16 +1,16 @@
 -- set_design_top: what it does. Assumes nothing.
-use Prim.Native.Nat.{ℕ, _+_, _≤_, _<_}
+use Prim.Native.Nat.{ℕ}
 use native.Mathlib.Omega.{arith}
 use mathlib.Core.Path.{_≡_, refl, sym, ap, _∙_}
-use mathlib.Core.Bool.{Bool, true, false, cond}
-use mathlib.Core.List.{List, [], _∷_, _++_}
-use mathlib.Core.Option.{Option, none, some}
+use mathlib.Core.Bool.{true, false}
+use mathlib.Core.List.{List, [], _∷_}
+use mathlib.Core.Option.{some}
 use lib.ListN.{length}
 use Rattle.text.specs.Ascii.{Bytes}
 use Rattle.text.specs.Compare.{same}
 use Rattle.text.specs.Sames.{differ}
-use Rattle.spans.specs.Span.{bytes, pairs}
-use Rattle.spans.specs.Reach.{lastOf, reach, none-reach}
+use Rattle.spans.specs.Span.{bytes}
+use Rattle.spans.specs.Reach.{reach, none-reach}
 use Rattle.spans.specs.declared.span.Span.{Span}
 use Rattle.tcl.specs.Arguments.{nameOf}
 use Rattle.args.specs.View.{wordsFrom, Reads}
@@ -21,7 +21,6 @@ use Rattle.store.specs.View.{Store, modelOf}
 use Rattle.store.specs.Added.{top-set}
 use Rattle.store.specs.Steps.{top-view, top-shaped, top-bounded}
 use Rattle.store.specs.declared.stored.Stored.{Stored}
-use Rattle.store.specs.declared.stored.Maybe.{Maybe}
 use Rattle.store.specs.declared.stored.Maybe.the-variants.{Not, Given}
 use Rattle.store.specs.declared.state.State.{State}
 use Rattle.made.specs.declared.Made.{Made}

@@ -1,25 +1,23 @@
 // set, set_design_top, set_retention, set_level_shifter, and commands of no name of the table.
-ghost use mathlib.Core.List.{List, [], _++_};
+ghost use mathlib.Core.List.{[], _++_};
 ghost use mathlib.Core.Path.{_≡_};
-ghost use Prim.Native.Nat.{ℕ, _<_, _^_};
+ghost use Prim.Native.Nat.{_<_, _^_};
 ghost use Rattle.text.specs.Ascii.{Bytes};
 ghost use Rattle.spans.specs.Span.{bytes, pairAt, pairs};
 ghost use Rattle.spans.specs.Reach.{spanEnd, lastOf};
-ghost use lib.ListN.{length};
 ghost use Rattle.args.specs.View.{wordsFrom};
 ghost use Rattle.model.specs.Names.{Command, isQuery};
 ghost use Rattle.model.specs.Commands.{set-command, design-top-command, retention-command, shifter-command, unsupported as Commands·unsupported, carriedOut};
-ghost use Rattle.store.specs.View.{Store, modelOf};
-ghost use Rattle.made.specs.Made.{Room, Ready, Did};
+ghost use Rattle.made.specs.Made.{Line, briefOf, Does};
+ghost use Rattle.model.specs.Records.{Model};
+ghost use Rattle.store.specs.declared.state.State.{State};
 ghost use Rattle.plaincmds.specs.Retentions.{RetentionIs};
 ghost use Rattle.plaincmds.specs.Shifters.{ShifterIs};
 use args::argument::name;
 use args::argument::option;
 use args::argument::positional;
-use made::Made;
-use made::fine;
-use made::full;
-use made::warned;
+use made::Brief;
+use made::Deed;
 use spans::span::Found;
 use spans::span::Span;
 use spans::span::is;
@@ -28,11 +26,6 @@ use spans::span::pair;
 use spans::span::size;
 use store::state::Retention;
 use store::state::Shifter;
-use store::state::State;
-use store::state::add_retention;
-use store::state::add_shifter;
-use store::state::add_variable;
-use store::state::with_top;
 use store::stored::Maybe;
 use store::stored::Stored;
 use store::stored::narrow;
@@ -40,39 +33,38 @@ use store::stored::or_empty;
 use store::stored::span;
 
 // A variable more, where there are two positional words.
-pub fn set(files: &[u8], area: &[u8], words: &[u32], n: usize, s: State) -> Made
-    requires { ⌜ Room (now words) n s ⌝ }
-    ensures { λ r. ⌜ ((st : Store) (log : Bytes) → Ready (length (now (files .entry))) (now (files .entry) ++ now (area .entry)) (now (words .entry)) n st s → Did (length (now (files .entry))) (now (files .entry) ++ now (area .entry)) st log s r (set-command (modelOf (now (files .entry) ++ now (area .entry)) st s log) (wordsFrom (now (files .entry) ++ now (area .entry)) (now (words .entry)) n 1))) ⌝ }
+pub fn set(files: &[u8], area: &[u8], words: &[u32], n: usize, b: Brief) -> Deed
+    requires { ⌜ Line (now words) n ⌝ }
+    ensures { λ r. ⌜ Does (now (files .entry)) (now (area .entry)) (now (words .entry)) n (λ (s : State). briefOf s ≡ b) r (λ (m : Model). set-command m (wordsFrom (now (files .entry) ++ now (area .entry)) (now (words .entry)) n 1)) ⌝ }
 {
     match positional(files, area, words, n, 1) {
-        Found::None => fine(s),
+        Found::None => Deed::Nothing,
         Found::At(v) => {
-            if 64 <= s.variables.n {
-                return full(s);
+            if 64 <= b.variables {
+                return Deed::Full;
             }
             let named = name(files, area, words, n);
-            fine(add_variable(s, narrow(named), narrow(v)))
+            Deed::Variable(narrow(named), narrow(v))
         }
     }
 }
 
 // The design top, where none is set and the scope is the root.
-pub fn set_design_top(files: &[u8], area: &[u8], words: &[u32], n: usize, s: State) -> Made
-    requires { ⌜ Room (now words) n s ⌝ }
-    ensures { λ r. ⌜ ((st : Store) (log : Bytes) → Ready (length (now (files .entry))) (now (files .entry) ++ now (area .entry)) (now (words .entry)) n st s → Did (length (now (files .entry))) (now (files .entry) ++ now (area .entry)) st log s r (design-top-command (modelOf (now (files .entry) ++ now (area .entry)) st s log) (wordsFrom (now (files .entry) ++ now (area .entry)) (now (words .entry)) n 1))) ⌝ }
+pub fn set_design_top(files: &[u8], area: &[u8], words: &[u32], n: usize, b: Brief) -> Deed
+    requires { ⌜ Line (now words) n ⌝ }
+    ensures { λ r. ⌜ Does (now (files .entry)) (now (area .entry)) (now (words .entry)) n (λ (s : State). briefOf s ≡ b) r (λ (m : Model). design-top-command m (wordsFrom (now (files .entry) ++ now (area .entry)) (now (words .entry)) n 1)) ⌝ }
 {
-    let h = s.head;
-    let scope = h.scope;
-    let top = h.top;
+    let scope = b.scope;
+    let top = b.top;
     match top {
-        Maybe::Given(_) => fine(s),
+        Maybe::Given(_) => Deed::Nothing,
         Maybe::Not => {
             if size(files, area, span(scope)) != 0 {
-                return fine(s);
+                return Deed::Nothing;
             }
             let named = name(files, area, words, n);
             let t = Maybe::Given(narrow(named));
-            fine(with_top(s, t))
+            Deed::Top(t)
         }
     }
 }
@@ -100,17 +92,16 @@ fn retention<'a>(
 }
 
 // A retention more.
-pub fn set_retention<'a>(files: &'a [u8], area: &'a [u8], words: &[u32], n: usize, s: State) -> Made
-    requires { ⌜ Room (now words) n s ⌝ }
-    ensures { λ r. ⌜ ((st : Store) (log : Bytes) → Ready (length (now (files .entry))) (now (files .entry) ++ now (area .entry)) (now (words .entry)) n st s → Did (length (now (files .entry))) (now (files .entry) ++ now (area .entry)) st log s r (retention-command (modelOf (now (files .entry) ++ now (area .entry)) st s log) (wordsFrom (now (files .entry) ++ now (area .entry)) (now (words .entry)) n 1))) ⌝ }
+pub fn set_retention<'a>(files: &'a [u8], area: &'a [u8], words: &[u32], n: usize, b: Brief) -> Deed
+    requires { ⌜ Line (now words) n ⌝ }
+    ensures { λ r. ⌜ Does (now (files .entry)) (now (area .entry)) (now (words .entry)) n (λ (s : State). briefOf s ≡ b) r (λ (m : Model). retention-command m (wordsFrom (now (files .entry) ++ now (area .entry)) (now (words .entry)) n 1)) ⌝ }
 {
-    if 32 <= s.retentions.n {
-        return full(s);
+    if 32 <= b.retentions {
+        return Deed::Full;
     }
-    let h = s.head;
-    let scope = h.scope;
+    let scope = b.scope;
     let x = retention(files, area, words, n, scope);
-    fine(add_retention(s, x))
+    Deed::Retention(x)
 }
 
 // The shifter that the words of a command name.
@@ -132,16 +123,16 @@ pub fn set_level_shifter<'a>(
     area: &'a [u8],
     words: &[u32],
     n: usize,
-    s: State,
-) -> Made
-    requires { ⌜ Room (now words) n s ⌝ }
-    ensures { λ r. ⌜ ((st : Store) (log : Bytes) → Ready (length (now (files .entry))) (now (files .entry) ++ now (area .entry)) (now (words .entry)) n st s → Did (length (now (files .entry))) (now (files .entry) ++ now (area .entry)) st log s r (shifter-command (modelOf (now (files .entry) ++ now (area .entry)) st s log) (wordsFrom (now (files .entry) ++ now (area .entry)) (now (words .entry)) n 1))) ⌝ }
+    b: Brief,
+) -> Deed
+    requires { ⌜ Line (now words) n ⌝ }
+    ensures { λ r. ⌜ Does (now (files .entry)) (now (area .entry)) (now (words .entry)) n (λ (s : State). briefOf s ≡ b) r (λ (m : Model). shifter-command m (wordsFrom (now (files .entry) ++ now (area .entry)) (now (words .entry)) n 1)) ⌝ }
 {
-    if 32 <= s.shifters.n {
-        return full(s);
+    if 32 <= b.shifters {
+        return Deed::Full;
     }
     let x = shifter(files, area, words, n);
-    fine(add_shifter(s, x))
+    Deed::Shifter(x)
 }
 
 // Whether a word begins with `query_`.
@@ -156,22 +147,22 @@ fn is_query<'a>(files: &'a [u8], area: &'a [u8], w: Span) -> bool
 }
 
 // A command of no name of the table; its words begin with its name.
-pub fn unsupported<'a>(files: &'a [u8], area: &'a [u8], words: &[u32], s: State) -> Made
-    requires { ⌜ Room (now words) 1 s ⌝ }
-    ensures { λ r. ⌜ ((st : Store) (log : Bytes) → Ready (length (now (files .entry))) (now (files .entry) ++ now (area .entry)) (now (words .entry)) 1 st s → Did (length (now (files .entry))) (now (files .entry) ++ now (area .entry)) st log s r (Commands·unsupported (modelOf (now (files .entry) ++ now (area .entry)) st s log) (bytes (now (files .entry) ++ now (area .entry)) (pairAt (now (words .entry)) 0)))) ⌝ }
+pub fn unsupported<'a>(files: &'a [u8], area: &'a [u8], words: &[u32]) -> Deed
+    requires { ⌜ Line (now words) 1 ⌝ }
+    ensures { λ r. ⌜ Does (now (files .entry)) (now (area .entry)) (now (words .entry)) 1 (λ (s : State). Unit {0}) r (λ (m : Model). Commands·unsupported m (bytes (now (files .entry) ++ now (area .entry)) (pairAt (now (words .entry)) 0))) ⌝ }
 {
     let w = pair(words, 0);
     if is_query(files, area, w) {
-        return fine(s);
+        return Deed::Nothing;
     }
-    warned(s, 8, narrow(w))
+    Deed::Warning(8, narrow(w))
 }
 
 // A command that is parsed but not simulated, whatever words are behind its name.
-pub fn not_simulated(words: &[u32], s: State) -> Made
-    requires { ⌜ Room (now words) 1 s ⌝ }
-    ensures { λ r. ⌜ ((long : ℕ) (mem : Bytes) (st : Store) (log : Bytes) → Ready long mem (now (words .entry)) 1 st s → Did long mem st log s r (carriedOut Command.not-simulated (modelOf mem st s log) (bytes mem (pairAt (now (words .entry)) 0)) [])) ⌝ }
+pub fn not_simulated(words: &[u32]) -> Deed
+    requires { ⌜ Line (now words) 1 ⌝ }
+    ensures { λ r. ⌜ ((files area : Bytes) → Does files area (now (words .entry)) 1 (λ (s : State). Unit {0}) r (λ (m : Model). carriedOut Command.not-simulated m (bytes (files ++ area) (pairAt (now (words .entry)) 0)) [])) ⌝ }
 {
     let w = pair(words, 0);
-    warned(s, 7, narrow(w))
+    Deed::Warning(7, narrow(w))
 }

@@ -2,7 +2,7 @@
 use Prim.Native.Nat.{ℕ}
 use mathlib.Core.Path.{_≡_, refl, sym, ap, _∙_}
 use mathlib.Core.Bool.{Bool, true, false, cond}
-use mathlib.Core.List.{List, [], _∷_, _++_}
+use mathlib.Core.List.{List}
 use Rattle.text.specs.Ascii.{Bytes, ascii}
 use Rattle.text.specs.Compare.{same}
 use Rattle.text.specs.Sames.{same-eq, no-true}
@@ -14,7 +14,7 @@ use Rattle.store.specs.declared.state.Isolations.{Isolations}
 use Rattle.texts.specs.Isolation.{lowered, isClamp, activeOf}
 use Rattle.clamps.specs.Values.{storedName, clampNumber, activeNumber}
 use Rattle.clamps.specs.Laws.{stored-is}
-use Rattle.format.specs.Args.{rooted, literal, argOf, wrappedArg, nameArg, hierArg, fixedArg}
+use Rattle.format.specs.Args.{rooted, argOf, wrappedArg, nameArg, hierArg, fixedArg}
 use Rattle.format.specs.Laws.{below-arg, rooted-arg, name-arg, hier-arg}
 use Rattle.format.specs.declared.arg.Arg.{Arg}
 use Rattle.isolated.specs.Table.{portRef, netRef}

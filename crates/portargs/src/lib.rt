@@ -2,12 +2,10 @@
 ghost use Prim.Native.Nat.{_<_};
 ghost use mathlib.Core.Path.{_≡_};
 ghost use mathlib.Core.List.{_++_};
-ghost use Rattle.portargs.specs.Args.{netArg, portArg, clampArg, strategyArg, signalArg, activeArg};
+ghost use Rattle.portargs.specs.Args.{netArg, portArg, strategyArg, signalArg, activeArg};
 use alike::active_of;
 use alike::named;
 use alike::signal_of;
-use alike::strategy;
-use clamps::clamp;
 use format::arg::Arg;
 use format::arg::fixed;
 use format::arg::hier;
@@ -32,17 +30,7 @@ pub fn port_arg(x: Isolated) -> Arg
     wrapped(2, port(x))
 }
 
-// The clamp value of a strategy.
-pub fn clamp_arg(files: &[u8], area: &[u8], t: Isolations, i: usize) -> Arg
-    requires { ⌜ i < 32 ⌝ }
-    ensures { λ r. ⌜ r ≡ clampArg (now (files .entry) ++ now (area .entry)) t i ⌝ }
-{
-    let s = strategy(t, i);
-    let m = s.clamp;
-    fixed(clamp(files, area, m))
-}
-
-// Its name.
+// The name of a strategy.
 pub fn strategy_arg(t: Isolations, i: usize) -> Arg
     requires { ⌜ i < 32 ⌝ }
     ensures { λ r. ⌜ r ≡ strategyArg t i ⌝ }

@@ -1,7 +1,7 @@
 -- The first word of a command, below the scope. Assumes nothing.
 use Prim.Native.Nat.{ℕ, _≤_, max}
 use native.Mathlib.Omega.{arith}
-use mathlib.Core.Path.{_≡_, refl, sym, ap, _∙_}
+use mathlib.Core.Path.{_≡_, ap}
 use mathlib.Core.List.{List}
 use Rattle.text.specs.Ascii.{Bytes}
 use Rattle.spans.specs.Span.{_⋯_, pairs}

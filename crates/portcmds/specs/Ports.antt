@@ -2,9 +2,7 @@
 use Prim.Native.Nat.{ℕ, _+_, _≤_, _<_, max}
 use native.Mathlib.Omega.{arith}
 use mathlib.Core.Path.{_≡_, refl, sym, ap, _∙_}
-use mathlib.Core.Bool.{Bool, true, false, cond}
-use mathlib.Core.List.{List, [], _∷_, _++_, map}
-use mathlib.Core.Option.{Option, none, some}
+use mathlib.Core.List.{List, [], _∷_, _++_}
 use lib.ListN.{length}
 use Rattle.text.specs.Ascii.{Bytes, ascii}
 use Rattle.spans.specs.Span.{_⋯_, pairs}
@@ -12,8 +10,7 @@ use Rattle.spans.specs.Reach.{lastOf, reach, none-reach}
 use Rattle.spans.specs.declared.span.Span.{Span}
 use Rattle.spans.specs.declared.span.Found.{Found}
 use Rattle.tcl.specs.Arguments.{optionOf, nameOf}
-use Rattle.tcl.specs.Lists.{list}
-use Rattle.args.specs.View.{wordsFrom, Reads, Finds}
+use Rattle.args.specs.View.{wordsFrom, Finds}
 use Rattle.model.specs.Scope.{scoped}
 use Rattle.model.specs.Within.{recordsFit}
 use Rattle.store.specs.declared.stored.Stored.{Stored}
@@ -21,14 +18,16 @@ use Rattle.store.specs.declared.state.State.{State}
 use Rattle.store.specs.Tables.{sized-length}
 use Rattle.store.specs.Variables.{now-fits}
 use Rattle.made.specs.declared.Made.{Made}
-use Rattle.made.specs.Made.{fineMade, fullMade, reachOf, Ready, Did}
+use Rattle.made.specs.declared.Brief.{Brief}
+use Rattle.made.specs.declared.Deed.the-variants as deed
+use Rattle.made.specs.Made.{briefOf, fineMade, fullMade, reachOf, Ready, Did, Does}
 use Rattle.made.specs.Dids.{one-over, did-full}
 use Rattle.made.specs.Done.{did-state}
 use Rattle.model.specs.Records.{Model, SupplyPort as Portʳ, with-ports}
 use Rattle.model.specs.Commands.{or-else, port-command}
-use Rattle.store.specs.Strings.{string, spanOf, storedOf, maybeOf, maybeFound}
+use Rattle.store.specs.Strings.{string, spanOf, maybeFound}
 use Rattle.store.specs.View.{Store, portOf, modelOf}
-use Rattle.store.specs.Order.{ofMaybe, ofPort}
+use Rattle.store.specs.Order.{ofPort}
 use Rattle.store.specs.Added.{port-added}
 use Rattle.store.specs.Fits.{fit-ports}
 use Rattle.store.specs.Steps.{port-view, port-shaped, port-bounded}
@@ -94,3 +93,16 @@ module _ (long : ℕ) (mem : Bytes) (words : List ℕ) (n : ℕ) (st : Store) (l
       (port-shaped st s (v .shaped) d h)
       (port-bounded (reachOf long) (length mem) st s (v .bounded) d l (omega (arith, a .within (reach long) (none-reach long), v .line, v .bounded .scope)))
       (record { count = refl; scope = refl; end = refl; log = refl; words = refl }))
+
+-- ---- its deed
+module _ (files area : Bytes) (words : List ℕ) (n : ℕ) (b : Brief) where
+  abbrev does : Model → Model
+  does m = port-command m (wordsFrom (files ++ area) words n 1)
+
+  pub ports-full : 32 ≤ b .ports → Does files area words n (λ (s : State). briefOf s ≡ b) deed.Full does
+  ports-full h s e = record { fits = tt; did = λ st log v. port-full (length files) (files ++ area) words n st log s v (fullMade s) (omega (arith, ap (λ (z : Brief). z .ports) e)) refl }
+
+  pub ports-more : (d : Port) → b .ports < 32 → PortIs (files ++ area) words n (b .scope) d → Does files area words n (λ (s : State). briefOf s ≡ b) (deed.Port d) does
+  ports-more d h a s e =
+      let k : PortIs (files ++ area) words n (s .head .scope) d = rw (ap (λ (z : Brief). z .scope) e) a in
+      record { fits = omega (arith, ap (λ (z : Brief). z .ports) e); did = λ st log v. port-fine (length files) (files ++ area) words n st log s v d (port-added s d) (fineMade (port-added s d)) (omega (arith, ap (λ (z : Brief). z .ports) e)) k refl refl }

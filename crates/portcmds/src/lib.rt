@@ -1,26 +1,22 @@
 // create_supply_port, connect_supply_net.
-ghost use mathlib.Core.List.{List, _++_};
-ghost use Prim.Native.Nat.{ℕ, _<_, _^_};
-ghost use Rattle.text.specs.Ascii.{Bytes};
+ghost use mathlib.Core.List.{_++_};
+ghost use mathlib.Core.Path.{_≡_};
+ghost use Prim.Native.Nat.{_<_, _^_};
 ghost use Rattle.spans.specs.Span.{pairs};
 ghost use Rattle.spans.specs.Reach.{spanEnd, lastOf};
-ghost use lib.ListN.{length};
 ghost use Rattle.args.specs.View.{wordsFrom};
 ghost use Rattle.model.specs.Commands.{port-command, connect-command};
-ghost use Rattle.store.specs.View.{Store, modelOf};
-ghost use Rattle.made.specs.Made.{Room, Ready, Did};
+ghost use Rattle.made.specs.Made.{Line, briefOf, Does};
+ghost use Rattle.model.specs.Records.{Model};
+ghost use Rattle.store.specs.declared.state.State.{State};
 ghost use Rattle.portcmds.specs.Named.{BelowIs};
 ghost use Rattle.portcmds.specs.Ports.{PortIs};
 use args::argument::name;
 use args::argument::option;
-use made::Made;
-use made::fine;
-use made::full;
-use made::with_row;
+use made::Brief;
+use made::Deed;
 use store::row::Row;
 use store::state::Port;
-use store::state::State;
-use store::state::add_port;
 use store::stored::Below;
 use store::stored::Stored;
 use store::stored::as_maybe;
@@ -58,18 +54,17 @@ pub fn create_supply_port<'a>(
     area: &'a [u8],
     words: &[u32],
     n: usize,
-    s: State,
-) -> Made
-    requires { ⌜ Room (now words) n s ⌝ }
-    ensures { λ r. ⌜ ((st : Store) (log : Bytes) → Ready (length (now (files .entry))) (now (files .entry) ++ now (area .entry)) (now (words .entry)) n st s → Did (length (now (files .entry))) (now (files .entry) ++ now (area .entry)) st log s r (port-command (modelOf (now (files .entry) ++ now (area .entry)) st s log) (wordsFrom (now (files .entry) ++ now (area .entry)) (now (words .entry)) n 1))) ⌝ }
+    b: Brief,
+) -> Deed
+    requires { ⌜ Line (now words) n ⌝ }
+    ensures { λ r. ⌜ Does (now (files .entry)) (now (area .entry)) (now (words .entry)) n (λ (s : State). briefOf s ≡ b) r (λ (m : Model). port-command m (wordsFrom (now (files .entry) ++ now (area .entry)) (now (words .entry)) n 1)) ⌝ }
 {
-    if 32 <= s.ports.n {
-        return full(s);
+    if 32 <= b.ports {
+        return Deed::Full;
     }
-    let h = s.head;
-    let scope = h.scope;
+    let scope = b.scope;
     let p = port(files, area, words, n, scope);
-    fine(add_port(s, p))
+    Deed::Port(p)
 }
 
 // A row of connections more.
@@ -78,13 +73,12 @@ pub fn connect_supply_net<'a>(
     area: &'a [u8],
     words: &[u32],
     n: usize,
-    s: State,
-) -> Made
-    requires { ⌜ Room (now words) n s ⌝ }
-    ensures { λ r. ⌜ ((st : Store) (log : Bytes) → Ready (length (now (files .entry))) (now (files .entry) ++ now (area .entry)) (now (words .entry)) n st s → Did (length (now (files .entry))) (now (files .entry) ++ now (area .entry)) st log s r (connect-command (modelOf (now (files .entry) ++ now (area .entry)) st s log) (wordsFrom (now (files .entry) ++ now (area .entry)) (now (words .entry)) n 1))) ⌝ }
+    b: Brief,
+) -> Deed
+    requires { ⌜ Line (now words) n ⌝ }
+    ensures { λ r. ⌜ Does (now (files .entry)) (now (area .entry)) (now (words .entry)) n (λ (s : State). briefOf s ≡ b) r (λ (m : Model). connect-command m (wordsFrom (now (files .entry) ++ now (area .entry)) (now (words .entry)) n 1)) ⌝ }
 {
-    let h = s.head;
-    let scope = h.scope;
+    let scope = b.scope;
     let named = name(files, area, words, n);
     let ports = option(files, area, words, n, b"-ports");
     let r = Row {
@@ -93,5 +87,5 @@ pub fn connect_supply_net<'a>(
         name: narrow(named),
         value: or_empty(ports),
     };
-    with_row(s, r)
+    Deed::Row(r)
 }

@@ -1,13 +1,12 @@
 -- One turn along the names of a module.
 -- Assumes nothing.
-use mathlib.Core.Path.{_≡_, refl, ap, ap₂, _∙_, sym}
-use Prim.Native.Nat.{ℕ, suc, _+_, _-_, _<_, _≤_}
+use mathlib.Core.Path.{_≡_, refl, ap, _∙_, sym}
+use Prim.Native.Nat.{ℕ, _+_, _-_, _<_, _≤_}
 use native.Mathlib.Omega.{arith}
-use mathlib.Core.Bool.{Bool, true, false, cond, not, _&&_, _||_, or-false}
+use mathlib.Core.Bool.{Bool, true, false, not, _||_}
 use mathlib.Core.List.{List, [], _∷_, _++_, append-assoc}
 use mathlib.Core.Option.{Option, none, some}
-use lib.ListN.{length, length-append}
-use lib.Dec.{eqb}
+use lib.ListN.{length}
 use borrow.Author.Needs.{needs}
 use borrow.Author.Tests.{eq-eqb, ne-eqb, not-true, not-false}
 use Rattle.text.specs.Ascii.{Bytes}
@@ -40,7 +39,7 @@ use Rattle.ports.specs.declared.body.Pick.the-variants as pick
 use Rattle.ports.specs.Headers.{outBy, outputsBy, othersBy, HeaderSeen, OtherSeen}
 use Rattle.ports.specs.Bodies.{pickIs, picked, picked-append, BodySeen}
 use Rattle.ports.specs.Fresh.{fresh, fresh-old, fresh-new, in-append, one-front}
-use Rattle.ports.specs.Cursors.{ports-from, decls-from, decls-end, header-end, headed, bodied, freshFrom, BodyAt, FreshSeen, CursorAt, AmongPorts, outputsFrom, signalsFrom, candidatesFrom, losableFrom, OutputSeen, CandidateSeen, LosableSeen, inputsFrom, InputSeen}
+use Rattle.ports.specs.Cursors.{ports-from, decls-from, decls-end, header-end, headed, bodied, freshFrom, BodyAt, FreshSeen, CursorAt, AmongPorts, outputsFrom, signalsFrom, candidatesFrom, losableFrom, OutputSeen, CandidateSeen, LosableSeen, InputSeen}
 use Rattle.ports.specs.Starts.{inputs-are}
 
 -- ---- places

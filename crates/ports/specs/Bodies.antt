@@ -1,12 +1,12 @@
 -- The names of declarations, by what is asked for: output ports, other ports, or `net` and `data` without dimensions.
 -- Assumes nothing.
 use Prim.Native.Nat.{ℕ}
-use mathlib.Core.Path.{_≡_, refl, ap, _∙_, sym}
+use mathlib.Core.Path.{_≡_, refl, ap}
 use mathlib.Core.Bool.{Bool, true, false, cond, not, _&&_}
 use mathlib.Core.List.{List, [], _∷_, _++_, map, flatMap}
 use Rattle.text.specs.Ascii.{Bytes}
 use Rattle.fields.specs.Fields.{Dir, Kind}
-use Rattle.joblines.specs.Job.{Port, Decl}
+use Rattle.joblines.specs.Job.{Decl}
 use Rattle.joblines.specs.Sections.{declsIn}
 use Rattle.jobindex.specs.Index.{section}
 use Rattle.design.specs.Lists.{those}

@@ -1,8 +1,8 @@
 -- The names of a module that come behind a cursor.
 -- Assumes nothing.
-use Prim.Native.Nat.{ℕ, _+_, _≤_}
+use Prim.Native.Nat.{ℕ, _+_}
 use mathlib.Core.Path.{_≡_}
-use mathlib.Core.Bool.{Bool, true, false, cond, not}
+use mathlib.Core.Bool.{false, cond, not}
 use mathlib.Core.List.{List, [], _∷_, _++_}
 use lib.Dec.{eqb}
 use Rattle.text.specs.Ascii.{Bytes}
@@ -10,7 +10,7 @@ use Rattle.joblines.specs.Sections.{portsIn, declsIn}
 use Rattle.jobindex.specs.Index.{num, rowAt, section, moduleRow}
 use Rattle.design.specs.Lists.{those, isIn}
 use Rattle.design.specs.Ports.{inputPorts}
-use Rattle.lines.specs.Cursors.{spanned, Stepped}
+use Rattle.lines.specs.Cursors.{spanned}
 use Rattle.lines.specs.Steps.{Passed}
 use Rattle.ports.specs.declared.NameAt.{NameAt}
 use Rattle.ports.specs.declared.NameAt.the-variants as name
@@ -18,9 +18,8 @@ use Rattle.ports.specs.declared.Cursor.{Cursor}
 use Rattle.ports.specs.declared.Cursor.the-variants as cursor
 use Rattle.ports.specs.declared.Step.{Step}
 use Rattle.ports.specs.declared.Step.the-variants as step
-use Rattle.ports.specs.declared.body.Pick.{Pick}
 use Rattle.ports.specs.declared.body.Pick.the-variants as pick
-use Rattle.ports.specs.Headers.{outputsBy, othersBy, NameOn}
+use Rattle.ports.specs.Headers.{outputsBy, othersBy}
 use Rattle.ports.specs.Bodies.{picked}
 use Rattle.ports.specs.Fresh.{fresh}
 

@@ -1,9 +1,9 @@
 -- The output ports of a header and all others, as they come line by line: all that counts of the last direction is whether it is output.
 -- Assumes nothing.
 use Prim.Native.Nat.{ℕ}
-use mathlib.Core.Path.{_≡_, refl, ap, _∙_, sym}
+use mathlib.Core.Path.{_≡_, refl, ap, _∙_}
 use mathlib.Core.Bool.{Bool, true, false, cond, not}
-use mathlib.Core.List.{List, [], _∷_, map}
+use mathlib.Core.List.{List, [], _∷_}
 use Rattle.text.specs.Ascii.{Bytes}
 use Rattle.fields.specs.Fields.{Dir}
 use Rattle.joblines.specs.Job.{Port}

@@ -4,11 +4,10 @@ use Prim.Native.Nat.{ℕ, _+_, _-_}
 use native.Mathlib.Omega.{arith}
 use mathlib.Core.Path.{_≡_, refl, ap, ap₂, _∙_, sym}
 use mathlib.Core.Bool.{Bool, true, false, cond, not}
-use mathlib.Core.List.{List, [], _∷_, _++_, append-nil}
-use lib.ListN.{take, drop}
+use mathlib.Core.List.{List, [], _++_, append-nil}
 use lib.Dec.{eqb}
 use Rattle.text.specs.Ascii.{Bytes}
-use Rattle.fields.specs.Fields.{Style, ansi, nonansi, empty, input}
+use Rattle.fields.specs.Fields.{ansi, nonansi, empty, input}
 use Rattle.fields.specs.Meant.{styleAt}
 use Rattle.joblines.specs.Job.{Port, Module}
 use Rattle.joblines.specs.Sections.{linesIn, gather, portsIn, declsIn}
@@ -20,8 +19,8 @@ use Rattle.ports.specs.declared.Cursor.the-variants as cursor
 use Rattle.ports.specs.declared.body.Pick.the-variants as pick
 use Rattle.ports.specs.Headers.{outputsBy, othersBy, outputs-by, others-by}
 use Rattle.ports.specs.Bodies.{picked, picked-outputs, picked-others, picked-signals}
-use Rattle.ports.specs.Fresh.{fresh, added}
-use Rattle.ports.specs.Cursors.{ports-from, decls-from, decls-end, header-end, headed, bodied, freshFrom, outputsFrom, signalsFrom, inputsFrom, losableFrom}
+use Rattle.ports.specs.Fresh.{added}
+use Rattle.ports.specs.Cursors.{ports-from, decls-from, decls-end, header-end, headed, bodied, outputsFrom, inputsFrom, losableFrom}
 
 -- no style but ansi has header ports
 unstyled : (b : Bool) (ps : List Port) → headerPorts (cond b nonansi empty) ps ≡ []

@@ -5,7 +5,7 @@ ghost use Rattle.fields.specs.Meant.{dirIs};
 ghost use Rattle.joblines.specs.Sections.{portsIn};
 ghost use Rattle.jobindex.specs.Index.{section};
 ghost use Rattle.design.specs.Lists.{isIn};
-ghost use Rattle.ports.specs.Headers.{outBy, outputsBy, othersBy, HeaderSeen, OtherSeen};
+ghost use Rattle.ports.specs.Headers.{outBy, outputsBy, HeaderSeen, OtherSeen};
 use super::NameAt;
 use fields::Dir;
 use lines::PortAt;

@@ -3,11 +3,8 @@
 ghost use mathlib.Core.Path.{_≡_};
 ghost use mathlib.Core.Bool.{Bool};
 ghost use Prim.Native.Nat.{_≤_};
-ghost use Rattle.jobindex.specs.Index.{moduleRow};
-ghost use Rattle.design.specs.Lists.{isIn};
-ghost use Rattle.design.specs.Ports.{inputPorts};
 ghost use Rattle.ports.specs.declared.Cursor.the-variants as cursor;
-ghost use Rattle.ports.specs.Cursors.{ports-from, header-end, decls-from, decls-end, FreshSeen, BodyAt, CursorAt, AmongPorts, OutputSeen, CandidateSeen, InputSeen, LosableSeen};
+ghost use Rattle.ports.specs.Cursors.{ports-from, header-end, decls-from, decls-end, FreshSeen, BodyAt, CursorAt, AmongPorts, OutputSeen, CandidateSeen, InputSeen};
 use body::Pick;
 use jobindex::Span;
 

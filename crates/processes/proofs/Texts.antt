@@ -1,8 +1,8 @@
 -- The processes: laws as the needs ask them. A port leads a process where none before it is of a strategy like its own. Assumes nothing.
-use Prim.Native.Nat.{ℕ, zero, suc, _+_, _-_, _≤_, _<_}
+use Prim.Native.Nat.{ℕ, suc, _+_, _-_, _≤_, _<_}
 use native.Mathlib.Omega.{arith}
 use mathlib.Core.Path.{_≡_, refl, sym, ap, ap₂, _∙_}
-use mathlib.Core.Bool.{Bool, true, false, cond, _&&_, _||_}
+use mathlib.Core.Bool.{Bool, true, false, cond, _||_}
 use mathlib.Core.List.{List, [], _∷_, _++_, map}
 use borrow.Author.Needs.{needs}
 use Rattle.text.specs.Ascii.{Bytes, ascii}
@@ -10,7 +10,7 @@ use Rattle.text.specs.Compare.{same}
 use Rattle.text.specs.Scan.{any}
 use Rattle.text.specs.Sames.{same-eq, same-refl, both}
 use Rattle.out.specs.Bytewise.{dotted}
-use Rattle.out.specs.Emit.{Out, _▸_, emit, emit-append, _⊕_, emit-⊕, wrote, _then_}
+use Rattle.out.specs.Emit.{Out, emit, emit-append, wrote, _then_}
 use Rattle.out.specs.Fill.{fill, filled, adds, turns, arg, pick}
 use Rattle.out.specs.Items.{each}
 use Rattle.design.specs.Lists.{those}
@@ -20,7 +20,7 @@ use Rattle.texts.specs.Isolation.{Isolated as Isolatedʳ, activeOf, alike, lead
 use Rattle.isolated.specs.Table.{portRow, Kept, keptOf, keptFrom, keptIn}
 use Rattle.isolated.specs.Laws.{kept-next, kept-none}
 use Rattle.alike.specs.Strategies.{strategyAt, signalOf, areAlike}
-use Rattle.alike.specs.Shown.{shownBy, shown, shown-alike}
+use Rattle.alike.specs.Shown.{shown, shown-alike}
 use Rattle.alike.specs.Ruled.{Ruled, row-small}
 use Rattle.alike.specs.Numbers.{numbersFrom, numbersIn, numbers-one}
 use Rattle.processes.specs.Ports.{isLike, portText, portsText, headText, processText}

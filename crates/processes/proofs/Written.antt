@@ -1,27 +1,34 @@
 -- The text of each port of a strategy like this one: laws as the needs ask them. Assumes nothing.
-use Prim.Native.Nat.{ℕ, zero, suc, _+_, _-_, _≤_, _<_}
+use Prim.Native.Nat.{ℕ, suc, _+_, _-_, _≤_, _<_}
 use native.Mathlib.Omega.{arith}
 use mathlib.Core.Path.{_≡_, refl, sym, ap, _∙_}
 use mathlib.Core.Bool.{Bool, true, false, cond, not}
-use mathlib.Core.List.{List, [], _∷_, _++_}
+use mathlib.Core.List.{List, [], _∷_}
 use borrow.Author.Needs.{needs}
 use Rattle.text.specs.Ascii.{Bytes, ascii}
-use Rattle.out.specs.Emit.{Out, _▸_, emit, emit-append}
+use Rattle.out.specs.Emit.{Out, emit, emit-append}
 use Rattle.out.specs.Fill.{fill, isTemplate}
 use Rattle.out.specs.Items.{each}
 use Rattle.design.specs.Lists.{those}
 use Rattle.design.specs.Paths.{elementPath}
 use Rattle.refs.specs.Text.{textOf}
+use Rattle.names.specs.declared.name.Name.{Name}
+use Rattle.model.specs.Records.{Isolation as Isolationʳ}
+use Rattle.model.specs.Commands.{or-else}
+use Rattle.store.specs.Strings.{maybeOf}
+use Rattle.store.specs.View.{isolationOf}
+use Rattle.store.specs.declared.state.Isolation.{Isolation}
 use Rattle.store.specs.declared.state.Isolations.{Isolations}
+use Rattle.clamps.specs.Values.{storedName, clampNumber}
 use Rattle.texts.specs.Isolation.{lowered, isClamp, activeOf}
-use Rattle.format.specs.Args.{rooted, argOf}
+use Rattle.format.specs.Args.{rooted, argOf, nameArg, fixedArg}
 use Rattle.format.specs.declared.arg.Arg.{Arg}
 use Rattle.isolated.specs.Table.{portRow, portRef, netRef, Kept, keptOf, keptFrom, keptIn}
 use Rattle.isolated.specs.Laws.{kept-next, kept-none}
 use Rattle.isolated.specs.declared.Isolated.{Isolated}
 use Rattle.alike.specs.Strategies.{strategyAt, signalOf, areAlike}
-use Rattle.alike.specs.Ruled.{Ruled, row-small, row-strategy, row-clamp}
-use Rattle.portargs.specs.Args.{netArg, portArg, clampArg, strategyArg, signalArg, activeArg, net-is, port-is, clamp-is, strategy-is, signal-is, active-is}
+use Rattle.alike.specs.Ruled.{Ruled, row-small}
+use Rattle.portargs.specs.Args.{netArg, portArg, signalArg, activeArg, net-is, port-is, clamp-is, strategy-is, signal-is, active-is}
 use Rattle.processes.specs.Ports.{isLike, portText, portsText, headText}
 use Rattle.processes.proofs.Led.{number-small}
 
@@ -40,20 +47,23 @@ pub ruleset heads = (needs, head-written)
 
 -- ---- a port
 
-pub port-written : (job mem : Bytes) (scope : List Bytes) (top : Bytes) (t : Isolations) (x : Isolated) (tpl : Bytes) (a b c d : Arg) (o w : Out)
+pub port-written : (job mem : Bytes) (scope : List Bytes) (top : Bytes) (s : Isolation) (x : Isolated) (tpl : Bytes) (a b c d : Arg) (k : ℕ) (n : Name) (o w : Out)
     → w ≡ emit o (fill tpl (argOf job mem scope top a) (argOf job mem scope top b) (argOf job mem scope top c) (argOf job mem scope top d) [])
-    → a ≡ netArg x → b ≡ clampArg mem t (x .strategy) → c ≡ strategyArg t (x .strategy) → d ≡ portArg x
-    → isClamp (lowered (strategyAt mem t (x .strategy) .clamp)) ≡ true → w ≡ emit o (portText tpl scope top (strategyAt mem t) (keptOf job mem x))
-unfolding portText
-port-written job mem scope top t x tpl a b c d o w e ea eb ec ed h =
-    let y = strategyAt mem t (x .strategy) in
+    → a ≡ netArg x → b ≡ fixedArg k → k ≡ clampNumber (lowered (or-else (maybeOf mem (s .clamp)) (ascii "0"))) → c ≡ nameArg n → n ≡ storedName (s .name) → d ≡ portArg x
+    → isClamp (lowered (isolationOf mem s .clamp)) ≡ true → w ≡ emit o (portText tpl scope top (λ (_ : ℕ). isolationOf mem s) (keptOf job mem x))
+unfolding portText isolationOf
+port-written job mem scope top s x tpl a b c d k n o w e ea eb ek ec en ed h =
+    let t : Isolations = record { n = 1; all = s ∷ [] } in
     let a′ : argOf job mem scope top a ≡ elementPath scope (textOf job mem (netRef x)) = rw ea (net-is job mem scope top x) in
-    let b′ : argOf job mem scope top b ≡ lowered (y .clamp) = rw eb (clamp-is job mem scope top t (x .strategy) h) in
-    let c′ : argOf job mem scope top c ≡ y .name = rw ec (strategy-is job mem scope top t (x .strategy)) in
+    let b′ : argOf job mem scope top b ≡ lowered (isolationOf mem s .clamp) = rw (eb, ek) (clamp-is job mem scope top t 0 h) in
+    let c′ : argOf job mem scope top c ≡ isolationOf mem s .name = rw (ec, en) (strategy-is job mem scope top t 0) in
     let d′ : argOf job mem scope top d ≡ rooted top scope (textOf job mem (portRef x)) = rw ed (port-is job mem scope top x) in
     e ∙ rw (a′, b′, c′, d′)
 
-pub ruleset ports = (needs, port-written)
+-- a port of strategy j
+row-text : (tpl : Bytes) (scope : List Bytes) (top : Bytes) (f : ℕ → Isolationʳ) (job mem : Bytes) (x : Isolated) (j : ℕ) → j ≡ x .strategy → portText tpl scope top (λ (_ : ℕ). f j) (keptOf job mem x) ≡ portText tpl scope top f (keptOf job mem x)
+unfolding portText
+row-text tpl scope top f job mem x j e = rw e
 
 -- ---- each port: what is left to write, written from here, is the answer w
 
@@ -76,11 +86,8 @@ module _ (job mem : Bytes) (scope : List Bytes) (top tpl : Bytes) (t : Isolation
   pub writes-row : k < n → k < 256
   writes-row h = row-small mem t ports n (inv .ruled) k h
 
-  pub writes-number : k < n → (x : Isolated) → x ≡ portRow ports k → x .strategy < 32
-  writes-number h x e = row-strategy mem t ports n (inv .ruled) k h x e
-
-  pub writes-clamp : k < n → (x : Isolated) → x ≡ portRow ports k → isClamp (lowered (strategyAt mem t (x .strategy) .clamp)) ≡ true
-  writes-clamp h x e = row-clamp mem t ports n (inv .ruled) k h x e
+  pub writes-clamp : k < n → (j : ℕ) → j ≡ portRow ports k .strategy → isClamp (lowered (strategyAt mem t j .clamp)) ≡ true
+  writes-clamp h j e = rw e (inv .ruled .clamps k h)
 
   pub writes-numbered : k < n → (j : ℕ) → j ≡ portRow ports k .strategy → j < 32
   writes-numbered h j e = number-small mem t ports n (inv .ruled) k h j e
@@ -98,9 +105,9 @@ module _ (job mem : Bytes) (scope : List Bytes) (top tpl : Bytes) (t : Isolation
         is-not true e = sym e
         is-not false e = refl
 
-    pub writes-one : not b ≡ false → (x : Isolated) → x ≡ portRow ports k → (o′ : Out) → o′ ≡ emit o (portText tpl scope top (strategyAt mem t) (keptOf job mem x)) → Writes job mem scope top tpl t ports n i w o′ (k + 1) s
+    pub writes-one : not b ≡ false → (x : Isolated) → x ≡ portRow ports k → (o′ : Out) → o′ ≡ emit o (portText tpl scope top (λ (_ : ℕ). strategyAt mem t j) (keptOf job mem x)) → Writes job mem scope top tpl t ports n i w o′ (k + 1) s
     unfolding portsText each
-    writes-one d x p o′ q = record { template = inv .template; ruled = inv .ruled; number = inv .number; before = omega arith; unlike = inv .unlike; keeps = rw q (rw p (rw (is-true b d, emit-append) at opened)) }
+    writes-one d x p o′ q = record { template = inv .template; ruled = inv .ruled; number = inv .number; before = omega arith; unlike = inv .unlike; keeps = rw (q, p, row-text tpl scope top (strategyAt mem t) job mem (portRow ports k) j e) (rw (is-true b d, emit-append) at opened) }
       where
         is-true : (b : Bool) → not b ≡ false → b ≡ true
         is-true true e = refl
@@ -112,4 +119,4 @@ module _ (job mem : Bytes) (scope : List Bytes) (top tpl : Bytes) (t : Isolation
       let g : false ≡ areAlike (strategyAt mem t i) (strategyAt mem t j) = sym (ap (λ (m : ℕ). areAlike (strategyAt mem t i) (strategyAt mem t m)) d ∙ inv .unlike l) in
       rw d at (writes-other h j e false g refl)
 
-pub ruleset writes = (needs, writes-row, writes-number, writes-numbered, writes-clamp, writes-end, writes-other, writes-one, writes-skip)
+pub ruleset writes = (needs, writes-row, writes-numbered, writes-clamp, writes-end, writes-other, writes-one, writes-skip)

@@ -8,6 +8,7 @@ ghost use Rattle.out.specs.Emit.{_▸_, emit};
 ghost use Rattle.out.specs.Fill.{isTemplate};
 ghost use Rattle.texts.specs.Isolation.{lowered, isClamp, processes as Isolation·processes};
 ghost use Rattle.scope.specs.Parts.{parts};
+ghost use Rattle.store.specs.View.{isolationOf};
 ghost use Rattle.isolated.specs.Table.{keptOf, keptIn};
 ghost use Rattle.alike.specs.Strategies.{strategyAt};
 ghost use Rattle.alike.specs.Shown.{shown};
@@ -15,6 +16,10 @@ ghost use Rattle.alike.specs.Numbers.{numbersIn};
 ghost use Rattle.alike.specs.Ruled.{Ruled};
 ghost use Rattle.processes.specs.Ports.{isLike, portText, portsText, headText, processText};
 use alike::alike_rows;
+use clamps::clamp;
+use clamps::stored;
+use format::arg::fixed;
+use format::arg::name;
 use format::fill::fill2;
 use format::fill::fill4;
 use isolated::Isolated;
@@ -22,11 +27,10 @@ use isolated::port_at;
 use isolated::strategy_at;
 use out::emit::put;
 use portargs::active_arg;
-use portargs::clamp_arg;
 use portargs::net_arg;
 use portargs::port_arg;
 use portargs::signal_arg;
-use portargs::strategy_arg;
+use store::state::Isolation;
 use store::state::Isolations;
 
 // Whether one of the first n ports is of a strategy like this one. `s` is a strategy that is known to be unlike it: ports of one stand together.
@@ -53,7 +57,7 @@ fn is_led(files: &[u8], area: &[u8], t: Isolations, ports: &[u32], n: usize, i: 
     false
 }
 
-// Writes a template for a port: the parent's net, the clamp value, the strategy, the port.
+// Writes a template for a port of a strategy: the parent's net, the clamp value, the strategy, the port.
 fn put_port(
     out: &mut [u8],
     at: usize,
@@ -64,16 +68,17 @@ fn put_port(
     over: &[u8],
     from: usize,
     top: &[u8],
-    t: Isolations,
+    s: Isolation,
     x: Isolated,
 ) -> usize
-    requires { ⌜ (isTemplate 4 (now tpl) ≡ true) × ((x .strategy < 32) × (isClamp (lowered (strategyAt (now files ++ now area) t (x .strategy) .clamp)) ≡ true)) ⌝ }
-    ensures { λ r. ⌜ now (out .exit) ▸ r ≡ emit (now (out .entry) ▸ at) (portText (now (tpl .entry)) (parts (now (over .entry)) from) (now (top .entry)) (strategyAt (now (files .entry) ++ now (area .entry)) t) (keptOf (now (job .entry)) (now (files .entry) ++ now (area .entry)) x)) ⌝ }
+    requires { ⌜ (isTemplate 4 (now tpl) ≡ true) × (isClamp (lowered (isolationOf (now files ++ now area) s .clamp)) ≡ true) ⌝ }
+    ensures { λ r. ⌜ now (out .exit) ▸ r ≡ emit (now (out .entry) ▸ at) (portText (now (tpl .entry)) (parts (now (over .entry)) from) (now (top .entry)) (λ _. isolationOf (now (files .entry) ++ now (area .entry)) s) (keptOf (now (job .entry)) (now (files .entry) ++ now (area .entry)) x)) ⌝ }
 {
-    let i = x.strategy;
+    let m = s.clamp;
+    let n = s.name;
     let a = net_arg(x);
-    let b = clamp_arg(files, area, t, i);
-    let c = strategy_arg(t, i);
+    let b = fixed(clamp(files, area, m));
+    let c = name(stored(n));
     let d = port_arg(x);
     fill4(out, at, tpl, job, files, area, over, from, top, a, b, c, d)
 }
@@ -114,7 +119,7 @@ fn each_port(
             continue;
         }
         let x = port_at(ports, k);
-        o = put_port(out, o, tpl, job, files, area, over, from, top, t, x);
+        o = put_port(out, o, tpl, job, files, area, over, from, top, b, x);
         k += 1;
     }
     o

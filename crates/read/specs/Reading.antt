@@ -1,11 +1,11 @@
 -- Reading: the commands of the start file and of the files that it loads, carried out one after the other (document 01, "Files and commands"; check 6).
 -- Assumes nothing.
 use Prim.Native.Nat.{ℕ, zero, suc, _+_}
-use mathlib.Core.Bool.{Bool, cond}
-use mathlib.Core.List.{List, [], _∷_, _++_}
+use mathlib.Core.Bool.{cond}
+use mathlib.Core.List.{List, [], _∷_}
 use mathlib.Core.Option.{Option, none, some}
 use lib.ListN.{length}
-use Rattle.text.specs.Ascii.{Bytes, ascii, byte}
+use Rattle.text.specs.Ascii.{Bytes, ascii}
 use Rattle.text.specs.Compare.{same}
 use Rattle.tcl.specs.Join.{join}
 use Rattle.tcl.specs.Words.{Word}

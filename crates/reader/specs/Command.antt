@@ -1,48 +1,30 @@
 -- Laws: one command, from what its parts come to. Assumes nothing.
-use Prim.Native.Nat.{ℕ, zero, suc, _+_, _-_, _*_, _≤_, _<_, _^_}
+use Prim.Native.Nat.{ℕ, zero, suc, _+_, _-_, _≤_, _<_, _^_}
 use Prim.Native.String.{String}
 use native.Mathlib.Omega.{arith}
-use native.Mathlib.Nat.{add-zero}
 use mathlib.Core.Path.{_≡_, refl, sym, ap, _∙_}
 use mathlib.Core.Bool.{Bool, true, false, cond, _&&_}
-use mathlib.Core.List.{List, [], _∷_, _++_}
-use mathlib.Core.Option.{Option, none, some}
-use lib.Dec.{eqb, leb}
+use mathlib.Core.List.{List, [], _∷_}
+use lib.Dec.{leb}
 use lib.ListN.{length, take, drop, length-append}
 use lib.Seq.{length-take-le}
 use borrow.Author.Tests.{eq-eqb, ne-eqb, leb-true}
-use Rattle.text.specs.Ascii.{Bytes, ascii}
+use Rattle.text.specs.Ascii.{Bytes}
 use Rattle.text.specs.Scan.{all}
 use Rattle.text.specs.Sames.{no-true, both}
-use Rattle.spans.specs.Span.{bytes, pairAt, pairs, strings}
-use Rattle.spans.specs.Frame.{known-grows}
-use Rattle.spans.specs.Reach.{lastOf, reach, reach-end}
+use Rattle.spans.specs.Span.{bytes, pairAt, pairs}
+use Rattle.spans.specs.Reach.{lastOf, reach}
 use Rattle.jobindex.specs.Index.{pathAt}
-use Rattle.model.specs.Records.{Model, with-scope, with-design-top}
-use Rattle.model.specs.Commands.{given}
+use Rattle.model.specs.Records.{Model}
 use Rattle.model.specs.Names.{Named, load-upf, set-scope, other, unknown, commandNamed, names}
 use Rattle.model.specs.Numbers.{namedIn, namedBy}
-use Rattle.model.specs.Within.{Counted, listsBy, entriesOf, total, countsFit, recordsFit}
-use Rattle.read.specs.Reading.{Reading, done, refused, Line, lineOf, actsBy, afterwards, restored}
-use Rattle.store.specs.Strings.{string, spanOf, maybeOf}
-use Rattle.store.specs.View.{Store, modelOf}
-use Rattle.store.specs.Order.{Shaped, Bounded, ofMaybe, endOf}
-use Rattle.store.specs.Frame.{string-same, maybe-same}
-use Rattle.store.specs.Rows.{storeOf}
-use Rattle.store.specs.Steps.{scope-shaped, scope-bounded, top-shaped, top-bounded}
-use Rattle.store.specs.Added.{scope-set, top-set}
-use Rattle.store.specs.declared.stored.Maybe.{Maybe}
-use Rattle.store.specs.declared.stored.Maybe.the-variants.{Not, Given}
-use Rattle.store.specs.declared.stored.Stored.{Stored}
+use Rattle.model.specs.Within.{Counted, listsBy, entriesOf, total}
+use Rattle.read.specs.Reading.{Reading, done, refused, Line, lineOf, actsBy, afterwards}
 use Rattle.store.specs.declared.state.State.{State}
-use Rattle.made.specs.Made.{reachOf}
 use Rattle.scopes.specs.declared.go.Out.{Out}
-use Rattle.held.specs.Grows.{bounded-more, bounded-ends}
-use Rattle.held.specs.Held.{memOf, modelAt, countedOf, logOf, readingOf, Logged, Lends, Held, Worded, Lent, Comes, Ran}
-use Rattle.held.specs.Laws.{with-entries, entries-held, entries-model, lent-same, lent-two}
-use Rattle.loads.specs.Steps.{lineAt, countedOn, stepFrom, listsFit, countedOut, acted, loadAt, filesIn, commandReads, fileReads, Doing}
-use Rattle.loads.specs.Loads.{restored-by, Loading, Loaded, Refuses, Opens}
-use Rattle.loads.specs.declared.Load.{Load}
+use Rattle.held.specs.Held.{memOf, modelAt, countedOf, logOf, Held, Worded, Comes, Ran}
+use Rattle.held.specs.Laws.{with-entries, entries-held, entries-model, lent-same}
+use Rattle.loads.specs.Steps.{lineAt, countedOn, stepFrom, listsFit, countedOut, acted, loadAt, filesIn, commandReads, Doing}
 use Rattle.loads.specs.Scoped.{line-is}
 
 -- ---- answers

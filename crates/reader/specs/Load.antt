@@ -1,50 +1,38 @@
 -- Laws: a load_upf, from what its parts come to. Assumes nothing.
-use Prim.Native.Nat.{ℕ, zero, suc, _+_, _-_, _*_, _≤_, _<_, _^_}
-use Prim.Native.String.{String}
+use Prim.Native.Nat.{ℕ, _+_, _-_, _≤_}
 use native.Mathlib.Omega.{arith}
-use native.Mathlib.Nat.{add-zero}
 use mathlib.Core.Path.{_≡_, refl, sym, ap, _∙_}
-use mathlib.Core.Bool.{Bool, true, false, cond, _&&_}
-use mathlib.Core.List.{List, [], _∷_, _++_}
-use mathlib.Core.Option.{Option, none, some}
-use lib.Dec.{eqb, leb}
-use lib.ListN.{length, take, drop}
-use borrow.Author.Tests.{eq-eqb, ne-eqb, leb-true}
-use Rattle.text.specs.Ascii.{Bytes, ascii}
-use Rattle.text.specs.Scan.{all}
-use Rattle.text.specs.Sames.{no-true, both}
-use Rattle.spans.specs.Span.{bytes, pairAt, strings}
+use mathlib.Core.List.{List, _++_}
+use lib.ListN.{length, take}
+use Rattle.text.specs.Ascii.{Bytes}
+use Rattle.spans.specs.Span.{bytes, pairAt}
 use Rattle.spans.specs.Frame.{known-grows}
-use Rattle.spans.specs.Reach.{reach, reach-end}
 use Rattle.jobindex.specs.Index.{pathAt}
 use Rattle.model.specs.Records.{Model, with-scope, with-design-top}
 use Rattle.model.specs.Commands.{given}
-use Rattle.model.specs.Names.{Named, load-upf, set-scope, other, unknown, commandNamed, names}
-use Rattle.model.specs.Numbers.{namedIn, namedBy}
-use Rattle.model.specs.Within.{Counted, listsBy, entriesOf, total, countsFit, recordsFit}
-use Rattle.read.specs.Reading.{Reading, done, refused, Line, lineOf, actsBy, afterwards, restored}
-use Rattle.store.specs.Strings.{string, spanOf, maybeOf}
+use Rattle.model.specs.Names.{load-upf, commandNamed}
+use Rattle.model.specs.Numbers.{namedBy}
+use Rattle.model.specs.Within.{listsBy, entriesOf, total}
+use Rattle.read.specs.Reading.{Reading, done, Line, restored}
+use Rattle.store.specs.Strings.{string, maybeOf}
 use Rattle.store.specs.View.{Store, modelOf}
-use Rattle.store.specs.Order.{Shaped, Bounded, ofMaybe, endOf}
+use Rattle.store.specs.Order.{Bounded, ofMaybe, endOf}
 use Rattle.store.specs.Frame.{string-same, maybe-same}
 use Rattle.store.specs.Rows.{storeOf}
 use Rattle.store.specs.Steps.{scope-shaped, scope-bounded, top-shaped, top-bounded}
-use Rattle.store.specs.Added.{scope-set, top-set}
+use Rattle.store.specs.Added.{scope-set}
 use Rattle.store.specs.declared.stored.Maybe.{Maybe}
 use Rattle.store.specs.declared.stored.Maybe.the-variants.{Not, Given}
-use Rattle.store.specs.declared.stored.Stored.{Stored}
 use Rattle.store.specs.declared.state.State.{State}
 use Rattle.made.specs.Made.{reachOf}
 use Rattle.scopes.specs.declared.go.Out.{Out}
-use Rattle.held.specs.Grows.{bounded-more, bounded-ends}
-use Rattle.held.specs.Held.{memOf, modelAt, countedOf, logOf, readingOf, Logged, Lends, Held, Worded, Lent, Comes, Ran}
-use Rattle.held.specs.Laws.{with-entries, entries-held, entries-model, lent-same, lent-two}
-use Rattle.loads.specs.Steps.{lineAt, countedOn, stepFrom, listsFit, countedOut, acted, loadAt, filesIn, commandReads, fileReads, Doing}
-use Rattle.loads.specs.Loads.{restored-by, Loading, Loaded, Refuses, Opens}
-use Rattle.loads.specs.declared.Load.{Load}
-use Rattle.loads.specs.Scoped.{line-is}
+use Rattle.held.specs.Grows.{bounded-ends}
+use Rattle.held.specs.Held.{memOf, modelAt, countedOf, logOf, Logged, Held, Lent, Comes, Ran}
+use Rattle.held.specs.Laws.{with-entries, lent-two}
+use Rattle.loads.specs.Steps.{lineAt, stepFrom, countedOut, loadAt, filesIn, commandReads, fileReads, Doing}
+use Rattle.loads.specs.Loads.{restored-by, Loading, Loaded, Opens}
 use Rattle.loads.specs.Steps.{Opening}
-use Rattle.reader.specs.Command.{comes-refused, refused-is, done-is, reads-is, state-is, commands-fit, counted-held, counted-worded, counted-few}
+use Rattle.reader.specs.Command.{comes-refused, refused-is, done-is, reads-is, state-is, counted-held, counted-worded, counted-few}
 
 -- ---- behind a load
 restored-view : (mem : Bytes) (st : Store) (s rs : State) (t : Maybe) (log : Bytes)
@@ -126,38 +114,38 @@ module _ (job files area nums words : List ℕ) (count n k left : ℕ) (s : Stat
   step-is : (text : Bytes) → reads text ≡ stepFrom (loadAt (filesIn job nums count) left) (pathAt job nums k) load-upf (lineAt files area words n s) (countedOf s) (modelAt files area nums s text)
   step-is text = reads-is job files area nums words count n k left s v c ec text ∙ ap (λ (j : ℕ). stepFrom (loadAt (filesIn job nums count) left) (pathAt job nums k) (namedBy j) (lineAt files area words n s) (countedOf s) (modelAt files area nums s text)) two
 
-  module _ (area′ : List ℕ) (b : Load) (w₀ : Loaded job files area area′ nums count words n k left (x .state) b) where
-    w : Loaded job files area area′ nums count words n k left s b
+  module _ (area′ : List ℕ) (b : Out) (m : ℕ) (w₀ : Loaded job files area area′ nums count words n k left (x .state) b m) where
+    w : Loaded job files area area′ nums count words n k left s b m
     w = rw same-state at w₀
 
     lent-first : Lent (s .fill .end) area area′ nums nums
     lent-first = record { kept = w .kept; back = w .back; low = refl; high = refl }
 
-    pub load-refused : (log : List ℕ) → (b .out .tag ≡ 0 → ⊥) → Ran files area area′ nums nums log log s (b .out) reads
+    pub load-refused : (log : List ℕ) → (b .tag ≡ 0 → ⊥) → Ran files area area′ nums nums log log s b reads
     load-refused log h =
         record {
           held = λ q. absurd (h q);
           more = λ q. absurd (h q);
           lent = lent-first;
-          reads = λ log₀ text g. comes-refused files area′ nums log₀ log (b .out) (reads text) h (step-is text ∙ w .refuses h .is text);
+          reads = λ log₀ text g. comes-refused files area′ nums log₀ log b (reads text) h (step-is text ∙ w .refuses h .is text);
         }
 
-    module _ (h : b .out .tag ≡ 0) where
-      o : Opens job files area area′ nums count words n k left s b
+    module _ (h : b .tag ≡ 0) where
+      o : Opens job files area area′ nums count words n k left s b m
       o = w .opens h
 
       pub load-deep : 1 ≤ left
       load-deep = o .deep
 
-      pub load-opening : Opening job files area′ nums count (b .file) (left - 1) (b .out .state)
+      pub load-opening : Opening job files area′ nums count m (left - 1) (b .state)
       load-opening = record { filed = v .filed; held = o .held; file = o .file; depth = omega (arith, v .depth) }
 
-      module _ (area″ nums″ log log″ : List ℕ) (r : Out) (g : Ran files area′ area″ nums nums″ log log″ (b .out .state) r (fileReads job files area′ nums count (b .file) (left - 1) (b .out .state))) where
+      module _ (area″ nums″ log log″ : List ℕ) (r : Out) (g : Ran files area′ area″ nums nums″ log log″ (b .state) r (fileReads job files area′ nums count m (left - 1) (b .state))) where
         lent-all : Lent (s .fill .end) area area″ nums nums″
-        lent-all = lent-two (s .fill .end) (b .out .state .fill .end) area area′ area″ nums nums nums″ (o .more) lent-first (g .lent)
+        lent-all = lent-two (s .fill .end) (b .state .fill .end) area area′ area″ nums nums nums″ (o .more) lent-first (g .lent)
 
         abbrev d : Bytes → Reading
-        d text = fileReads job files area′ nums count (b .file) (left - 1) (b .out .state) text
+        d text = fileReads job files area′ nums count m (left - 1) (b .state) text
 
         comes : (log₀ text : Bytes) → Logged log₀ log (s .fill .log) text → Comes files area″ nums″ log₀ log″ r (d text)
         comes log₀ text q = g .reads log₀ text (rw (o .log) q)

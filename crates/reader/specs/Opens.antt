@@ -1,36 +1,33 @@
 -- Laws: the fresh state over the joined files, and what their reading comes to. Assumes nothing.
-use Prim.Native.Nat.{ℕ, zero, suc, _+_, _-_, _*_, _≤_, _<_, _^_}
+use Prim.Native.Nat.{ℕ, _+_, _-_, _*_, _≤_, _<_}
 use native.Mathlib.Nat.{zero-add}
 use native.Mathlib.Omega.{arith}
-use mathlib.Core.Path.{_≡_, refl, sym, ap, _∙_}
-use mathlib.Core.List.{List, [], _∷_, _++_}
-use mathlib.Core.Option.{Option, none, some}
+use mathlib.Core.Path.{_≡_, sym, ap, _∙_}
+use mathlib.Core.List.{List, [], _++_}
 use lib.ListN.{length, take, drop, getD}
 use lib.Seq.{take-take}
 use Rattle.text.specs.Ascii.{Bytes}
-use Rattle.out.specs.Emit.{_▸_, emit}
-use Rattle.spans.specs.Reach.{reach, reach-held, filed as inFiles}
+use Rattle.out.specs.Emit.{emit}
+use Rattle.spans.specs.Reach.{reach-held, filed as inFiles}
 use Rattle.tcl.specs.Join.{join}
 use Rattle.tcl.specs.Commands.{commands}
-use Rattle.jobindex.specs.Index.{num, pathAt, bodyAt, fileAt, rows, jobOf, Indexed}
+use Rattle.jobindex.specs.Index.{pathAt, bodyAt, rows, Indexed}
 use Rattle.jobindex.specs.Rows.{files-same}
-use Rattle.joblines.specs.Job.{Job, File}
+use Rattle.joblines.specs.Job.{Job}
 use Rattle.jobindex.specs.declared.Header.{Header}
-use Rattle.joined.specs.Joined.{bodies, joinedAt, placed, Room, Joined}
+use Rattle.joined.specs.Joined.{bodies, Room, Joined}
 use Rattle.joined.specs.Laws.{placed-long, placed-below, placed-front, placed-back, joined-is}
-use Rattle.model.specs.Records.{Model, no-records}
-use Rattle.model.specs.Within.{Counted, nothing-counted}
-use Rattle.read.specs.Reading.{Reading, fileNamed, readBody, readFile, readCommands, reading}
+use Rattle.model.specs.Records.{no-records}
+use Rattle.model.specs.Within.{nothing-counted}
+use Rattle.read.specs.Reading.{readFile, readCommands, reading}
 use Rattle.store.specs.Strings.{no-string, spanOf}
-use Rattle.store.specs.View.{Store, modelOf}
-use Rattle.store.specs.Order.{Shaped, Bounded}
 use Rattle.store.specs.Rows.{storeOf, rowsIn, wordsIn}
 use Rattle.store.specs.Start.{Fresh, no-store, fresh-view, fresh-shaped, fresh-bounded}
 use Rattle.store.specs.declared.state.State.{State}
 use Rattle.made.specs.Made.{reachOf}
 use Rattle.scopes.specs.declared.go.Out.{Out}
-use Rattle.held.specs.Held.{memOf, modelAt, countedOf, Logged, Lends, Held, Lent, Comes, Ran}
-use Rattle.loads.specs.Steps.{loadAt, filesIn, fileReads, Texts, Opening}
+use Rattle.held.specs.Held.{memOf, modelAt, countedOf, Logged, Held, Ran}
+use Rattle.loads.specs.Steps.{filesIn, fileReads, Texts, Opening}
 use Rattle.reader.specs.Whole.{readingAt, Starts, WasRead}
 
 -- of an indexed job, it is the job's reading

@@ -1,5 +1,5 @@
 -- What the reading limits come to in the records: how many entries their lists have. Assumes nothing.
-use Prim.Native.Nat.{ℕ, _+_, _≤_, max}
+use Prim.Native.Nat.{ℕ, _≤_, max}
 use mathlib.Core.List.{List, [], _∷_, map}
 use lib.ListN.{length}
 use Rattle.model.specs.Records.{Domain, Switch, Isolation, Retention, TableState, Table, Model}

@@ -1,11 +1,11 @@
 -- Theorem: every reading that ends leaves records whose lists are within the limits. Assumes nothing.
-use Prim.Native.Nat.{ℕ, zero, suc, _+_, _*_, _≤_, _<_, max}
+use Prim.Native.Nat.{ℕ, zero, suc, _+_, _*_, _≤_, max}
 use Prim.Native.String.{String}
 use native.Mathlib.Omega.{arith}
 use native.Mathlib.Nat.{le-trans}
-use mathlib.Core.Path.{_≡_, refl, sym, ap, _∙_}
+use mathlib.Core.Path.{_≡_, refl, ap}
 use mathlib.Core.Bool.{Bool, true, false, cond, _&&_, not}
-use mathlib.Core.List.{List, [], _∷_, _++_, map, flatMap, map-append}
+use mathlib.Core.List.{List, [], _∷_, _++_, map, map-append}
 use mathlib.Core.Option.{Option, none, some, Option·map}
 use lib.Dec.{leb}
 use lib.ListN.{length, length-append, length-map}
@@ -18,18 +18,17 @@ use Rattle.out.specs.Fill.{format1}
 use Rattle.tcl.specs.Lists.{list}
 use Rattle.tcl.specs.Words.{Word}
 use Rattle.tcl.specs.Substitution.{Variable, values, costs}
-use Rattle.tcl.specs.Arguments.{positionals, optionOf, hasFlag, nameOf, State}
+use Rattle.tcl.specs.Arguments.{positionals, optionOf, hasFlag, nameOf}
 use Rattle.joblines.specs.Job.{File, Job}
-use Rattle.model.specs.Limits.{most-entries, most-all-entries}
-use Rattle.model.specs.Records.{Domain, Control, Switch, Isolation, Retention, TableState, Table, Model, no-records, with-scope, with-design-top, with-domains, with-nets, with-connections, with-warnings, with-isolations, with-tables, with-variables}
+use Rattle.model.specs.Limits.{most-entries}
+use Rattle.model.specs.Records.{Domain, Switch, Isolation, Retention, TableState, Table, Model, no-records, with-scope, with-design-top, with-domains, with-nets, with-isolations, with-tables}
 use Rattle.model.specs.Names.{Command, Named, commandNamed, isQuery}
-use Rattle.model.specs.Scope.{scoped}
-use Rattle.model.specs.Commands.{optionList, listOf, all-below, below-scope, warned, onFirst, or-warned, setTo, set-command, puts-command, design-top-command, scope-command, domain-command, net-command, port-command, connect-command, supplied, supply-command, controlsOf, switchStates, switch-command, replaced, isStrategy, domainOf, newIsolation, updated, added, isolation-command, controlled, control-command, retention-command, shifter-command, port-state-command, table-command, tableOf, with-state, table-state-command, unsupported, carriedOut, given}
+use Rattle.model.specs.Commands.{optionList, all-below, below-scope, warned, onFirst, or-warned, setTo, set-command, puts-command, design-top-command, scope-command, domain-command, net-command, port-command, connect-command, supplied, supply-command, controlsOf, switchStates, switch-command, replaced, isStrategy, domainOf, newIsolation, updated, added, isolation-command, controlled, control-command, retention-command, shifter-command, port-state-command, table-command, tableOf, with-state, table-state-command, unsupported, carriedOut, given}
 use Rattle.model.specs.Within.{optionValue, stateValues, listsOf, listsBy, total, entriesOf, Counted, nothing-counted, recordsFit, countsFit, within}
-use Rattle.read.specs.Reading.{Reading, done, refused, Line, lineOf, enteredBy, actsBy, scopesBy, countedBy, restored, afterwards, step, command, goOn, readCommands, fileNamed, readBody, readFile, reading, joinedPath}
+use Rattle.read.specs.Reading.{Reading, done, refused, Line, lineOf, enteredBy, actsBy, countedBy, restored, afterwards, step, command, goOn, readCommands, fileNamed, readBody, readFile, reading, joinedPath}
 use Rattle.store.specs.Order.{Within as Bound, none-left, one-more}
-use Rattle.store.specs.Tables.{within-le, within-snoc}
-use Rattle.readfacts.specs.Few.{Few, retainedEntries, mostValues}
+use Rattle.store.specs.Tables.{within-snoc}
+use Rattle.readfacts.specs.Few.{Few, mostValues}
 
 -- ---- lists of numbers within a limit
 

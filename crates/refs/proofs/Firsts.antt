@@ -1,14 +1,14 @@
 -- The first byte of a text in pieces: laws as the needs ask them. Assumes nothing.
 use Prim.Native.Nat.{ℕ, zero, suc, _+_, _-_, _≤_, _<_}
 use mathlib.Core.Path.{_≡_, refl, sym, ap, _∙_}
-use mathlib.Core.Bool.{Bool, true, false, cond, _&&_}
-use mathlib.Core.List.{List, [], _∷_, _++_}
+use mathlib.Core.Bool.{Bool, true, false, _&&_}
+use mathlib.Core.List.{[], _∷_, _++_}
 use native.Mathlib.Numerals.{add-one, sub-one}
 use lib.Dec.{eqb}
 use lib.ListN.{length, take, drop, getD, drop-of-length-le}
 use lib.Seq.{drop-cons}
 use borrow.Author.Needs.{needs}
-use borrow.Author.Tests.{eq-eqb, ne-eqb, eqb-true}
+use borrow.Author.Tests.{eqb-true}
 use Rattle.text.specs.Ascii.{Bytes, byte}
 use Rattle.text.specs.Lists.{take-none}
 use Rattle.text.specs.Sames.{both, no-true}
@@ -16,7 +16,7 @@ use Rattle.names.specs.Name.{nameOf, slash, stepOf as nameStep}
 use Rattle.names.specs.declared.name.Name.{Name}
 use Rattle.names.specs.declared.name.Step.{Step as NameStep}
 use Rattle.names.specs.declared.name.Step.the-variants.{Byte as NameByte, End as NameEnd}
-use Rattle.refs.specs.Text.{frontOf, textOf, stepOf, Starts, refOf, noName, wholeRef, frontRef, jobRef}
+use Rattle.refs.specs.Text.{frontOf, textOf, stepOf, Starts, refOf, noName, jobRef}
 use Rattle.refs.specs.Laws.{none-is, job-is}
 use Rattle.refs.specs.declared.Ref.{Ref}
 use Rattle.refs.specs.declared.Step.{Step}
@@ -73,17 +73,17 @@ pub ruleset behinds = (needs, last-end, last-byte, behind-sep, behind-none)
 
 -- ---- the whole
 
-front-none : (c : Bool) (k : ℕ) (n : Bytes) → c && eqb k 0 ≡ true → frontOf c k n ≡ []
+pub front-none : (c : Bool) (k : ℕ) (n : Bytes) → c && eqb k 0 ≡ true → frontOf c k n ≡ []
 front-none c k n h =
     let b = both c (eqb k 0) h in
     let e : k ≡ 0 = eqb-true k 0 (b .1) in
     rw (b .0, e)
 
-front-empty : (c : Bool) (k : ℕ) → frontOf c k [] ≡ []
+pub front-empty : (c : Bool) (k : ℕ) → frontOf c k [] ≡ []
 front-empty true k = take-none k
 front-empty false k = refl
 
-front-byte : (c : Bool) (k b : ℕ) (n : Bytes) → c && eqb k 0 ≡ false → frontOf c k (b ∷ n) ≡ b ∷ frontOf c (k - 1) n
+pub front-byte : (c : Bool) (k b : ℕ) (n : Bytes) → c && eqb k 0 ≡ false → frontOf c k (b ∷ n) ≡ b ∷ frontOf c (k - 1) n
 front-byte true zero b n h = absurd (no-true (sym h))
 front-byte true (suc k) b n h = rw sub-one
 front-byte false k b n h = refl

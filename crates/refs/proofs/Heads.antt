@@ -1,14 +1,14 @@
 -- Two texts compared from their ends: laws as the needs ask them. Assumes nothing.
-use Prim.Native.Nat.{ℕ, zero, suc, _+_, _-_, _≤_, _<_}
+use Prim.Native.Nat.{ℕ, suc, _+_, _-_, _<_}
 use mathlib.Core.Path.{_≡_, refl, sym, ap, ap₂, _∙_}
-use mathlib.Core.Bool.{Bool, true, false, cond, not, _&&_, _||_}
-use mathlib.Core.List.{List, [], _∷_, _++_, append-nil, append-assoc}
+use mathlib.Core.Bool.{Bool, true, false, not, _&&_}
+use mathlib.Core.List.{[], _∷_, _++_, append-nil, append-assoc}
 use native.Mathlib.Omega.{arith}
 use lib.Dec.{eqb}
 use lib.ListN.{length, take, drop, getD}
 use borrow.Author.Needs.{needs}
 use borrow.Author.Tests.{eqb-true, eq-eqb, ne-eqb}
-use Rattle.text.specs.Ascii.{Bytes, byte}
+use Rattle.text.specs.Ascii.{Bytes}
 use Rattle.text.specs.Compare.{same}
 use Rattle.text.specs.Sames.{same-refl, same-eq, differ, both, no-true}
 use Rattle.spans.specs.Span.{bytes}
@@ -16,7 +16,7 @@ use Rattle.names.specs.Name.{nameOf, stepOf, slash}
 use Rattle.names.specs.declared.name.Name.{Name}
 use Rattle.names.specs.declared.name.Step.{Step}
 use Rattle.names.specs.declared.name.Step.the-variants.{Byte, End}
-use Rattle.refs.specs.Text.{textOf, refOf, frontOf}
+use Rattle.refs.specs.Text.{textOf, frontOf}
 use Rattle.refs.specs.Heads.{headRef, isBare, oneSlash, Apart}
 use Rattle.refs.specs.declared.Ref.{Ref}
 

@@ -1,8 +1,7 @@
 -- Loops over what is left of a text. Each law is stated as a loop's needs ask it. Assumes nothing.
-use Prim.Native.Nat.{ℕ, _+_, _≤_, _<_}
-use mathlib.Core.Path.{_≡_, refl, sym, ap, _∙_}
-use mathlib.Core.Bool.{Bool, true, false, cond, _&&_}
-use mathlib.Core.List.{List, [], _∷_, _++_}
+use Prim.Native.Nat.{ℕ, _<_}
+use mathlib.Core.Path.{_≡_, sym}
+use mathlib.Core.Bool.{Bool, true, false, _&&_}
 use native.Mathlib.Omega.{arith}
 use lib.Dec.{eqb}
 use lib.ListN.{length}
@@ -11,7 +10,7 @@ use borrow.Author.Tests.{eq-eqb, ne-eqb}
 use Rattle.text.specs.Ascii.{Bytes, byte}
 use Rattle.text.specs.Compare.{same}
 use Rattle.out.specs.Emit.{Out, emit, emit-append}
-use Rattle.out.specs.Bytewise.{flat, becomes}
+use Rattle.out.specs.Bytewise.{flat}
 use Rattle.refs.specs.Text.{textOf, stepOf, dotOf, asDots}
 use Rattle.refs.specs.Laws.{dots-step, dots-none}
 use Rattle.refs.specs.declared.Ref.{Ref}

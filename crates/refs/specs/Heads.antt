@@ -1,13 +1,17 @@
 -- A text without its part of the job, and what tells two texts apart by their ends. Assumes nothing.
-use Prim.Native.Nat.{ℕ}
 use mathlib.Core.Path.{_≡_}
 use mathlib.Core.Bool.{Bool, false, true, not, _&&_, _||_}
-use mathlib.Core.List.{_++_}
+use mathlib.Core.List.{List, [], _∷_, _++_}
 use lib.Dec.{eqb}
 use Rattle.text.specs.Ascii.{Bytes}
 use Rattle.text.specs.Compare.{same}
 use Rattle.refs.specs.Text.{refOf}
 use Rattle.refs.specs.declared.Ref.{Ref}
+
+-- whether a list has something
+abbrev pub isThere : {A : Type 0} → List A → Bool
+isThere [] = false
+isThere (x ∷ xs) = true
 
 abbrev pub headRef : Ref → Ref
 headRef r = refOf (r .name) (r .cut) (r .upto) (r .sep) (r .last) 0 0

@@ -1,17 +1,15 @@
 -- Laws: the texts that are made. Assumes nothing.
 use Prim.Native.Nat.{ℕ}
-use mathlib.Core.Path.{_≡_, refl, sym, ap, _∙_}
-use mathlib.Core.Bool.{Bool, true, false, cond, _&&_}
-use mathlib.Core.List.{List, [], _∷_, _++_, append-nil}
-use lib.Dec.{eqb}
+use mathlib.Core.Path.{_≡_, refl}
+use mathlib.Core.Bool.{Bool, true, false}
+use mathlib.Core.List.{[], _∷_, append-nil}
 use lib.ListN.{take, drop}
-use Rattle.text.specs.Ascii.{Bytes, byte}
-use Rattle.out.specs.Bytewise.{dotted}
-use Rattle.spans.specs.Span.{_⋯_, bytes}
-use Rattle.names.specs.Name.{named, nameOf, slash}
+use Rattle.text.specs.Ascii.{Bytes}
+use Rattle.spans.specs.Span.{bytes}
+use Rattle.names.specs.Name.{nameOf}
 use Rattle.names.specs.Laws.{dotted-step, dotted-none}
 use Rattle.names.specs.declared.name.Name.{Name}
-use Rattle.refs.specs.Text.{textOf, refOf, noName, wholeRef, frontRef, jobRef, dotOf, asDots}
+use Rattle.refs.specs.Text.{textOf, noName, wholeRef, frontRef, jobRef, dotOf, asDots}
 
 pub none-is : (mem : Bytes) → nameOf mem noName ≡ []
 unfolding nameOf bytes

@@ -1,14 +1,13 @@
 // A text in pieces: a stored name, or its first bytes; a slash; another stored name; and a part of the job. A text without its first byte is a text.
 ghost use mathlib.Core.Path.{_≡_};
-ghost use mathlib.Core.Bool.{false};
 ghost use mathlib.Core.List.{_++_};
 ghost use lib.ListN.{take, drop};
 ghost use Rattle.text.specs.Compare.{same as Compare·same};
 ghost use Rattle.out.specs.Emit.{_▸_, emit};
 ghost use Rattle.out.specs.Bytewise.{flat as Bytewise·flat, becomes as Bytewise·becomes};
 ghost use Rattle.names.specs.Name.{nameOf, slash};
-ghost use Rattle.refs.specs.Text.{textOf, stepOf, Starts, noName, wholeRef, frontRef, jobRef, dotOf, asDots};
-ghost use Rattle.refs.specs.Heads.{headRef, isBare, oneSlash, Apart};
+ghost use Rattle.refs.specs.Text.{frontOf, textOf, stepOf, Starts, noName, wholeRef, frontRef, jobRef, dotOf, asDots};
+ghost use Rattle.refs.specs.Heads.{isThere, headRef, isBare, oneSlash, Apart};
 use names::name::Name;
 use names::put::put_mapped;
 use out::bytewise::becomes;
@@ -354,6 +353,45 @@ fn put_last(
     flat(out, o, m, part(job, r.at, r.len))
 }
 
+// Writes the first bytes of a name in one of the modes of `becomes`.
+fn put_front(
+    out: &mut [u8],
+    at: usize,
+    m: u8,
+    files: &[u8],
+    area: &[u8],
+    n: Name,
+    upto: usize,
+) -> usize
+    ensures { λ o. ⌜ now (out .exit) ▸ o ≡ emit (now (out .entry) ▸ at) (Bytewise·flat (Bytewise·becomes m) (take upto (nameOf (now (files .entry) ++ now (area .entry)) n))) ⌝ }
+{
+    let mut o = at;
+    let mut x = n;
+    let mut k = upto;
+    while 0 < k {
+        match names::name::next(files, area, x) {
+            names::name::Step::End => return o,
+            names::name::Step::Byte(b, u) => {
+                o = becomes(out, o, m, b);
+                x = u;
+                k -= 1;
+            }
+        }
+    }
+    o
+}
+
+// Writes what stands before the slash.
+fn put_named(out: &mut [u8], at: usize, m: u8, files: &[u8], area: &[u8], r: Ref) -> usize
+    ensures { λ o. ⌜ now (out .exit) ▸ o ≡ emit (now (out .entry) ▸ at) (Bytewise·flat (Bytewise·becomes m) (frontOf (r .cut) (r .upto) (nameOf (now (files .entry) ++ now (area .entry)) (r .name)))) ⌝ }
+{
+    let n = r.name;
+    if r.cut {
+        return put_front(out, at, m, files, area, n, r.upto);
+    }
+    put_mapped(out, at, m, files, area, n)
+}
+
 // Writes a text in one of the modes of `becomes`.
 fn put_plain(
     out: &mut [u8],
@@ -364,11 +402,9 @@ fn put_plain(
     area: &[u8],
     r: Ref,
 ) -> usize
-    requires { ⌜ r .cut ≡ false ⌝ }
     ensures { λ o. ⌜ now (out .exit) ▸ o ≡ emit (now (out .entry) ▸ at) (Bytewise·flat (Bytewise·becomes m) (textOf (now (job .entry)) (now (files .entry) ++ now (area .entry)) r)) ⌝ }
 {
-    let n = r.name;
-    let o = put_mapped(out, at, m, files, area, n);
+    let o = put_named(out, at, m, files, area, r);
     if r.sep {
         let p = becomes(out, o, m, b'/');
         return put_last(out, p, m, job, files, area, r);
@@ -389,8 +425,40 @@ pub fn put(
 ) -> usize
     ensures { λ o. ⌜ now (out .exit) ▸ o ≡ emit (now (out .entry) ▸ at) (Bytewise·flat (Bytewise·becomes m) (asDots dots (textOf (now (job .entry)) (now (files .entry) ++ now (area .entry)) r))) ⌝ }
 {
-    if dots | r.cut {
-        return put_stream(out, at, m, dots, job, files, area, r);
+    if !dots {
+        return put_plain(out, at, m, job, files, area, r);
     }
-    put_plain(out, at, m, job, files, area, r)
+    if m == 0 {
+        return put_plain(out, at, 2, job, files, area, r);
+    }
+    put_stream(out, at, m, dots, job, files, area, r)
+}
+
+// Whether a name is not empty.
+fn has_name(files: &[u8], area: &[u8], n: Name) -> bool
+    ensures { λ r. ⌜ r ≡ isThere (nameOf (now (files .entry) ++ now (area .entry)) n) ⌝ }
+{
+    match names::name::next(files, area, n) {
+        names::name::Step::End => false,
+        names::name::Step::Byte(_, _) => true,
+    }
+}
+
+// Whether a text is not empty. Its part of the job and its name are looked at first: one of them mostly is there.
+pub fn has_bytes(job: &[u8], files: &[u8], area: &[u8], r: Ref) -> bool
+    ensures { λ b. ⌜ b ≡ isThere (textOf (now (job .entry)) (now (files .entry) ++ now (area .entry)) r) ⌝ }
+{
+    let u = part(job, r.at, r.len);
+    if u.len() != 0 {
+        return true;
+    }
+    let n = r.name;
+    let l = r.last;
+    if r.sep | has_name(files, area, l) {
+        return true;
+    }
+    if r.cut & (r.upto == 0) {
+        return false;
+    }
+    has_name(files, area, n)
 }

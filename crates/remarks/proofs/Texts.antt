@@ -1,7 +1,7 @@
 -- Texts of the report: each law is stated as a need asks it. Assumes nothing.
 use Prim.Native.Nat.{ℕ}
 use mathlib.Core.Path.{_≡_, refl, sym, ap, _∙_}
-use mathlib.Core.Bool.{Bool, true, false, cond, not}
+use mathlib.Core.Bool.{Bool, true, false, not}
 use mathlib.Core.List.{List, [], _∷_, _++_, append-assoc}
 use borrow.Author.Needs.{needs}
 use borrow.Author.Tests.{not-false}
@@ -22,7 +22,7 @@ use Rattle.texts.specs.Texts.{warningLine}
 use Rattle.texts.specs.Laws.{one-warning}
 use Rattle.clamps.specs.Values.{storedName}
 use Rattle.clamps.specs.Laws.{stored-is}
-use Rattle.format.specs.Args.{literal, argOf, nameArg, fixedArg}
+use Rattle.format.specs.Args.{argOf, nameArg, fixedArg}
 use Rattle.format.specs.Laws.{name-arg}
 use Rattle.format.specs.declared.arg.Arg.{Arg}
 use Rattle.keep.specs.Covered.{warnedCover, Remarked}

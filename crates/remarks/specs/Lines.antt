@@ -2,7 +2,7 @@
 use Prim.Native.Nat.{ℕ}
 use mathlib.Core.Path.{_≡_}
 use mathlib.Core.Bool.{Bool}
-use mathlib.Core.List.{List, [], _∷_}
+use mathlib.Core.List.{[]}
 use Rattle.text.specs.Ascii.{Bytes}
 use Rattle.out.specs.Emit.{_▸_, emit}
 use Rattle.out.specs.Fill.{format1, format2, format5}

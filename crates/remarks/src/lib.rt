@@ -24,7 +24,6 @@ use names::name::Name;
 use out::emit::put;
 use store::state::Isolation;
 use store::stored::Maybe;
-use store::stored::Stored;
 
 // It has no signal.
 pub fn no_signal(

@@ -1,12 +1,11 @@
 -- The line of the scope: laws as the needs ask them. Assumes nothing.
 use Prim.Native.Nat.{ℕ}
-use mathlib.Core.Path.{_≡_, refl, sym, ap, _∙_}
-use mathlib.Core.List.{List, [], _++_}
+use mathlib.Core.Path.{_≡_, ap, _∙_}
+use mathlib.Core.List.{List, []}
 use lib.ListN.{take, drop}
-use borrow.Author.Needs.{needs}
 use Rattle.text.specs.Ascii.{Bytes, ascii}
 use Rattle.out.specs.Emit.{Out, emit, _⊕_, emit-⊕}
-use Rattle.out.specs.Fill.{fill, turns, arg, pick, writes, runs, format2, format4, emit-fill}
+use Rattle.out.specs.Fill.{fill, turns, arg, pick, writes, format2, format4, emit-fill}
 use Rattle.refs.specs.Text.{jobRef}
 use Rattle.refs.specs.Laws.{job-is}
 use Rattle.refs.specs.declared.Ref.{Ref}

@@ -2,11 +2,11 @@
 use Prim.Native.Nat.{ℕ, _+_, _≤_, _<_}
 use mathlib.Core.Path.{_≡_, refl, sym, ap, _∙_}
 use mathlib.Core.List.{List, _++_, map}
-use lib.ListN.{length, take, drop, getD}
+use lib.ListN.{take, drop, getD}
 use borrow.Author.Needs.{needs}
 use Rattle.text.specs.Ascii.{Bytes}
 use Rattle.out.specs.Emit.{Out, emit, emit-append}
-use Rattle.out.specs.Fill.{fill, format2}
+use Rattle.out.specs.Fill.{format2}
 use Rattle.out.specs.Items.{each, each-cons, each-none}
 use Rattle.texts.specs.Texts.{shifterLine}
 use Rattle.store.specs.Strings.{string}

@@ -1,23 +1,20 @@
 -- The warnings of reading: laws as the needs ask them. Assumes nothing.
 use Prim.Native.Nat.{ℕ, _+_, _≤_, _<_}
-use Prim.Native.String.{String}
 use native.Mathlib.Omega.{arith}
 use mathlib.Core.Path.{_≡_, refl, sym, ap, _∙_}
 use mathlib.Core.Bool.{Bool, true, false, cond}
 use mathlib.Core.List.{List, [], _∷_, _++_, map}
-use lib.Dec.{eqb, leb}
-use lib.ListN.{length, drop}
-use borrow.Author.Needs.{needs}
-use borrow.Author.Tests.{eq-eqb, ne-eqb, le-leb, lt-leb}
-use Rattle.text.specs.Ascii.{Bytes, ascii}
+use lib.Dec.{leb}
+use lib.ListN.{drop}
+use borrow.Author.Tests.{ne-eqb, le-leb, lt-leb}
+use Rattle.text.specs.Ascii.{Bytes}
 use Rattle.out.specs.Emit.{Out, emit, emit-append}
-use Rattle.out.specs.Fill.{fill, turns, arg, pick, writes, runs, format1, emit-fill}
+use Rattle.out.specs.Fill.{turns, arg, pick, writes, format1, emit-fill}
 use Rattle.out.specs.Items.{each, each-cons}
 use Rattle.texts.specs.Texts.{warningLine}
 use Rattle.store.specs.Strings.{string}
-use Rattle.store.specs.View.{warningOf, warningsIn, textOf, warningText}
+use Rattle.store.specs.View.{warningsIn, textOf, warningText}
 use Rattle.store.specs.Rows.{rowAt, rowsIn}
-use Rattle.store.specs.declared.stored.Stored.{Stored}
 use Rattle.store.specs.declared.row.Row.{Row}
 use Rattle.storedtexts.specs.Rows.{rows-next, rows-end}
 

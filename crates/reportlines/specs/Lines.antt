@@ -1,7 +1,7 @@
 -- The report lines by the texts that stand in them, and as those of the records that are stored. Assumes nothing.
 use Prim.Native.Nat.{ℕ, zero, suc, _+_}
 use mathlib.Core.Path.{_≡_, refl, sym, ap, _∙_}
-use mathlib.Core.List.{List, [], _∷_, _++_, map}
+use mathlib.Core.List.{List, [], map}
 use lib.ListN.{length, take, length-map}
 use Rattle.text.specs.Ascii.{Bytes, ascii}
 use Rattle.out.specs.Fill.{fill, format2, format4}

@@ -1,6 +1,6 @@
 // The report lines about the scope and the shifters, and what reading remarked.
 ghost use mathlib.Core.Path.{_≡_};
-ghost use mathlib.Core.List.{[], _++_, map};
+ghost use mathlib.Core.List.{_++_, map};
 ghost use Prim.Native.Nat.{_≤_};
 ghost use lib.ListN.{length, take, drop};
 ghost use Rattle.out.specs.Emit.{_▸_, emit};

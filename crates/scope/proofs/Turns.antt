@@ -1,24 +1,21 @@
 -- One turn along the parts of an override, and along a path of instance names.
 -- Assumes nothing.
 use mathlib.Core.Path.{_≡_, refl, ap, _∙_, sym}
-use Prim.Native.Nat.{ℕ, zero, suc, _+_, _-_, _<_, _≤_}
-use native.Mathlib.Nat.{add-zero}
+use Prim.Native.Nat.{ℕ, suc, _+_, _-_, _<_, _≤_}
 use native.Mathlib.Numerals.{add-one}
 use native.Mathlib.Omega.{arith}
-use mathlib.Core.Bool.{Bool, true, false, cond}
-use mathlib.Core.List.{List, [], _∷_, map}
-use mathlib.Core.Option.{Option, none, some}
-use lib.ListN.{length, take, drop, getD, drop-of-length-le, length-take, length-drop}
+use mathlib.Core.Bool.{Bool, true, false}
+use mathlib.Core.List.{List, [], _∷_}
+use mathlib.Core.Option.{none, some}
+use lib.ListN.{length, take, drop, getD, drop-of-length-le}
 use lib.Seq.{drop-drop, drop-cons}
 use borrow.Author.Needs.{needs}
 use Rattle.text.specs.Ascii.{Bytes}
 use Rattle.text.specs.Compare.{same}
 use Rattle.text.specs.Scan.{before, Ends}
-use Rattle.text.specs.Lists.{here, drop-take}
-use Rattle.joblines.specs.Job.{Module}
+use Rattle.text.specs.Lists.{here}
 use Rattle.jobindex.specs.Index.{moduleRow}
 use Rattle.jobindex.specs.declared.Span.{Span}
-use Rattle.design.specs.Lists.{onSome}
 use Rattle.design.specs.Lookup.{moduleAt}
 use Rattle.texts.specs.Scope.{overrideParts, withoutTop}
 use Rattle.lines.specs.Cursors.{spanned}

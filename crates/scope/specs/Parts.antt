@@ -1,6 +1,6 @@
 -- The parts of an override, as they stand in its bytes.
 -- Assumes nothing.
-use Prim.Native.Nat.{ℕ, zero, suc, _+_, _≤_, _<_}
+use Prim.Native.Nat.{ℕ, suc, _+_, _≤_, _<_}
 use mathlib.Core.Path.{_≡_, refl, ap, _∙_, sym}
 use native.Mathlib.Nat.{suc-add}
 use native.Mathlib.Omega.{arith}

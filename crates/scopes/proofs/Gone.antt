@@ -1,22 +1,20 @@
 -- Laws: the scope moved. Assumes nothing.
-use Prim.Native.Nat.{ℕ, zero, suc, _+_, _-_, _*_, _≤_, _<_, _^_}
+use Prim.Native.Nat.{ℕ, _+_, _-_, _≤_, _<_, _^_}
 use native.Mathlib.Omega.{arith}
-use native.Mathlib.Nat.{zero-add, add-zero}
 use mathlib.Core.Path.{_≡_, refl, sym, ap, _∙_}
-use mathlib.Core.Bool.{Bool, true, false, cond, _&&_, _||_}
-use mathlib.Core.List.{List, [], _∷_, _++_, append-nil, append-assoc}
-use mathlib.Core.Option.{Option, none, some}
-use lib.Dec.{eqb, leb, ltb}
+use mathlib.Core.Bool.{Bool, true, false, cond, _||_}
+use mathlib.Core.List.{List, [], _∷_, _++_, append-nil}
+use lib.Dec.{ltb}
 use lib.ListN.{length, take, drop, set, length-take, length-drop, length-append, length-set}
-use lib.Seq.{take-take, take-all, drop-drop, length-take-le, take-set-le, take-at, drop-at, drop-append-add}
+use lib.Seq.{take-all, length-take-le, take-set-le, drop-at, drop-append-add}
 use borrow.Author.Needs.{needs}
 use borrow.Author.Tests.{le-leb, lt-leb, ltb-true, ltb-false}
-use Rattle.text.specs.Ascii.{Bytes, ascii, byte}
+use Rattle.text.specs.Ascii.{Bytes, ascii}
 use Rattle.text.specs.Sames.{no-true}
-use Rattle.spans.specs.Span.{_⋯_, bytes, pairs, foundOf}
+use Rattle.spans.specs.Span.{_⋯_, bytes}
 use Rattle.spans.specs.Area.{Wrote}
 use Rattle.spans.specs.Writes.{Written, written-none, written-piece, written-byte, written-all, wrote-kept, wrote-long, wrote-back, wrote-front}
-use Rattle.spans.specs.Reach.{reach, lastOf, stored, reach-held, reach-end, none-reach}
+use Rattle.spans.specs.Reach.{reach, stored, reach-held, reach-end, none-reach}
 use Rattle.spans.specs.declared.span.Span.{Span}
 use Rattle.spans.specs.declared.span.Found.{Found}
 use Rattle.spans.specs.declared.span.Found.the-variants.{At as Found·At, None}
@@ -24,14 +22,15 @@ use Rattle.tcl.specs.Arguments.{nameOf, optionOf}
 use Rattle.args.specs.View.{wordsFrom, Reads, Finds}
 use Rattle.model.specs.Scope.{below, moved, entered}
 use Rattle.store.specs.Strings.{string, spanOf, storedOf}
-use Rattle.store.specs.Added.{scope-set}
 use Rattle.store.specs.declared.stored.Stored.{Stored}
 use Rattle.store.specs.declared.state.State.{State}
 use Rattle.scopes.specs.declared.target.Target.{Target}
 use Rattle.scopes.specs.declared.target.Target.the-variants.{At, Below}
-use Rattle.scopes.specs.declared.go.Out.{Out}
-use Rattle.scopes.specs.Target.{targetOf, targetReach, Targets}
-use Rattle.scopes.specs.Moves.{scopeFits, moved-to, Reaches, Space, Aims, Line, Stays, In, Moves, To, Not, Goes, Same, Enters}
+use Rattle.scopes.specs.declared.go.Place.{Place}
+use Rattle.scopes.specs.declared.go.Went.{Went}
+use Rattle.scopes.specs.Target.{targetOf, Targets}
+use Rattle.scopes.specs.Moves.{scopeFits, placeOf, outOf, Reaches, Space, Aims, Line, Moves, Goes, Shifts, Leads}
+use Rattle.scopes.specs.States.{moves-at}
 
 -- ---- the limits
 neither : (x y : Bool) → (x || y) ≡ false → (x ≡ false) × (y ≡ false)
@@ -67,7 +66,7 @@ pub bytes-long : (mem : Bytes) (s : Span) → s .at + s .len ≤ length mem → 
 unfolding bytes
 bytes-long mem s h = omega (arith, length-take (s .len) (drop (s .at) mem), length-drop (s .at) mem)
 
-module _ (files area : Bytes) (s : State) (t : Span) (v : Reaches files area s t) where
+module _ (files area : Bytes) (s : Place) (t : Span) (v : Reaches files area s t) where
   whole : t .at + t .len ≤ length (files ++ area)
   whole = omega (arith, reach-end (length files) t, v .string, v .end, length-append files area)
 
@@ -75,35 +74,35 @@ module _ (files area : Bytes) (s : State) (t : Span) (v : Reaches files area s t
   to-fits = omega (arith, reach-end (length files) t, v .string, v .small)
 
   module _ (n : ℕ) (e : n ≡ length (bytes (files ++ area) t)) where
-    pub to-over : (ltb 512 n || ltb (8192 - s .count .scopes) n) ≡ true → Goes (files ++ area) s t (record { tag = 10; state = s }) (scopeFits (s .count .scopes) (bytes (files ++ area) t))
-    to-over g = rw (over (s .count .scopes) (bytes (files ++ area) t) n e (v .counted) g) (record { tag = refl; state = refl })
+    pub to-over : (ltb 512 n || ltb (8192 - s .scopes) n) ≡ true → Goes (files ++ area) s t (record { tag = 10; place = s }) (scopeFits (s .scopes) (bytes (files ++ area) t))
+    to-over g = rw (over (s .scopes) (bytes (files ++ area) t) n e (v .counted) g) (record { tag = refl; place = refl })
 
-    module _ (g : (ltb 512 n || ltb (8192 - s .count .scopes) n) ≡ false) where
-      pub to-few : s .count .scopes + n ≤ 8192
-      to-few = few (s .count .scopes) (bytes (files ++ area) t) n e (v .counted) g
+    module _ (g : (ltb 512 n || ltb (8192 - s .scopes) n) ≡ false) where
+      pub to-few : s .scopes + n ≤ 8192
+      to-few = few (s .scopes) (bytes (files ++ area) t) n e (v .counted) g
 
-      pub to-add : s .count .scopes + n < 2 ^ 64
+      pub to-add : s .scopes + n < 2 ^ 64
       to-add = omega (arith, to-few)
 
-      pub to-under : (y : Stored) (u : State) (r : Out) → y ≡ storedOf t → u ≡ scope-set s y → r .tag ≡ 0 → r .state ≡ moved-to u (u .head .scope) (s .count .scopes + n) (u .fill .end) → Goes (files ++ area) s t r (scopeFits (s .count .scopes) (bytes (files ++ area) t))
-      to-under y u r ey eu et er =
-          rw (under (s .count .scopes) (bytes (files ++ area) t) n e (v .counted) g)
+      pub to-under : (y : Stored) (r : Went) → y ≡ storedOf t → r .tag ≡ 0 → r .place ≡ record { scope = y; scopes = s .scopes + n; end = s .end } → Goes (files ++ area) s t r (scopeFits (s .scopes) (bytes (files ++ area) t))
+      to-under y r ey et er =
+          rw (under (s .scopes) (bytes (files ++ area) t) n e (v .counted) g)
           (record {
             tag = et;
-            state = er ∙ rw (eu, ey, e);
-            long = omega (arith, short (s .count .scopes) (bytes (files ++ area) t) n e (v .counted) g, e, bytes-long (files ++ area) t whole);
+            place = er ∙ rw (ey, e);
+            long = omega (arith, short (s .scopes) (bytes (files ++ area) t) n e (v .counted) g, e, bytes-long (files ++ area) t whole);
           })
 
 -- seen from the whole area, of which nothing is changed
-module _ (files area : Bytes) (s : State) (x : Span) (t : Bytes) (r : Out) (v : Reaches files (take (s .fill .end) area) s x) (e : bytes (files ++ take (s .fill .end) area) x ≡ t) where
-  seen : (b : Bool) → Goes (files ++ take (s .fill .end) area) s x r b → Moves files area area s t r b
+module _ (files area : Bytes) (s : Place) (x : Span) (t : Bytes) (r : Went) (v : Reaches files (take (s .end) area) s x) (e : bytes (files ++ take (s .end) area) x ≡ t) where
+  seen : (b : Bool) → Goes (files ++ take (s .end) area) s x r b → Shifts files area area s t r b
   seen true g =
-      let q : r .state .fill .end ≡ s .fill .end = ap (λ (u : State). u .fill .end) (g .state) in
-      let p : r .state .head .scope ≡ storedOf x = ap (λ (u : State). u .head .scope) (g .state) in
+      let q : r .place .end ≡ s .end = ap (λ (u : Place). u .end) (g .place) in
+      let p : r .place .scope ≡ storedOf x = ap (λ (u : Place). u .scope) (g .place) in
       record {
         tag = g .tag;
         scope = rw (q, p) e;
-        state = g .state ∙ rw (q, p, e);
+        scopes = ap (λ (u : Place). u .scopes) (g .place) ∙ rw e;
         more = omega (arith, q);
         few = omega (arith, q);
         kept = refl;
@@ -111,18 +110,18 @@ module _ (files area : Bytes) (s : State) (x : Span) (t : Bytes) (r : Out) (v : 
         reaches = rw (q, p) (v .string);
         long = rw p (g .long);
       }
-  seen false g = record { tag = g .tag; state = g .state; same = refl }
+  seen false g = record { tag = g .tag; place = g .place; same = refl }
 
-  pub goes-moves : Goes (files ++ take (s .fill .end) area) s x r (scopeFits (s .count .scopes) (bytes (files ++ take (s .fill .end) area) x)) → Moves files area area s t r (scopeFits (s .count .scopes) t)
-  goes-moves g = seen (scopeFits (s .count .scopes) t) (rw e at g)
+  pub goes-moves : Goes (files ++ take (s .end) area) s x r (scopeFits (s .scopes) (bytes (files ++ take (s .end) area) x)) → Shifts files area area s t r (scopeFits (s .scopes) t)
+  goes-moves g = seen (scopeFits (s .scopes) t) (rw e at g)
 
 -- the area up to its end, lent
-module _ (files area : Bytes) (s : State) (v : Space files area s) where
-  pub end-in : s .fill .end ≤ length area
+module _ (files area : Bytes) (s : Place) (v : Space files area s) where
+  pub end-in : s .end ≤ length area
   end-in = omega (arith, v .room)
 
-  pub up-to : (x : Span) → reach (length files) x ≤ length files + s .fill .end → Reaches files (take (s .fill .end) area) s x
-  up-to x h = record { counted = v .counted; end = length-take-le (s .fill .end) area end-in; string = h; small = omega (arith, v .small, end-in) }
+  pub up-to : (x : Span) → reach (length files) x ≤ length files + s .end → Reaches files (take (s .end) area) s x
+  up-to x h = record { counted = v .counted; end = length-take-le (s .end) area end-in; string = h; small = omega (arith, v .small, end-in) }
 
 -- ---- below the scope
 module _ (files area : Bytes) (o : ℕ) (x y : Span) (room : o + (length (bytes (files ++ take o area) x) + 1 + length (bytes (files ++ take o area) y)) ≤ length area) where
@@ -180,21 +179,18 @@ below-none : (scope name : Bytes) (a : ℕ) → a ≡ length scope → a ≡ 0 �
 below-none [] name a e h = refl
 below-none (b ∷ scope) name a e h = absurd (omega (arith, e, h))
 
-state-is : (s u : State) (x y : Stored) (n m e e′ : ℕ) → u ≡ scope-set s y → x ≡ y → n ≡ m → e′ ≡ e → moved-to u (u .head .scope) n e ≡ moved-to s x m e′
-state-is s u x y n m e e′ eu ex en ee = rw (eu, ex, en, ee)
-
-module _ (files area : Bytes) (s : State) (name : Span) (v : Aims files area s name Below) where
+module _ (files area : Bytes) (s : Place) (name : Span) (v : Aims files area s name Below) where
   abbrev mem : Bytes
-  mem = files ++ take (s .fill .end) area
+  mem = files ++ take (s .end) area
 
   abbrev told : Bytes
-  told = below (string mem (s .head .scope)) (bytes mem name)
+  told = below (string mem (s .scope)) (bytes mem name)
 
-  module _ (x : Span) (ex : x ≡ spanOf (s .head .scope)) (a : ℕ) (ea : a ≡ length (bytes mem x)) where
+  module _ (x : Span) (ex : x ≡ spanOf (s .scope)) (a : ℕ) (ea : a ≡ length (bytes mem x)) where
     -- the scope is the root
-    pub below-root : a ≡ 0 → (r : Out) → Goes mem s name r (scopeFits (s .count .scopes) (bytes mem name)) → Moves files area area s told r (scopeFits (s .count .scopes) told)
+    pub below-root : a ≡ 0 → (r : Went) → Goes mem s name r (scopeFits (s .scopes) (bytes mem name)) → Shifts files area area s told r (scopeFits (s .scopes) told)
     below-root z r g =
-        goes-moves files area s name told r (up-to files area s (v .space) name (v .named)) (below-none (string mem (s .head .scope)) (bytes mem name) a (ea ∙ rw ex) z) g
+        goes-moves files area s name told r (up-to files area s (v .space) name (v .named)) (below-none (string mem (s .scope)) (bytes mem name) a (ea ∙ rw ex) z) g
 
     short-scope : a ≤ x .len
     unfolding bytes
@@ -203,144 +199,146 @@ module _ (files area : Bytes) (s : State) (name : Span) (v : Aims files area s n
     -- the numbers can be counted on
     pub scope-add : a + 1 < 2 ^ 64
     unfolding bytes
-    scope-add = omega (arith, ea, length-take (x .len) (drop (x .at) mem), length-drop (x .at) mem, length-append files (take (s .fill .end) area), length-take-le (s .fill .end) area (end-in files area s (v .space)), v .space .small, end-in files area s (v .space))
+    scope-add = omega (arith, ea, length-take (x .len) (drop (x .at) mem), length-drop (x .at) mem, length-append files (take (s .end) area), length-take-le (s .end) area (end-in files area s (v .space)), v .space .small, end-in files area s (v .space))
 
     pub both-add : (b : ℕ) → b ≡ length (bytes mem name) → a + 1 + b < 2 ^ 64
     unfolding bytes
     both-add b eb =
-        omega (arith, ea, eb, length-take (x .len) (drop (x .at) mem), length-drop (x .at) mem, length-take (name .len) (drop (name .at) mem), length-drop (name .at) mem, length-append files (take (s .fill .end) area), length-take-le (s .fill .end) area (end-in files area s (v .space)), v .space .small, end-in files area s (v .space))
+        omega (arith, ea, eb, length-take (x .len) (drop (x .at) mem), length-drop (x .at) mem, length-take (name .len) (drop (name .at) mem), length-drop (name .at) mem, length-append files (take (s .end) area), length-take-le (s .end) area (end-in files area s (v .space)), v .space .small, end-in files area s (v .space))
 
     module _ (z : a ≡ 0 → ⊥) (b : ℕ) (eb : b ≡ length (bytes mem name)) where
       told-is : told ≡ bytes mem x ++ (47 ∷ bytes mem name)
-      told-is = rw ex (below-some (string mem (s .head .scope)) (bytes mem name) a (ea ∙ rw ex) z)
+      told-is = rw ex (below-some (string mem (s .scope)) (bytes mem name) a (ea ∙ rw ex) z)
 
       told-long : a + 1 + b ≡ length told
       told-long = rw (told-is, length-append) (omega (arith, ea, eb))
 
-      pub below-over : (ltb 512 (a + 1 + b) || ltb (8192 - s .count .scopes) (a + 1 + b)) ≡ true → Moves files area area s told (record { tag = 10; state = s }) (scopeFits (s .count .scopes) told)
-      below-over g = rw (over (s .count .scopes) told (a + 1 + b) told-long (v .space .counted) g) (record { tag = refl; state = refl; same = refl })
+      pub below-over : (ltb 512 (a + 1 + b) || ltb (8192 - s .scopes) (a + 1 + b)) ≡ true → Shifts files area area s told (record { tag = 10; place = s }) (scopeFits (s .scopes) told)
+      below-over g = rw (over (s .scopes) told (a + 1 + b) told-long (v .space .counted) g) (record { tag = refl; place = refl; same = refl })
 
-      module _ (g : (ltb 512 (a + 1 + b) || ltb (8192 - s .count .scopes) (a + 1 + b)) ≡ false) where
-        pub below-few : s .count .scopes + (a + 1 + b) ≤ 8192
-        below-few = few (s .count .scopes) told (a + 1 + b) told-long (v .space .counted) g
+      module _ (g : (ltb 512 (a + 1 + b) || ltb (8192 - s .scopes) (a + 1 + b)) ≡ false) where
+        pub below-few : s .scopes + (a + 1 + b) ≤ 8192
+        below-few = few (s .scopes) told (a + 1 + b) told-long (v .space .counted) g
 
         pub below-short : a + 1 + b ≤ 512
-        below-short = short (s .count .scopes) told (a + 1 + b) told-long (v .space .counted) g
+        below-short = short (s .scopes) told (a + 1 + b) told-long (v .space .counted) g
 
-        pub below-room : s .fill .end + (length (bytes mem x) + 1 + length (bytes mem name)) ≤ length area
+        pub below-room : s .end + (length (bytes mem x) + 1 + length (bytes mem name)) ≤ length area
         below-room = omega (arith, below-few, v .space .room, ea, eb)
 
-        pub scopes-add : s .count .scopes + (a + 1 + b) < 2 ^ 64
+        pub scopes-add : s .scopes + (a + 1 + b) < 2 ^ 64
         scopes-add = omega (arith, below-few)
 
-        pub below-stored : length files + s .fill .end + (a + 1 + b) < 2 ^ 32
+        pub below-stored : length files + s .end + (a + 1 + b) < 2 ^ 32
         below-stored = omega (arith, below-few, v .space .room, v .space .small)
 
-        pub first-room : (s .fill .end ≤ s .fill .end) × (s .fill .end + length (bytes mem x) ≤ length area)
+        pub first-room : (s .end ≤ s .end) × (s .end + length (bytes mem x) ≤ length area)
         first-room = (omega arith, omega (arith, below-room))
 
-        module _ (area1 : Bytes) (p : ℕ) (w : Wrote area area1 (s .fill .end) (bytes mem x) p) where
+        module _ (area1 : Bytes) (p : ℕ) (w : Wrote area area1 (s .end) (bytes mem x) p) where
           pub slash-add : p + 1 < 2 ^ 64
           slash-add = omega (arith, w .ends, below-room, v .space .small)
 
-          pub next-room : (s .fill .end ≤ p + 1) × (p + 1 + length (bytes (files ++ take (s .fill .end) (set area1 p 47)) name) ≤ length (set area1 p 47))
-          next-room = (omega (arith, w .ends), second-room files area (s .fill .end) x name below-room area1 p w)
+          pub next-room : (s .end ≤ p + 1) × (p + 1 + length (bytes (files ++ take (s .end) (set area1 p 47)) name) ≤ length (set area1 p 47))
+          next-room = (omega (arith, w .ends), second-room files area (s .end) x name below-room area1 p w)
 
-        module _ (area1 : Bytes) (p : ℕ) (w : Wrote area area1 (s .fill .end) (bytes mem x) p) (area3 : Bytes) (e : ℕ)
-            (w3 : Wrote (set area1 p 47) area3 (p + 1) (bytes (files ++ take (s .fill .end) (set area1 p 47)) name) e) where
-          end-is : e ≡ s .fill .end + (a + 1 + b)
-          end-is = ends-is files area (s .fill .end) x name below-room area1 p w area3 e w3 ∙ rw (ea, eb)
+        module _ (area1 : Bytes) (p : ℕ) (w : Wrote area area1 (s .end) (bytes mem x) p) (area3 : Bytes) (e : ℕ)
+            (w3 : Wrote (set area1 p 47) area3 (p + 1) (bytes (files ++ take (s .end) (set area1 p 47)) name) e) where
+          end-is : e ≡ s .end + (a + 1 + b)
+          end-is = ends-is files area (s .end) x name below-room area1 p w area3 e w3 ∙ rw (ea, eb)
 
-          new : Wrote area area3 (s .fill .end) told e
-          new = rw told-is (below-wrote files area (s .fill .end) x name below-room area1 p w area3 e w3)
+          new : Wrote area area3 (s .end) told e
+          new = rw told-is (below-wrote files area (s .end) x name below-room area1 p w area3 e w3)
 
-          pub below-in : (y : Stored) (u : State) (r : Out) → y ≡ storedOf ((length files + s .fill .end) ⋯ (a + 1 + b)) → u ≡ scope-set s y → r .tag ≡ 0 → r .state ≡ moved-to u (u .head .scope) (s .count .scopes + (a + 1 + b)) e → Moves files area area3 s told r (scopeFits (s .count .scopes) told)
-          below-in y u r ey eu et er =
-              let q : r .state .fill .end ≡ e = ap (λ (k : State). k .fill .end) er in
-              let k : r .state .head .scope ≡ storedOf ((length files + s .fill .end) ⋯ (a + 1 + b)) = ap (λ (k : State). k .head .scope) er ∙ rw (eu, ey) in
+          pub below-in : (y : Stored) (r : Went) → y ≡ storedOf ((length files + s .end) ⋯ (a + 1 + b)) → r .tag ≡ 0 → r .place ≡ record { scope = y; scopes = s .scopes + (a + 1 + b); end = e } → Shifts files area area3 s told r (scopeFits (s .scopes) told)
+          below-in y r ey et er =
+              let q : r .place .end ≡ e = ap (λ (k : Place). k .end) er in
+              let k : r .place .scope ≡ storedOf ((length files + s .end) ⋯ (a + 1 + b)) = ap (λ (k : Place). k .scope) er ∙ ey in
               let m : e ≤ length area = omega (arith, end-is, below-few, v .space .room) in
-              rw (under (s .count .scopes) told (a + 1 + b) told-long (v .space .counted) g)
+              rw (under (s .scopes) told (a + 1 + b) told-long (v .space .counted) g)
               (record {
                 tag = et;
-                scope = rw (q, k, told-long) (wrote-is files area area3 told (s .fill .end) e new m);
-                state = er ∙ state-is s u (r .state .head .scope) y (s .count .scopes + (a + 1 + b)) (s .count .scopes + length told) e (r .state .fill .end) eu (ap (λ (k : State). k .head .scope) er ∙ rw eu) (rw told-long) q;
+                scope = rw (q, k, told-long) (wrote-is files area area3 told (s .end) e new m);
+                scopes = ap (λ (k : Place). k .scopes) er ∙ rw told-long;
                 more = omega (arith, q, end-is);
                 few = omega (arith, q, end-is, told-long);
-                kept = wrote-kept area area3 (s .fill .end) told e new m;
-                back = rw q (wrote-back area area3 (s .fill .end) told e new m);
-                reaches = rw (q, k) (omega (arith, reach-held (length files) ((length files + s .fill .end) ⋯ (a + 1 + b)) (stored (omega arith)), end-is));
+                kept = wrote-kept area area3 (s .end) told e new m;
+                back = rw q (wrote-back area area3 (s .end) told e new m);
+                reaches = rw (q, k) (omega (arith, reach-held (length files) ((length files + s .end) ⋯ (a + 1 + b)) (stored (omega arith)), end-is));
                 long = rw k below-short;
               })
 
 -- ---- by the target
-module _ (files area : Bytes) (s : State) (name : Span) (t : Target) (v : Aims files area s name t) where
-  pub aims-count : s .fill .end ≡ length (take (s .fill .end) area)
-  aims-count = sym (length-take-le (s .fill .end) area (end-in files area s (v .space)))
+module _ (files area : Bytes) (s : Place) (name : Span) (t : Target) (v : Aims files area s name t) where
+  pub aims-count : s .end ≡ length (take (s .end) area)
+  aims-count = sym (length-take-le (s .end) area (end-in files area s (v .space)))
 
-  pub aims-at : (x : Span) → t ≡ At x → Reaches files (take (s .fill .end) area) s x
+  pub aims-at : (x : Span) → t ≡ At x → Reaches files (take (s .end) area) s x
   aims-at x e = up-to files area s (v .space) x (rw e at (v .target))
 
   pub aims-below : t ≡ Below → Aims files area s name Below
   aims-below e = rw e at v
 
-  pub go-at : (x : Span) → t ≡ At x → (r : Out) → Goes (files ++ take (s .fill .end) area) s x r (scopeFits (s .count .scopes) (bytes (files ++ take (s .fill .end) area) x))
-      → Moves files area area s (targetOf (files ++ take (s .fill .end) area) (string (files ++ take (s .fill .end) area) (s .head .scope)) (bytes (files ++ take (s .fill .end) area) name) t) r (scopeFits (s .count .scopes) (targetOf (files ++ take (s .fill .end) area) (string (files ++ take (s .fill .end) area) (s .head .scope)) (bytes (files ++ take (s .fill .end) area) name) t))
-  go-at x e r g = rw e (goes-moves files area s x (bytes (files ++ take (s .fill .end) area) x) r (aims-at x e) refl g)
+  pub go-at : (x : Span) → t ≡ At x → (r : Went) → Goes (files ++ take (s .end) area) s x r (scopeFits (s .scopes) (bytes (files ++ take (s .end) area) x))
+      → Shifts files area area s (targetOf (files ++ take (s .end) area) (string (files ++ take (s .end) area) (s .scope)) (bytes (files ++ take (s .end) area) name) t) r (scopeFits (s .scopes) (targetOf (files ++ take (s .end) area) (string (files ++ take (s .end) area) (s .scope)) (bytes (files ++ take (s .end) area) name) t))
+  go-at x e r g = rw e (goes-moves files area s x (bytes (files ++ take (s .end) area) x) r (aims-at x e) refl g)
 
-  pub go-beneath : (area′ : Bytes) → t ≡ Below → (r : Out) → Moves files area area′ s (below (string (files ++ take (s .fill .end) area) (s .head .scope)) (bytes (files ++ take (s .fill .end) area) name)) r (scopeFits (s .count .scopes) (below (string (files ++ take (s .fill .end) area) (s .head .scope)) (bytes (files ++ take (s .fill .end) area) name)))
-      → Moves files area area′ s (targetOf (files ++ take (s .fill .end) area) (string (files ++ take (s .fill .end) area) (s .head .scope)) (bytes (files ++ take (s .fill .end) area) name) t) r (scopeFits (s .count .scopes) (targetOf (files ++ take (s .fill .end) area) (string (files ++ take (s .fill .end) area) (s .head .scope)) (bytes (files ++ take (s .fill .end) area) name) t))
+  pub go-beneath : (area′ : Bytes) → t ≡ Below → (r : Went) → Shifts files area area′ s (below (string (files ++ take (s .end) area) (s .scope)) (bytes (files ++ take (s .end) area) name)) r (scopeFits (s .scopes) (below (string (files ++ take (s .end) area) (s .scope)) (bytes (files ++ take (s .end) area) name)))
+      → Shifts files area area′ s (targetOf (files ++ take (s .end) area) (string (files ++ take (s .end) area) (s .scope)) (bytes (files ++ take (s .end) area) name) t) r (scopeFits (s .scopes) (targetOf (files ++ take (s .end) area) (string (files ++ take (s .end) area) (s .scope)) (bytes (files ++ take (s .end) area) name) t))
   go-beneath area′ e r g = rw e g
 
 pub ruleset gone = (needs, aims-count, aims-at, aims-below, go-at, go-beneath)
 
 -- ---- the commands
-small-end : (files area : Bytes) (s : State) → Space files area s → length files + s .fill .end < 2 ^ 32
+small-end : (files area : Bytes) (s : Place) → Space files area s → length files + s .end < 2 ^ 32
 small-end files area s v = omega (arith, v .small, end-in files area s v)
 
-module _ (files area : Bytes) (words : List ℕ) (n : ℕ) (s : State) (v : Line files area words n s) where
+module _ (files area : Bytes) (words : List ℕ) (n : ℕ) (s : Place) (v : Line files area words n s) where
   abbrev known : Bytes
-  known = files ++ take (s .fill .end) area
+  known = files ++ take (s .end) area
 
-  pub line-count : s .fill .end ≡ length (take (s .fill .end) area)
-  line-count = sym (length-take-le (s .fill .end) area (end-in files area s (v .space)))
+  pub line-count : s .end ≡ length (take (s .end) area)
+  line-count = sym (length-take-le (s .end) area (end-in files area s (v .space)))
 
-  module _ (x : Span) (ex : x ≡ spanOf (s .head .scope)) where
-    scope-reach : reach (length files) x ≤ length files + s .fill .end
+  module _ (x : Span) (ex : x ≡ spanOf (s .scope)) where
+    scope-reach : reach (length files) x ≤ length files + s .end
     scope-reach = rw ex (v .space .scope)
 
-    module _ (name : Span) (named : reach (length files) name ≤ length files + s .fill .end) (w goal : Bytes) (ew : bytes known name ≡ w) (t : Target) (g : Targets known x name goal t) where
+    module _ (name : Span) (named : reach (length files) name ≤ length files + s .end) (w goal : Bytes) (ew : bytes known name ≡ w) (t : Target) (g : Targets known x name goal t) where
       aims : Aims files area s name t
-      aims = record { space = v .space; named = named; target = g .within (length files) (length files + s .fill .end) (small-end files area s (v .space)) scope-reach named }
+      aims = record { space = v .space; named = named; target = g .within (length files) (length files + s .end) (small-end files area s (v .space)) scope-reach named }
 
-      goes : (area′ : Bytes) (r : Out) → Moves files area area′ s (targetOf known (string known (s .head .scope)) (bytes known name) t) r (scopeFits (s .count .scopes) (targetOf known (string known (s .head .scope)) (bytes known name) t)) → Moves files area area′ s goal r (scopeFits (s .count .scopes) goal)
-      goes area′ r m = let e : targetOf known (string known (s .head .scope)) (bytes known name) t ≡ goal = rw ex at (g .is) in rw e at m
+      goes : (area′ : Bytes) (r : Went) → Shifts files area area′ s (targetOf known (string known (s .scope)) (bytes known name) t) r (scopeFits (s .scopes) (targetOf known (string known (s .scope)) (bytes known name) t)) → Shifts files area area′ s goal r (scopeFits (s .scopes) goal)
+      goes area′ r m = let e : targetOf known (string known (s .scope)) (bytes known name) t ≡ goal = rw ex at (g .is) in rw e at m
 
     -- set_scope
     module _ (name : Span) (a : Reads known words n (nameOf (wordsFrom known words n 1)) name) (t : Target) (g : Targets known x name (moved (bytes known x) (bytes known name)) t) where
-      named-reach : reach (length files) name ≤ length files + s .fill .end
+      named-reach : reach (length files) name ≤ length files + s .end
       named-reach = omega (arith, a .within (reach (length files)) (none-reach (length files)), v .line)
 
       pub set-aims : Aims files area s name t
       set-aims = aims name named-reach (bytes known name) (moved (bytes known x) (bytes known name)) refl t g
 
-      pub set-moves : (area′ : Bytes) (r : Out) → Moves files area area′ s (targetOf known (string known (s .head .scope)) (bytes known name) t) r (scopeFits (s .count .scopes) (targetOf known (string known (s .head .scope)) (bytes known name) t))
-          → Moves files area area′ s (moved (string known (s .head .scope)) (nameOf (wordsFrom known words n 1))) r (scopeFits (s .count .scopes) (moved (string known (s .head .scope)) (nameOf (wordsFrom known words n 1))))
-      set-moves area′ r m = rw (ex, a .is) at (goes name named-reach (bytes known name) (moved (bytes known x) (bytes known name)) refl t g area′ r m)
+      pub set-moves : (area′ : Bytes) (r : Went) → Shifts files area area′ s (targetOf known (string known (s .scope)) (bytes known name) t) r (scopeFits (s .scopes) (targetOf known (string known (s .scope)) (bytes known name) t))
+          → (u : State) → placeOf u ≡ s → Moves files area area′ u (moved (string (files ++ take (u .fill .end) area) (u .head .scope)) (nameOf (wordsFrom (files ++ take (u .fill .end) area) words n 1))) (outOf u r) (scopeFits (u .count .scopes) (moved (string (files ++ take (u .fill .end) area) (u .head .scope)) (nameOf (wordsFrom (files ++ take (u .fill .end) area) words n 1))))
+      set-moves area′ r m u e =
+          moves-at files area area′ u (λ p. moved (string (files ++ take (p .end) area) (p .scope)) (nameOf (wordsFrom (files ++ take (p .end) area) words n 1))) s r e
+          (rw (ex, a .is) at (goes name named-reach (bytes known name) (moved (bytes known x) (bytes known name)) refl t g area′ r m))
 
     -- load_upf
     module _ (f : Found) (a : Finds known words n (optionOf (ascii "-scope") (wordsFrom known words n 1)) f) where
-      pub load-same : f ≡ None → (r : Out) → r .tag ≡ 0 → r .state ≡ s → Enters files area area s (optionOf (ascii "-scope") (wordsFrom known words n 1)) r
-      load-same e r p q = rw (← (a .is), e) (record { tag = p; state = q; same = refl })
+      pub load-same : f ≡ None → (r : Went) → r .tag ≡ 0 → r .place ≡ s → Leads files area area s (optionOf (ascii "-scope") (wordsFrom known words n 1)) r
+      load-same e r p q = rw (← (a .is), e) (record { tag = p; place = q; same = refl })
 
       module _ (w : Span) (e : f ≡ Found·At w) (t : Target) (g : Targets known x w (entered (bytes known x) (bytes known w)) t) where
-        option-reach : reach (length files) w ≤ length files + s .fill .end
+        option-reach : reach (length files) w ≤ length files + s .end
         option-reach = omega (arith, rw e at (a .within (reach (length files)) (none-reach (length files))), v .line)
 
         pub load-aims : Aims files area s w t
         load-aims = aims w option-reach (bytes known w) (entered (bytes known x) (bytes known w)) refl t g
 
-        pub load-moves : (area′ : Bytes) (r : Out) → Moves files area area′ s (targetOf known (string known (s .head .scope)) (bytes known w) t) r (scopeFits (s .count .scopes) (targetOf known (string known (s .head .scope)) (bytes known w) t))
-            → Enters files area area′ s (optionOf (ascii "-scope") (wordsFrom known words n 1)) r
+        pub load-moves : (area′ : Bytes) (r : Went) → Shifts files area area′ s (targetOf known (string known (s .scope)) (bytes known w) t) r (scopeFits (s .scopes) (targetOf known (string known (s .scope)) (bytes known w) t))
+            → Leads files area area′ s (optionOf (ascii "-scope") (wordsFrom known words n 1)) r
         load-moves area′ r m = rw (← (a .is), e) (rw ex at (goes w option-reach (bytes known w) (entered (bytes known x) (bytes known w)) refl t g area′ r m))
 
 pub ruleset scopings = (needs, line-count, set-aims, set-moves, load-same, load-aims, load-moves)

@@ -1,31 +1,30 @@
 -- Laws: where a word moves the scope. Assumes nothing.
-use Prim.Native.Nat.{ℕ, zero, suc, _+_, _-_, _*_, _≤_, _<_, _^_}
+use Prim.Native.Nat.{ℕ, suc, _+_, _-_, _*_, _≤_, _<_, _^_}
 use native.Mathlib.Omega.{arith}
-use native.Mathlib.Nat.{zero-add, add-zero}
 use mathlib.Core.Path.{_≡_, refl, sym, ap, _∙_}
 use mathlib.Core.Bool.{Bool, true, false, cond, _||_}
-use mathlib.Core.List.{List, [], _∷_, _++_}
+use mathlib.Core.List.{[], _∷_, _++_}
 use lib.Dec.{eqb}
 use lib.ListN.{length, take, drop, length-take, length-drop, length-append}
 use lib.Seq.{take-take, drop-drop}
 use borrow.Author.Needs.{needs}
 use borrow.Author.Tests.{eq-eqb, ne-eqb}
-use Rattle.text.specs.Ascii.{Bytes, ascii, byte}
-use Rattle.text.specs.Compare.{same, startsWith}
+use Rattle.text.specs.Ascii.{Bytes, byte}
+use Rattle.text.specs.Compare.{same}
 use Rattle.text.specs.Lists.{drop-take, no-bytes}
 use Rattle.text.specs.Scan.{any}
-use Rattle.text.specs.Sames.{no-true, differ}
+use Rattle.text.specs.Sames.{differ}
 use Rattle.spans.specs.Span.{_⋯_, bytes}
 use Rattle.spans.specs.Reach.{reach, Held, filed, stored, reach-held, held-by, reach-end}
 use Rattle.spans.specs.declared.span.Span.{Span}
 use Rattle.spans.specs.declared.span.Got.{Got}
 use Rattle.spans.specs.declared.span.Got.the-variants.{Yes, No}
 use Rattle.spans.specs.Span.{gotOf}
-use Rattle.model.specs.Scope.{below, scoped, up, moved, entered}
+use Rattle.model.specs.Scope.{scoped, up, moved, entered}
 use Rattle.model.specs.Up.{slashed, upSize, up-is, up-short, size-step}
 use Rattle.scopes.specs.declared.target.Target.{Target}
 use Rattle.scopes.specs.declared.target.Target.the-variants.{At, Below}
-use Rattle.scopes.specs.Target.{targetOf, targetReach, Rooted, Targets}
+use Rattle.scopes.specs.Target.{Rooted, Targets}
 
 -- ---- the last slash: i bytes are passed, the last of them that is a slash stands at `last`, and x is left
 pub record Passed (mem : Bytes) (s : Span) (i last : ℕ) (x : Span) : Type 0 where

@@ -1,4 +1,5 @@
 // The scope moved, where it is within the limits.
+ghost use mathlib.Core.Path.{_≡_};
 ghost use mathlib.Core.List.{_++_};
 ghost use lib.ListN.{take};
 ghost use Rattle.spans.specs.Span.{bytes};
@@ -9,7 +10,7 @@ ghost use Rattle.args.specs.View.{wordsFrom};
 ghost use Rattle.store.specs.Strings.{string};
 ghost use Rattle.scopes.specs.declared.target.Target.the-variants.{Below};
 ghost use Rattle.scopes.specs.Target.{targetOf};
-ghost use Rattle.scopes.specs.Moves.{scopeFits, Reaches, Goes, Line, Aims, Moves, Enters};
+ghost use Rattle.scopes.specs.Moves.{scopeFits, placeOf, outOf, Reaches, Goes, Line, Aims, Shifts, Moves, Leads};
 use super::target::Target;
 use super::target::entered;
 use super::target::moved;
@@ -20,7 +21,7 @@ use spans::span::Found;
 use spans::span::Span;
 use spans::span::size;
 use store::state::State;
-use store::state::with_scope;
+use store::stored::Stored;
 use store::stored::narrow;
 use store::stored::span;
 
@@ -30,89 +31,102 @@ pub struct Out {
     pub state: State,
 }
 
+// The scope, the bytes of all scopes, and where the area ends.
+pub struct Place {
+    pub scope: Stored,
+    pub scopes: usize,
+    pub end: usize,
+}
+
+// The refusal's number, 0 where there is none, and the place.
+pub struct Went {
+    pub tag: usize,
+    pub place: Place,
+}
+
 // The scope is a string that is there.
-fn go_to(files: &[u8], area: &[u8], s: State, t: Span) -> Out
-    requires { ⌜ Reaches (now files) (now area) s t ⌝ }
-    ensures { λ r. ⌜ Goes (now (files .entry) ++ now (area .entry)) s t r (scopeFits (s .count .scopes) (bytes (now (files .entry) ++ now (area .entry)) t)) ⌝ }
+fn go_to(files: &[u8], area: &[u8], p: Place, t: Span) -> Went
+    requires { ⌜ Reaches (now files) (now area) p t ⌝ }
+    ensures { λ r. ⌜ Goes (now (files .entry) ++ now (area .entry)) p t r (scopeFits (p .scopes) (bytes (now (files .entry) ++ now (area .entry)) t)) ⌝ }
 {
     let n = size(files, area, t);
-    let all = s.count.scopes;
+    let all = p.scopes;
     if (512 < n) | (8192 - all < n) {
-        return Out { tag: 10, state: s };
+        return Went { tag: 10, place: p };
     }
-    let scopes = all + n;
-    let mut u = with_scope(s, narrow(t));
-    u.count.scopes = scopes;
-    Out { tag: 0, state: u }
+    let q = Place {
+        scope: narrow(t),
+        scopes: all + n,
+        end: p.end,
+    };
+    Went { tag: 0, place: q }
 }
 
 // The scope is a name below the scope, written to the area.
-fn go_below(files: &[u8], area: &mut [u8], s: State, name: Span) -> Out
-    requires { ⌜ Aims (now files) (now area) s name Below ⌝ }
-    ensures { λ r. ⌜ Moves (now (files .entry)) (now (area .entry)) (now (area .exit)) s (below (string (now (files .entry) ++ take (s .fill .end) (now (area .entry))) (s .head .scope)) (bytes (now (files .entry) ++ take (s .fill .end) (now (area .entry))) name)) r (scopeFits (s .count .scopes) (below (string (now (files .entry) ++ take (s .fill .end) (now (area .entry))) (s .head .scope)) (bytes (now (files .entry) ++ take (s .fill .end) (now (area .entry))) name))) ⌝ }
+fn go_below(files: &[u8], area: &mut [u8], p: Place, name: Span) -> Went
+    requires { ⌜ Aims (now files) (now area) p name Below ⌝ }
+    ensures { λ r. ⌜ Shifts (now (files .entry)) (now (area .entry)) (now (area .exit)) p (below (string (now (files .entry) ++ take (p .end) (now (area .entry))) (p .scope)) (bytes (now (files .entry) ++ take (p .end) (now (area .entry))) name)) r (scopeFits (p .scopes) (below (string (now (files .entry) ++ take (p .end) (now (area .entry))) (p .scope)) (bytes (now (files .entry) ++ take (p .end) (now (area .entry))) name))) ⌝ }
 {
-    let h = s.head;
-    let scope = span(h.scope);
-    let o = s.fill.end;
-    let all = s.count.scopes;
+    let scope = span(p.scope);
+    let o = p.end;
+    let all = p.scopes;
     let a = size(files, &area[..o], scope);
     if a == 0 {
-        return go_to(files, &area[..o], s, name);
+        return go_to(files, &area[..o], p, name);
     }
     let n = a + 1 + size(files, &area[..o], name);
     if (512 < n) | (8192 - all < n) {
-        return Out { tag: 10, state: s };
+        return Went { tag: 10, place: p };
     }
-    let p = append_span(files, area, o, scope, o);
-    area[p] = b'/';
-    let e = append_span(files, area, o, name, p + 1);
+    let m = append_span(files, area, o, scope, o);
+    area[m] = b'/';
+    let e = append_span(files, area, o, name, m + 1);
     let w = Span {
         at: files.len() + o,
         len: n,
     };
-    let scopes = all + n;
-    let mut u = with_scope(s, narrow(w));
-    u.count.scopes = scopes;
-    u.fill.end = e;
-    Out { tag: 0, state: u }
+    let q = Place {
+        scope: narrow(w),
+        scopes: all + n,
+        end: e,
+    };
+    Went { tag: 0, place: q }
 }
 
-fn go(files: &[u8], area: &mut [u8], s: State, name: Span, t: Target) -> Out
-    requires { ⌜ Aims (now files) (now area) s name t ⌝ }
-    ensures { λ r. ⌜ Moves (now (files .entry)) (now (area .entry)) (now (area .exit)) s (targetOf (now (files .entry) ++ take (s .fill .end) (now (area .entry))) (string (now (files .entry) ++ take (s .fill .end) (now (area .entry))) (s .head .scope)) (bytes (now (files .entry) ++ take (s .fill .end) (now (area .entry))) name) t) r (scopeFits (s .count .scopes) (targetOf (now (files .entry) ++ take (s .fill .end) (now (area .entry))) (string (now (files .entry) ++ take (s .fill .end) (now (area .entry))) (s .head .scope)) (bytes (now (files .entry) ++ take (s .fill .end) (now (area .entry))) name) t)) ⌝ }
+fn go(files: &[u8], area: &mut [u8], p: Place, name: Span, t: Target) -> Went
+    requires { ⌜ Aims (now files) (now area) p name t ⌝ }
+    ensures { λ r. ⌜ Shifts (now (files .entry)) (now (area .entry)) (now (area .exit)) p (targetOf (now (files .entry) ++ take (p .end) (now (area .entry))) (string (now (files .entry) ++ take (p .end) (now (area .entry))) (p .scope)) (bytes (now (files .entry) ++ take (p .end) (now (area .entry))) name) t) r (scopeFits (p .scopes) (targetOf (now (files .entry) ++ take (p .end) (now (area .entry))) (string (now (files .entry) ++ take (p .end) (now (area .entry))) (p .scope)) (bytes (now (files .entry) ++ take (p .end) (now (area .entry))) name) t)) ⌝ }
 {
     match t {
-        Target::At(x) => go_to(files, &area[..s.fill.end], s, x),
-        Target::Below => go_below(files, area, s, name),
+        Target::At(x) => go_to(files, &area[..p.end], p, x),
+        Target::Below => go_below(files, area, p, name),
     }
 }
 
 // set_scope.
-pub fn set_scope(files: &[u8], area: &mut [u8], words: &[u32], n: usize, s: State) -> Out
-    requires { ⌜ Line (now files) (now area) (now words) n s ⌝ }
-    ensures { λ r. ⌜ Moves (now (files .entry)) (now (area .entry)) (now (area .exit)) s (Scope·moved (string (now (files .entry) ++ take (s .fill .end) (now (area .entry))) (s .head .scope)) (nameOf (wordsFrom (now (files .entry) ++ take (s .fill .end) (now (area .entry))) (now (words .entry)) n 1))) r (scopeFits (s .count .scopes) (Scope·moved (string (now (files .entry) ++ take (s .fill .end) (now (area .entry))) (s .head .scope)) (nameOf (wordsFrom (now (files .entry) ++ take (s .fill .end) (now (area .entry))) (now (words .entry)) n 1)))) ⌝ }
+pub fn set_scope(files: &[u8], area: &mut [u8], words: &[u32], n: usize, p: Place) -> Went
+    requires { ⌜ Line (now files) (now area) (now words) n p ⌝ }
+    ensures { λ r. ⌜ ((s : State) → placeOf s ≡ p → Moves (now (files .entry)) (now (area .entry)) (now (area .exit)) s (Scope·moved (string (now (files .entry) ++ take (s .fill .end) (now (area .entry))) (s .head .scope)) (nameOf (wordsFrom (now (files .entry) ++ take (s .fill .end) (now (area .entry))) (now (words .entry)) n 1))) (outOf s r) (scopeFits (s .count .scopes) (Scope·moved (string (now (files .entry) ++ take (s .fill .end) (now (area .entry))) (s .head .scope)) (nameOf (wordsFrom (now (files .entry) ++ take (s .fill .end) (now (area .entry))) (now (words .entry)) n 1))))) ⌝ }
 {
-    let h = s.head;
-    let scope = span(h.scope);
-    let o = s.fill.end;
+    let scope = span(p.scope);
+    let o = p.end;
     let named = name(files, &area[..o], words, n);
     let t = moved(files, &area[..o], scope, named);
-    go(files, area, s, named, t)
+    go(files, area, p, named, t)
 }
 
 // The scope that a load enters.
-pub fn load_scope(files: &[u8], area: &mut [u8], words: &[u32], n: usize, s: State) -> Out
-    requires { ⌜ Line (now files) (now area) (now words) n s ⌝ }
-    ensures { λ r. ⌜ Enters (now (files .entry)) (now (area .entry)) (now (area .exit)) s (optionOf (ascii "-scope") (wordsFrom (now (files .entry) ++ take (s .fill .end) (now (area .entry))) (now (words .entry)) n 1)) r ⌝ }
+pub fn load_scope(files: &[u8], area: &mut [u8], words: &[u32], n: usize, p: Place) -> Went
+    requires { ⌜ Line (now files) (now area) (now words) n p ⌝ }
+    ensures { λ r. ⌜ Leads (now (files .entry)) (now (area .entry)) (now (area .exit)) p (optionOf (ascii "-scope") (wordsFrom (now (files .entry) ++ take (p .end) (now (area .entry))) (now (words .entry)) n 1)) r ⌝ }
 {
-    let h = s.head;
-    let scope = span(h.scope);
-    let o = s.fill.end;
+    let scope = span(p.scope);
+    let o = p.end;
     match option(files, &area[..o], words, n, b"-scope") {
-        Found::None => Out { tag: 0, state: s },
+        Found::None => Went { tag: 0, place: p },
         Found::At(w) => {
             let t = entered(files, &area[..o], scope, w);
-            go(files, area, s, w, t)
+            go(files, area, p, w, t)
         }
     }
 }

@@ -2,13 +2,13 @@
 -- Assumes nothing.
 use mathlib.Core.Path.{_≡_, refl, ap, _∙_, sym}
 use Prim.Native.Nat.{ℕ, zero, suc, _+_, _-_, _<_, _≤_}
-use native.Mathlib.Nat.{add-zero, sub-zero}
+use native.Mathlib.Nat.{add-zero}
 use native.Mathlib.Numerals.{add-one}
 use native.Mathlib.Omega.{arith}
-use mathlib.Core.Bool.{Bool, true, false, cond}
+use mathlib.Core.Bool.{Bool, true, false}
 use mathlib.Core.List.{List, [], _∷_, map}
-use mathlib.Core.Option.{Option, none, some, Option·map}
-use lib.ListN.{length, take, drop, set, getD, length-set, length-replicate}
+use mathlib.Core.Option.{Option, none, some}
+use lib.ListN.{length, take, drop, set, length-set, length-replicate}
 use lib.Dec.{ltb}
 use lib.Seq.{drop-cons, getD-set-same, drop-set-lt}
 use borrow.Author.Needs.{needs}
@@ -24,7 +24,7 @@ use Rattle.jobindex.specs.declared.Span.{Span}
 use Rattle.design.specs.Limits.{most-calls}
 use Rattle.design.specs.Lists.{onSome}
 use Rattle.design.specs.Lookup.{moduleNamed, instances}
-use Rattle.design.specs.Search.{Search, nothing, called, under, orElse, atInstance, amongInstances, searchFrom, searchType}
+use Rattle.design.specs.Search.{Search, nothing, called, under, orElse, atInstance, amongInstances, searchFrom}
 use Rattle.lines.specs.Cursors.{spanned, instIs, InstSeen, Stepped}
 use Rattle.lines.specs.declared.InstAt.{InstAt}
 use Rattle.lines.specs.declared.InstAt.the-variants as inst

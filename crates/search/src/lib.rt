@@ -2,7 +2,6 @@
 ghost use mathlib.Core.Path.{_≡_};
 ghost use mathlib.Core.Bool.{true, false};
 ghost use Prim.Native.Nat.{_+_, _-_, _≤_, _<_};
-ghost use lib.ListN.{set};
 ghost use Rattle.jobindex.specs.Index.{moduleRow};
 ghost use Rattle.design.specs.Search.{searchFrom, searchType};
 ghost use Rattle.lookup.specs.Rows.{modules};

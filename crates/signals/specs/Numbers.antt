@@ -2,7 +2,7 @@
 -- Assumes nothing.
 use Prim.Native.Nat.{ℕ, zero, suc, _+_, _<_}
 use native.Mathlib.Omega.{arith}
-use mathlib.Core.Path.{_≡_, refl, sym, _∙_}
+use mathlib.Core.Path.{_≡_, refl}
 use mathlib.Core.Bool.{Bool, true, false, cond, not, _&&_}
 use mathlib.Core.List.{List, [], _∷_, _++_, map}
 use mathlib.Core.Option.{Option, none, some, Option·map}
@@ -21,7 +21,7 @@ use Rattle.tcl.specs.Commands.{commands}
 use Rattle.tcl.specs.Substitution.{Variable, values, costs}
 use Rattle.tcl.specs.Arguments.{nameOf}
 use Rattle.joblines.specs.Job.{File, Port, Decl, Conn, Module, Inst, Job, no-job}
-use Rattle.joblines.specs.Lines.{Due, Read, Checked, any-value, isBody, fields, thisModule, thisInst, withFiles, withModules, onLast, addPort, addDecl, addInst, addConn, withInsts, portOf, declOf, instOf, connOf, refuse, on, bad, good, check, andThen, checks, when, keyed, firstOf, orElse, kindsDue, readLine, topLine, overrideLine, startLine, fileRead, fileLine, bytesLine, moduleRead, moduleLine, styleLine, portLine, declLine, instRead, instLine, connLine, endLine}
+use Rattle.joblines.specs.Lines.{Due, Read, Checked, any-value, isBody, fields, thisModule, thisInst, withFiles, withModules, onLast, addPort, addDecl, addInst, addConn, withInsts, portOf, declOf, instOf, connOf, refuse, on, bad, good, check, andThen, when, firstOf, orElse, readLine, topLine, overrideLine, startLine, fileRead, fileLine, bytesLine, moduleRead, moduleLine, styleLine, portLine, declLine, instRead, instLine, connLine, endLine}
 use Rattle.joblines.specs.Parse.{Parsed, carryOn, isNothing, hasLine, firstLine, behindLine, lines, listed, parse}
 use Rattle.design.specs.Lookup.{moduleNamed, moduleAt}
 use Rattle.design.specs.Limits.{most-calls}
@@ -31,11 +31,16 @@ use Rattle.model.specs.Names.{Named, commandNamed}
 use Rattle.model.specs.Records.{Model, no-records}
 use Rattle.model.specs.Within.{Counted, nothing-counted, listsBy, entriesOf, within}
 use Rattle.read.specs.Reading.{Reading, actsBy, countedBy, step, Line, lineOf, joinedPath, afterwards, goOn, command, restored, readCommands, readBody, readFile, fileNamed, reading}
-use Rattle.texts.specs.Scope.{Scope, Path, foundAt, pathTo, byDesignTop, scopePathOf, existing, scopeAlong, scopeOf}
+use Rattle.texts.specs.Scope.{Scope, Path, foundAt, byDesignTop, scopePathOf, existing, scopeAlong, scopeOf}
 use Rattle.texts.specs.Setting.{Setting}
 use Rattle.texts.specs.Texts.{glueOf, packageOf, reportOf, fits}
 use Rattle.signals.specs.Accepted.{Accepted, accepted-job}
 use Rattle.answers.specs.Answer.{Lent, Answer, number, allFit, inScope, belowTop, afterReading, afterParse, roomy, answer}
+
+-- what holds of both ways of a case holds of the case
+either : {A : Type 0} (P : A → Type 0) (b : Bool) (x y : A) → P x → P y → P (cond b x y)
+either P true x y h g = h
+either P false x y h g = g
 
 -- ---- a line of the job
 abbrev Fault : Read → Type 0
@@ -155,10 +160,6 @@ abbrev Unparsed : Parsed → Type 0
 Unparsed (Parsed.accepted j) = Unit {0}
 Unparsed (Parsed.refused x n) = 0 < x
 
-cond-unparsed : (b : Bool) (x y : Parsed) → Unparsed x → Unparsed y → Unparsed (cond b x y)
-cond-unparsed true x y h g = h
-cond-unparsed false x y h g = g
-
 carry-unparsed : (n : ℕ) (r : Read) (go : Due → Job → Bytes → Parsed) → Fault r → ((d : Due) (j : Job) (rest : Bytes) → Unparsed (go d j rest)) → Unparsed (carryOn n r go)
 carry-unparsed n (Read.refuse x) go h g = h
 carry-unparsed n (Read.on d j rest) go h g = g d j rest
@@ -167,25 +168,21 @@ lines-unparsed : (k n : ℕ) (d : Due) (j : Job) (rest : Bytes) → Unparsed (li
 unfolding lines
 lines-unparsed zero n d j rest = omega arith
 lines-unparsed (suc k) n d j rest =
-    cond-unparsed (isNothing d) _ _ (cond-unparsed (same rest []) _ _ tt (omega arith))
-    (cond-unparsed (hasLine rest) _ _ (carry-unparsed n (readLine d j (firstLine rest) (behindLine rest)) (lines k (n + 1)) (line-fault j (firstLine rest) (behindLine rest) d) (λ e i r. lines-unparsed k (n + 1) e i r)) (omega arith))
+    either Unparsed (isNothing d) _ _ (either Unparsed (same rest []) _ _ tt (omega arith))
+    (either Unparsed (hasLine rest) _ _ (carry-unparsed n (readLine d j (firstLine rest) (behindLine rest)) (lines k (n + 1)) (line-fault j (firstLine rest) (behindLine rest) d) (λ e i r. lines-unparsed k (n + 1) e i r)) (omega arith))
 
 listed-unparsed : (p : Parsed) → Unparsed p → Unparsed (listed p)
 listed-unparsed (Parsed.refused x n) h = h
-listed-unparsed (Parsed.accepted j) h = cond-unparsed (any (λ (f : File). same (f .path) (j .start)) (j .files) && any (λ (m : Module). same (m .name) (j .top)) (j .modules)) _ _ tt (omega arith)
+listed-unparsed (Parsed.accepted j) h = either Unparsed (any (λ (f : File). same (f .path) (j .start)) (j .files) && any (λ (m : Module). same (m .name) (j .top)) (j .modules)) _ _ tt (omega arith)
 
 job-unparsed : (t : Bytes) → Unparsed (parse t)
 unfolding parse
-job-unparsed t = cond-unparsed (leb (length t) most-bytes) _ _ (cond-unparsed (all isAscii t) _ _ (listed-unparsed (lines (length t + 1) 0 Due.due-top no-job t) (lines-unparsed (length t + 1) 0 Due.due-top no-job t)) (omega arith)) (omega arith)
+job-unparsed t = either Unparsed (leb (length t) most-bytes) _ _ (either Unparsed (all isAscii t) _ _ (listed-unparsed (lines (length t + 1) 0 Due.due-top no-job t) (lines-unparsed (length t + 1) 0 Due.due-top no-job t)) (omega arith)) (omega arith)
 
 -- ---- its commands: check 6
 abbrev Unread : Reading → Type 0
 Unread (Reading.done n m) = Unit {0}
 Unread (Reading.refused x k) = 0 < x
-
-cond-unread : (b : Bool) (x y : Reading) → Unread x → Unread y → Unread (cond b x y)
-cond-unread true x y h g = h
-cond-unread false x y h g = g
 
 restored-unread : (m : Model) (r : Reading) → Unread r → Unread (restored m r)
 restored-unread m (Reading.done n r) h = tt
@@ -204,7 +201,7 @@ module _ (load : Bytes → Counted → Model → Reading) (path : Bytes) (h : (p
 
   step-unread : (c : Named) (words cost : ℕ) (l : Line) (n : Counted) (m : Model) → Unread (step load path c words cost l n m)
   step-unread c words cost l n m =
-      cond-unread (within words (entriesOf (listsBy c (l .name) (l .rest))) (countedBy c cost l n (actsBy c m l)) (actsBy c m l)) _ _
+      either Unread (within words (entriesOf (listsBy c (l .name) (l .rest))) (countedBy c cost l n (actsBy c m l)) (actsBy c m l)) _ _
       (after-unread c l m (countedBy c cost l n (actsBy c m l)) (actsBy c m l)) (omega arith)
 
   command-unread : (vs : List Variable) (ws : List Word) (n : Counted) (m : Model) → Unread (command load path vs ws n m)
@@ -233,20 +230,16 @@ abbrev Pathless : Path → Type 0
 Pathless (Path.along ps) = Unit {0}
 Pathless (Path.refused n) = 0 < n
 
-cond-pathless : (b : Bool) (x y : Path) → Pathless x → Pathless y → Pathless (cond b x y)
-cond-pathless true x y h g = h
-cond-pathless false x y h g = g
-
 found-pathless : (o : Option (List Bytes)) → Pathless (foundAt o)
 found-pathless none = omega arith
 found-pathless (some p) = tt
 
 top-pathless : (d : List Module) (top : Module) (name : Bytes) (o : Option Bytes) → Pathless (byDesignTop d top name o)
 top-pathless d top name none = tt
-top-pathless d top name (some type) = cond-pathless (same type name) _ _ tt (cond-pathless (leb (callsMade d top type) most-calls) _ _ (found-pathless (findByType d top type)) (omega arith))
+top-pathless d top name (some type) = either Pathless (same type name) _ _ tt (either Pathless (leb (callsMade d top type) most-calls) _ _ (found-pathless (findByType d top type)) (omega arith))
 
 path-pathless : (j : Job) (top : Module) (o : Option Bytes) → Pathless (scopePathOf j top o)
-path-pathless j top o = cond-pathless (same (j .override) []) _ _ (top-pathless (j .modules) top (j .top) o) tt
+path-pathless j top o = either Pathless (same (j .override) []) _ _ (top-pathless (j .modules) top (j .top) o) tt
 
 existing-unscoped : (ps : List Bytes) (o : Option Module) → Unscoped (existing ps o)
 existing-unscoped ps none = omega arith
@@ -265,15 +258,11 @@ abbrev pub Numbered : Answer → Type 0
 Numbered (Answer.texts g p r o) = Unit {0}
 Numbered (Answer.refused x k) = 0 < x
 
-cond-numbered : (b : Bool) (x y : Answer) → Numbered x → Numbered y → Numbered (cond b x y)
-cond-numbered true x y h g = h
-cond-numbered false x y h g = g
-
 module _ (l : Lent) where
   in-numbered : (j : Job) (m : Model) (s : Scope) → Unscoped s → Numbered (inScope l j m s)
   in-numbered j m (Scope.at path base) h =
       let s : Setting = record { top = j .top; scope = path; base = base; design = j .modules; records = m } in
-      cond-numbered (fits s) _ _ (cond-numbered (allFit l (glueOf s) (packageOf s) (reportOf s) (m .log)) _ _ tt (omega arith)) (omega arith)
+      either Numbered (fits s) _ _ (either Numbered (allFit l (glueOf s) (packageOf s) (reportOf s) (m .log)) _ _ tt (omega arith)) (omega arith)
   in-numbered j m (Scope.no-scope n) h = h
 
   top-numbered : (j : Job) (m : Model) (o : Option Module) → Numbered (belowTop l j m o)
@@ -291,7 +280,7 @@ module _ (l : Lent) where
   -- THEOREM: a refusal has a number of its own
   pub refusals-numbered : (t : Bytes) → Numbered (answer l t)
   unfolding answer
-  refusals-numbered t = cond-numbered (roomy l) _ _ (parse-numbered (parse t) (job-unparsed t)) (omega arith)
+  refusals-numbered t = either Numbered (roomy l) _ _ (parse-numbered (parse t) (job-unparsed t)) (omega arith)
 
 -- an answer that is four texts
 pub record Texts (a : Answer) : Type 0 where

@@ -43,12 +43,10 @@ use Rattle.texts.specs.Switches.{signalOf, wordMore, pieceText, unknowns}
 use Rattle.texts.specs.Isolation.{resolved, covering, strategies, isolation, leaders}
 use Rattle.texts.specs.Domains.{sorted-in, sorted, alwaysBlock, initialBlock}
 use Rattle.texts.specs.Texts.{warningsOf, glueOf, packageOf, reportOf, fits}
-use Prim.Native.Nat.{ℕ}
-use mathlib.Core.Bool.{Bool, true, false, cond}
 use mathlib.Core.List.{map}
 use lib.ListN.{length}
 use Rattle.out.specs.Number.{decimal}
-use Rattle.tcl.specs.Substitution.{Variable, values}
+use Rattle.tcl.specs.Substitution.{values}
 use Rattle.tcl.specs.Join.{join}
 use Rattle.tcl.specs.Commands.{commands}
 use Rattle.tcl.specs.Arguments.{positionals, optionOf, nameOf, State, states}

@@ -2,14 +2,14 @@
 -- Assumes nothing.
 use Prim.Native.Nat.{ℕ, zero, suc, _+_, _-_, _*_, _≤_, _<_, max}
 use mathlib.Core.Path.{_≡_, refl, sym, ap, _∙_}
-use mathlib.Core.List.{List, [], _∷_, _++_, map, append-assoc}
+use mathlib.Core.List.{List, [], _∷_, _++_, map}
 use native.Mathlib.Omega.{arith}
 use native.Mathlib.Nat.{add-zero, zero-add}
-use lib.ListN.{length, take, drop, getD, length-take, length-append, length-drop, drop-of-length-le, length-set, set}
-use lib.Seq.{drop-drop, take-take, take-all, getD-take, take-append-le, length-take-le, drop-set-lt, getD-drop, getD-set-other, getD-set-same}
+use lib.ListN.{length, take, drop, getD, length-take, length-drop, length-set, set}
+use lib.Seq.{drop-drop, take-take, take-all, take-append-le, drop-set-lt, getD-drop, getD-set-other, getD-set-same}
 use Rattle.text.specs.Ascii.{Bytes}
-use Rattle.text.specs.Lists.{drop-take, drop-two, take-two, take-none}
-use Rattle.spans.specs.Span.{_⋯_, bytes, pairAt, pairs, strings, gotOf}
+use Rattle.text.specs.Lists.{drop-take, drop-two, take-two}
+use Rattle.spans.specs.Span.{_⋯_, bytes, pairAt, pairs, gotOf}
 use Rattle.spans.specs.declared.span.Span.{Span}
 use Rattle.spans.specs.declared.span.Got.{Got}
 use Rattle.spans.specs.declared.span.Got.the-variants.{Yes}

@@ -1,11 +1,11 @@
 -- How far strings reach: a measure of a span that says where it ends, and that it does not cross from the files to the area. Assumes nothing.
 use Prim.Native.Nat.{ℕ, zero, suc, _+_, _-_, _≤_, _<_, _^_, max}
 use native.Mathlib.Omega.{arith}
-use mathlib.Core.Path.{_≡_, refl, sym, ap, _∙_}
+use mathlib.Core.Path.{_≡_, refl}
 use mathlib.Core.Bool.{Bool, true, false, cond, _||_}
 use mathlib.Core.List.{List, [], _∷_, _++_}
 use lib.Dec.{leb}
-use borrow.Author.Tests.{le-leb, leb-true, leb-false}
+use borrow.Author.Tests.{le-leb, leb-true}
 use Rattle.spans.specs.Span.{_⋯_, pairAt, pairs}
 use Rattle.spans.specs.Frame.{lastEnd}
 use Rattle.spans.specs.declared.span.Span.{Span}

@@ -1,7 +1,6 @@
 -- How a span stands for a byte string: a place and a length in one list, which is the joined files followed by the area.
 -- Assumes nothing.
 use Prim.Native.Nat.{ℕ, zero, suc, _+_, _*_}
-use mathlib.Core.Bool.{Bool}
 use mathlib.Core.List.{List, [], _∷_, map}
 use mathlib.Core.Option.{Option, none, some}
 use lib.ListN.{take, drop, getD}

@@ -1,19 +1,17 @@
 -- Laws: the state that reading leaves is in order for generation, and with the index it stands for the setting of the job. Assumes nothing.
-use Prim.Native.Nat.{ℕ, _+_, _*_, _<_, _^_}
+use Prim.Native.Nat.{ℕ, _+_}
 use native.Mathlib.Omega.{arith}
 use mathlib.Core.Path.{refl, sym, ap, subst}
 use mathlib.Core.List.{List, [], _++_}
 use lib.ListN.{length, length-append}
 use Rattle.text.specs.Ascii.{Bytes}
-use Rattle.joblines.specs.Job.{Module, Job}
-use Rattle.jobindex.specs.Index.{moduleRow, jobOf, Indexed}
+use Rattle.joblines.specs.Job.{Job}
+use Rattle.jobindex.specs.Index.{moduleRow, Indexed}
 use Rattle.jobindex.specs.declared.Header.{Header}
 use Rattle.lookup.specs.Rows.{modules}
 use Rattle.scope.specs.Parts.{parts}
-use Rattle.model.specs.Records.{Model}
-use Rattle.texts.specs.Setting.{Setting, settingOf}
+use Rattle.texts.specs.Setting.{settingOf}
 use Rattle.store.specs.View.{modelOf}
-use Rattle.store.specs.Order.{Bounded, endOf}
 use Rattle.store.specs.Rows.{storeOf}
 use Rattle.store.specs.declared.state.State.{State}
 use Rattle.made.specs.Made.{reachOf}

@@ -1,11 +1,11 @@
 -- Putting the words of states one after the other; laws as the needs ask them. Assumes nothing.
-use Prim.Native.Nat.{ℕ, zero, suc, _+_, _-_, _*_, _≤_, _<_, _^_}
+use Prim.Native.Nat.{ℕ, suc, _+_, _-_, _≤_, _<_, _^_}
 use native.Mathlib.Omega.{arith}
-use native.Mathlib.Nat.{le-trans, add-zero}
+use native.Mathlib.Nat.{add-zero}
 use mathlib.Core.Path.{_≡_, refl, sym, ap, _∙_}
 use mathlib.Core.Bool.{Bool, true, false, cond, not}
 use mathlib.Core.List.{List, [], _∷_, _++_, map, append-assoc, append-nil, map-append}
-use mathlib.Core.Option.{Option, none, some}
+use mathlib.Core.Option.{none, some}
 use lib.ListN.{length, drop, length-append, length-map}
 use Rattle.text.specs.Ascii.{Bytes}
 use Rattle.spans.specs.Span.{_⋯_, bytes, pairs, strings}
@@ -16,8 +16,8 @@ use Rattle.args.specs.View.{pick, States}
 use Rattle.args.specs.declared.state.State.{State as Word}
 use Rattle.args.specs.declared.state.State.the-variants.{At as Word·At, None as Word·None}
 use Rattle.store.specs.Strings.{string, spanOf, storedOf}
-use Rattle.store.specs.Order.{Within, none-left, one-more}
-use Rattle.store.specs.Rows.{word-put, word-put-long}
+use Rattle.store.specs.Order.{Within, none-left}
+use Rattle.store.specs.Rows.{word-put}
 use Rattle.store.specs.Tables.{within-snoc}
 use Rattle.store.specs.declared.stored.Stored.{Stored}
 use Rattle.lists.specs.States.{pick-none, pick-some, pick-in, states-short, strings-length}

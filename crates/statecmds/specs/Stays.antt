@@ -1,7 +1,7 @@
 -- The room for words of states is kept by every command: none takes a switch or a port state away. Assumes nothing.
 use Prim.Native.Nat.{ℕ, _+_, _*_, _≤_, _<_, _^_}
 use native.Mathlib.Omega.{arith}
-use mathlib.Core.Path.{_≡_, refl, sym, ap, _∙_}
+use mathlib.Core.Path.{_≡_, refl, ap}
 use mathlib.Core.Bool.{Bool, true, false, cond}
 use mathlib.Core.List.{List, [], _∷_, _++_}
 use mathlib.Core.Option.{Option, none, some, Option·map}
@@ -21,6 +21,7 @@ use Rattle.store.specs.View.{Store, switchOf, portStateOf, modelOf}
 use Rattle.store.specs.Order.{Shaped}
 use Rattle.store.specs.Tables.{sized-length}
 use Rattle.store.specs.declared.state.State.{State}
+use Rattle.made.specs.Made.{briefOf}
 use Rattle.statecmds.specs.Stated.{WordRoom}
 
 -- the records that have words
@@ -101,10 +102,10 @@ room-stays mem log st st′ s u t v w e h k q =
     omega (arith, records-are mem st s log v, records-are mem st′ u log w, ap worded-records e)
 
 -- there is room before the first command
-pub room-first : (one two mem : Bytes) (words : List ℕ) (n : ℕ) (nums : List ℕ) (s : State) → Fresh s → lastOf spanEnd (pairs words 0 n) < 2 ^ 32 → n ≤ 128 → isKey one two (bytes mem (pairAt words 0)) ≡ false → 16384 ≤ length nums → WordRoom one two mem words n nums s
+pub room-first : (one two mem : Bytes) (words : List ℕ) (n : ℕ) (nums : List ℕ) (s : State) → Fresh s → lastOf spanEnd (pairs words 0 n) < 2 ^ 32 → n ≤ 128 → isKey one two (bytes mem (pairAt words 0)) ≡ false → 16384 ≤ length nums → WordRoom one two mem words n nums (briefOf s)
 room-first one two mem words n nums s f l h k g =
     record {
-      room = record { line = l; rows = rw (f .fill) (omega arith); domains = omega (arith, f .domains); nets = omega (arith, f .nets); isolations = omega (arith, f .isolations); tables = omega (arith, f .tables) };
+      line = l;
       few = h;
       named = k;
       long = g;

@@ -1,15 +1,13 @@
 -- Words of states more: what they leave in the numbers, in the store and in the state. Assumes nothing.
-use Prim.Native.Nat.{ℕ, zero, suc, _+_, _-_, _*_, _≤_, _<_, max}
+use Prim.Native.Nat.{ℕ, suc, _+_, _-_, _≤_, _<_}
 use native.Mathlib.Omega.{arith}
 use native.Mathlib.Nat.{add-zero}
-use mathlib.Core.Path.{_≡_, refl, sym, ap, _∙_}
-use mathlib.Core.List.{List, [], _∷_, _++_, map, append-assoc, append-nil}
-use mathlib.Core.Logic.{_⊎_, inl, inr}
+use mathlib.Core.Path.{_≡_, refl, sym, _∙_}
+use mathlib.Core.List.{List, [], _∷_, _++_, append-assoc, append-nil}
 use lib.ListN.{length, getD, take, drop, length-append, length-drop}
 use lib.Seq.{take-append-le, drop-append-le}
 use Rattle.text.specs.Ascii.{Bytes}
-use Rattle.store.specs.Strings.{string}
-use Rattle.store.specs.View.{Store, wordsAt, switchOf, portStateOf, modelOf}
+use Rattle.store.specs.View.{Store, switchOf, portStateOf, modelOf}
 use Rattle.store.specs.Order.{Within, switchWords, portWords, Shaped, Bounded}
 use Rattle.store.specs.Rows.{word-place, word-put, wordsIn, rowsIn, storeOf, words-put, word-put-before, word-put-behind, word-put-long, rows-kept}
 use Rattle.store.specs.Tables.{map-same, within-le, within-append}
@@ -17,6 +15,7 @@ use Rattle.store.specs.declared.stored.Stored.{Stored}
 use Rattle.store.specs.declared.state.Switch.{Switch}
 use Rattle.store.specs.declared.state.PortState.{PortState}
 use Rattle.store.specs.declared.state.State.{State}
+use Rattle.made.specs.Made.{words-set}
 
 -- the numbers with words put from the k-th on
 unfoldable pub wordsPut : List ℕ → ℕ → List Stored → List ℕ
@@ -26,10 +25,6 @@ wordsPut l k (w ∷ ws) = wordsPut (word-put l k w) (k + 1) ws
 -- the store with words more
 abbrev pub worded : Store → List Stored → Store
 worded st ws = record { rows = st .rows; words = st .words ++ ws }
-
--- the state with so many words
-abbrev pub words-set : State → ℕ → State
-words-set s k = record { head = s .head; count = s .count; fill = record { end = s .fill .end; log = s .fill .log; rows = s .fill .rows; words = k; warnings = s .fill .warnings }; domains = s .domains; nets = s .nets; ports = s .ports; switches = s .switches; isolations = s .isolations; retentions = s .retentions; shifters = s .shifters; portstates = s .portstates; tables = s .tables; variables = s .variables }
 
 -- ---- the numbers
 

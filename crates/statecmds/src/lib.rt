@@ -2,11 +2,10 @@
 ghost use mathlib.Core.Path.{_≡_};
 ghost use mathlib.Core.Bool.{cond, not};
 ghost use mathlib.Core.List.{_++_};
-ghost use Prim.Native.Nat.{ℕ, _+_, _≤_, _<_, _^_};
+ghost use Prim.Native.Nat.{_+_, _<_};
 ghost use lib.ListN.{length};
 ghost use Rattle.text.specs.Ascii.{ascii};
-ghost use Rattle.spans.specs.Span.{bytes, pairAt, pairs, strings};
-ghost use Rattle.spans.specs.Reach.{spanEnd, lastOf};
+ghost use Rattle.spans.specs.Span.{bytes, pairAt, strings};
 ghost use Rattle.tcl.specs.Arguments.{states};
 ghost use Rattle.args.specs.View.{wordsFrom};
 ghost use Rattle.model.specs.Records.{Model};
@@ -18,14 +17,10 @@ use args::argument::name;
 use args::argument::option;
 use args::state::State as Word;
 use args::state::state_at;
-use made::Made;
-use made::fine;
-use made::full;
+use made::Brief;
+use made::Deed;
 use store::state::PortState;
-use store::state::State;
 use store::state::Switch;
-use store::state::add_port_state as add;
-use store::state::add_switch;
 use store::stored::Below;
 use store::stored::Stored;
 use store::stored::as_maybe;
@@ -115,17 +110,16 @@ pub fn create_power_switch<'a>(
     words: &[u32],
     n: usize,
     nums: &mut [u32],
-    s: State,
-) -> Made
-    requires { ⌜ WordRoom (ascii "-on_state") (ascii "-off_state") (now files ++ now area) (now words) n (now nums) s ⌝ }
-    ensures { λ r. ⌜ WordsDid (length (now (files .entry))) (now (files .entry) ++ now (area .entry)) (now (words .entry)) n (now (nums .entry)) (now (nums .exit)) s r (λ (m : Model). switch-command m (bytes (now (files .entry) ++ now (area .entry)) (pairAt (now (words .entry)) 0)) (wordsFrom (now (files .entry) ++ now (area .entry)) (now (words .entry)) n 1)) ⌝ }
+    b: Brief,
+) -> Deed
+    requires { ⌜ WordRoom (ascii "-on_state") (ascii "-off_state") (now files ++ now area) (now words) n (now nums) b ⌝ }
+    ensures { λ r. ⌜ WordsDid (now (files .entry)) (now (area .entry)) (now (words .entry)) n (now (nums .entry)) (now (nums .exit)) b r (λ (m : Model). switch-command m (bytes (now (files .entry) ++ now (area .entry)) (pairAt (now (words .entry)) 0)) (wordsFrom (now (files .entry) ++ now (area .entry)) (now (words .entry)) n 1)) ⌝ }
 {
-    if 32 <= s.switches.n {
-        return full(s);
+    if 32 <= b.switches {
+        return Deed::Full;
     }
-    let h = s.head;
-    let scope = h.scope;
-    let first = s.fill.words;
+    let scope = b.scope;
+    let first = b.words;
     let mid = put_states(
         files,
         area,
@@ -149,9 +143,7 @@ pub fn create_power_switch<'a>(
         mid,
     );
     let x = switch(files, area, words, n, scope, first, mid, end);
-    let mut u = add_switch(s, x);
-    u.fill.words = end;
-    fine(u)
+    Deed::Switch(x, end)
 }
 
 // A port state more, and the words of its states.
@@ -161,17 +153,16 @@ pub fn add_port_state<'a>(
     words: &[u32],
     n: usize,
     nums: &mut [u32],
-    s: State,
-) -> Made
-    requires { ⌜ WordRoom (ascii "-state") (ascii "-state") (now files ++ now area) (now words) n (now nums) s ⌝ }
-    ensures { λ r. ⌜ WordsDid (length (now (files .entry))) (now (files .entry) ++ now (area .entry)) (now (words .entry)) n (now (nums .entry)) (now (nums .exit)) s r (λ (m : Model). port-state-command m (bytes (now (files .entry) ++ now (area .entry)) (pairAt (now (words .entry)) 0)) (wordsFrom (now (files .entry) ++ now (area .entry)) (now (words .entry)) n 1)) ⌝ }
+    b: Brief,
+) -> Deed
+    requires { ⌜ WordRoom (ascii "-state") (ascii "-state") (now files ++ now area) (now words) n (now nums) b ⌝ }
+    ensures { λ r. ⌜ WordsDid (now (files .entry)) (now (area .entry)) (now (words .entry)) n (now (nums .entry)) (now (nums .exit)) b r (λ (m : Model). port-state-command m (bytes (now (files .entry) ++ now (area .entry)) (pairAt (now (words .entry)) 0)) (wordsFrom (now (files .entry) ++ now (area .entry)) (now (words .entry)) n 1)) ⌝ }
 {
-    if 32 <= s.portstates.n {
-        return full(s);
+    if 32 <= b.portstates {
+        return Deed::Full;
     }
-    let h = s.head;
-    let scope = h.scope;
-    let first = s.fill.words;
+    let scope = b.scope;
+    let first = b.words;
     let end = put_states(
         files,
         area,
@@ -193,7 +184,5 @@ pub fn add_port_state<'a>(
         first: first as u32,
         count: (end - first) as u32,
     };
-    let mut u = add(s, x);
-    u.fill.words = end;
-    fine(u)
+    Deed::PortState(x, end)
 }

@@ -7,16 +7,15 @@ use mathlib.Core.Path.{_≡_}
 use borrow.Author.Needs.{needs}
 use Rattle.spans.specs.declared.span.Span.{Span}
 use Rattle.spans.specs.declared.span.Found.{Found}
-use Rattle.spans.specs.declared.span.Found.the-variants.{At, None}
+use Rattle.spans.specs.declared.span.Found.the-variants.{At}
 use Rattle.store.specs.Strings.{storedOf, maybeFound, belowFound, foundOr, foundElse}
 use Rattle.args.specs.View.{foundEnd}
 use Rattle.store.specs.declared.stored.Stored.{Stored}
 use Rattle.store.specs.declared.row.Row.{Row}
 use Rattle.store.specs.Rows.{row-place, word-place, rowAt, wordAt}
 use Rattle.store.specs.declared.stored.Maybe.{Maybe}
-use Rattle.store.specs.declared.stored.Maybe.the-variants.{Not, Given}
-use Rattle.store.specs.declared.stored.MaybeBelow.{MaybeBelow}
-use Rattle.store.specs.declared.stored.MaybeBelow.the-variants.{Not as Not-below, Given as Given-below}
+use Rattle.store.specs.declared.stored.Maybe.the-variants.{Given}
+use Rattle.store.specs.declared.stored.MaybeBelow.the-variants.{Given as Given-below}
 
 module _ (f : Found) (s : Span) (h : f ≡ At s) where
   pub found-fits : foundEnd f < 2 ^ 32 → s .at + s .len < 2 ^ 32

@@ -1,6 +1,5 @@
 -- The state with one part anew, as the code leaves it. Assumes nothing.
 use Prim.Native.Nat.{ℕ, _+_, _*_}
-use mathlib.Core.List.{List}
 use lib.ListN.{set}
 use Rattle.store.specs.declared.stored.Stored.{Stored}
 use Rattle.store.specs.declared.stored.Maybe.{Maybe}

@@ -1,11 +1,11 @@
 -- The first element that passes a test, by its place; and the first such element changed. Assumes nothing.
-use Prim.Native.Nat.{ℕ, zero, suc, _+_, _≤_, _<_}
+use Prim.Native.Nat.{ℕ, suc, _≤_, _<_}
 use native.Mathlib.Omega.{arith}
-use native.Mathlib.Nat.{le-of-suc-le-suc, not-suc-le-zero}
-use mathlib.Core.Path.{_≡_, refl, sym, ap, _∙_}
+use native.Mathlib.Nat.{not-suc-le-zero}
+use mathlib.Core.Path.{_≡_, refl}
 use mathlib.Core.Bool.{Bool, true, false, cond}
 use mathlib.Core.List.{List, [], _∷_}
-use mathlib.Core.Option.{Option, none, some, Option·map}
+use mathlib.Core.Option.{none, some, Option·map}
 use lib.ListN.{length, getD, set, drop}
 use lib.Seq.{drop-cons}
 use Rattle.model.specs.Commands.{onFirst}

@@ -1,6 +1,5 @@
 -- Laws: which of the reading limits of records a change can pass. Assumes nothing.
-use Prim.Native.Nat.{ℕ, _≤_}
-use mathlib.Core.Path.{_≡_, refl, sym, ap, _∙_}
+use mathlib.Core.Path.{_≡_, refl}
 use mathlib.Core.Bool.{Bool, true, false, _&&_}
 use mathlib.Core.List.{List}
 use mathlib.Core.Option.{Option}
@@ -9,7 +8,7 @@ use lib.ListN.{length}
 use Rattle.text.specs.Ascii.{Bytes}
 use Rattle.tcl.specs.Substitution.{Variable}
 use Rattle.model.specs.Limits.{most-records, most-sets, most-warnings, most-scope}
-use Rattle.model.specs.Records.{Domain, SupplyPort, Switch, Isolation, Retention, Shifter, PortState, Table, Model, with-design-top, with-scope, with-domains, with-nets, with-ports, with-connections, with-switches, with-isolations, with-retentions, with-shifters, with-port-states, with-tables, with-warnings, with-variables, with-log}
+use Rattle.model.specs.Records.{Domain, SupplyPort, Switch, Isolation, Retention, Shifter, PortState, Table, Model, with-design-top, with-scope, with-domains, with-nets, with-ports, with-switches, with-isolations, with-retentions, with-shifters, with-port-states, with-tables, with-warnings, with-variables}
 use Rattle.model.specs.Within.{recordsFit}
 
 -- each limit by itself

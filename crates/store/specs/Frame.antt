@@ -1,26 +1,23 @@
 -- What is written behind n leaves the view of every state whose strings end by n as it was: said once, over the whole state. Assumes nothing.
 use Prim.Native.Nat.{ℕ, zero, suc, _+_, _-_, _*_, _≤_, _<_, max}
 use native.Mathlib.Omega.{arith}
-use native.Mathlib.Nat.{zero-add, suc-add, add-zero, le-trans}
-use mathlib.Core.Path.{_≡_, refl, sym, ap, _∙_}
+use native.Mathlib.Nat.{zero-add, add-zero}
+use mathlib.Core.Path.{_≡_, refl, ap}
 use mathlib.Core.Bool.{Bool, true, false, cond}
-use mathlib.Core.List.{List, [], _∷_, _++_, map, flatMap}
-use mathlib.Core.Option.{Option, some, none}
+use mathlib.Core.List.{List, [], _∷_, _++_, map}
+use mathlib.Core.Option.{some}
 use lib.Dec.{eqb, leb}
-use lib.ListN.{length, getD, take, drop}
-use lib.Seq.{take-nil, drop-nil, take-take}
+use lib.ListN.{take, drop}
 use borrow.Author.Tests.{eqb-true}
 use Rattle.text.specs.Ascii.{Bytes}
-use Rattle.spans.specs.Span.{_⋯_, bytes, pairAt, pairs}
+use Rattle.spans.specs.Span.{pairAt, pairs}
 use Rattle.spans.specs.Frame.{bytes-same}
 use Rattle.spans.specs.declared.span.Span.{Span}
 use Rattle.substitution.specs.Stored.{variables}
-use Rattle.tcl.specs.Lists.{list}
-use Rattle.model.specs.Scope.{scoped}
-use Rattle.store.specs.Strings.{string, spanOf, storedOf, maybeOf, belowOf, maybeBelowOf}
-use Rattle.store.specs.View.{Store, listBelow, domainOf, portOf, wordsAt, switchOf, isolationOf, retentionOf, shifterOf, portStateOf, connectionsOf, statesOf, warningOf, warningsIn, textOf, warningText, tableOf, numbered, modelOf}
-use Rattle.store.specs.Order.{Within, none-left, one-more, endOf, ofMaybe, ofBelow, ofMaybeBelow, ofDomain, ofPort, ofSwitch, ofIsolation, ofRetention, ofShifter, ofPortState, ofTable, ofRow, ofSpan, switchWords, portWords, Shaped, Bounded}
-use Rattle.store.specs.Tables.{map-same, map-same₂, flat-same, numbered-same}
+use Rattle.store.specs.Strings.{string, spanOf, maybeOf, belowOf, maybeBelowOf}
+use Rattle.store.specs.View.{Store, domainOf, portOf, wordsAt, switchOf, isolationOf, retentionOf, shifterOf, portStateOf, connectionsOf, statesOf, warningsIn, warningText, tableOf, modelOf}
+use Rattle.store.specs.Order.{Within, none-left, one-more, endOf, ofMaybe, ofBelow, ofMaybeBelow, ofDomain, ofPort, ofSwitch, ofIsolation, ofRetention, ofShifter, ofPortState, ofTable, ofRow, ofSpan, Bounded}
+use Rattle.store.specs.Tables.{map-same, flat-same, numbered-same}
 use Rattle.store.specs.declared.stored.Stored.{Stored}
 use Rattle.store.specs.declared.stored.Maybe.{Maybe}
 use Rattle.store.specs.declared.stored.Maybe.the-variants.{Not, Given}

@@ -1,6 +1,6 @@
 -- The state is in order: its arrays have their size, the counts are within them, what it says of the store is so, and every stored string is within a
 -- bound by a measure (where it ends, say). Assumes nothing.
-use Prim.Native.Nat.{ℕ, zero, suc, _+_, _*_, _≤_, max}
+use Prim.Native.Nat.{ℕ, _+_, _*_, _≤_, max}
 use mathlib.Core.Path.{_≡_}
 use mathlib.Core.Bool.{cond}
 use mathlib.Core.List.{List, [], _∷_}

@@ -1,19 +1,19 @@
 -- Laws: what a row more does to the view and the order of a state. Assumes nothing.
-use Prim.Native.Nat.{ℕ, zero, suc, _+_, _-_, _*_, _≤_, _<_}
+use Prim.Native.Nat.{ℕ, zero, suc, _+_, _-_, _≤_, _<_}
 use native.Mathlib.Omega.{arith}
-use native.Mathlib.Nat.{le-trans, add-zero, zero-add}
+use native.Mathlib.Nat.{zero-add}
 use mathlib.Core.Path.{_≡_, refl, sym, ap, _∙_}
-use mathlib.Core.Bool.{Bool, true, false, cond, _&&_}
-use mathlib.Core.List.{List, [], _∷_, _++_, map, flatMap, append-nil, append-assoc, map-append}
-use lib.Dec.{eqb, leb}
+use mathlib.Core.Bool.{Bool, true, false, cond}
+use mathlib.Core.List.{List, [], _∷_, _++_, flatMap, append-nil, append-assoc, map-append}
+use lib.Dec.{eqb}
 use lib.ListN.{length, getD, set, take, length-append}
 use borrow.Author.Tests.{eq-eqb, ne-eqb, le-leb, lt-leb}
 use Rattle.text.specs.Ascii.{Bytes}
 use Rattle.tcl.specs.Lists.{list}
-use Rattle.model.specs.Records.{Model, TableState, Table as Tableʳ, with-connections, with-tables, with-warnings}
+use Rattle.model.specs.Records.{TableState, Table as Tableʳ, with-connections, with-tables, with-warnings}
 use Rattle.store.specs.Strings.{string}
-use Rattle.store.specs.View.{Store, connectionsOf, statesOf, warningOf, warningsIn, textOf, warningText, tableOf, numbered, modelOf}
-use Rattle.store.specs.Order.{Within, none-left, one-more, ofRow, ofTable, rowTable, Shaped, Bounded}
+use Rattle.store.specs.View.{Store, connectionsOf, statesOf, warningsIn, warningText, tableOf, numbered, modelOf}
+use Rattle.store.specs.Order.{ofRow, rowTable, Shaped, Bounded}
 use Rattle.store.specs.Added.{row-counted, warning-counted}
 use Rattle.store.specs.Tables.{flat-append, within-snoc}
 use Rattle.store.specs.declared.stored.Stored.{Stored}

@@ -1,22 +1,18 @@
 -- The state before the first command: it stands for no records, and is in order. Assumes nothing.
-use Prim.Native.Nat.{ℕ, _*_, _≤_}
+use Prim.Native.Nat.{ℕ, _≤_}
 use native.Mathlib.Omega.{arith}
-use mathlib.Core.Path.{_≡_, refl, sym, ap, _∙_}
-use mathlib.Core.List.{List, [], flatMap}
-use mathlib.Core.Option.{none}
-use lib.ListN.{length, take}
+use mathlib.Core.Path.{_≡_}
+use mathlib.Core.List.{[], flatMap}
+use lib.ListN.{length}
 use Rattle.text.specs.Ascii.{Bytes}
 use Rattle.spans.specs.Span.{bytes, pairs}
 use Rattle.substitution.specs.Stored.{variables}
 use Rattle.model.specs.Records.{no-records}
 use Rattle.store.specs.Strings.{no-string}
 use Rattle.store.specs.View.{Store, numbered, warningsIn, modelOf}
-use Rattle.store.specs.Order.{Within, none-left, Sized, Shaped, Bounded}
+use Rattle.store.specs.Order.{none-left, Shaped, Bounded}
 use Rattle.store.specs.declared.stored.Stored.{Stored}
 use Rattle.store.specs.declared.stored.Maybe.the-variants.{Not}
-use Rattle.store.specs.declared.state.Head.{Head}
-use Rattle.store.specs.declared.state.Count.{Count}
-use Rattle.store.specs.declared.state.Fill.{Fill}
 use Rattle.store.specs.declared.state.State.{State}
 
 abbrev pub no-store : Store

@@ -1,17 +1,14 @@
 -- Laws: what a record more, a record changed, a row more do to the view and to the order of a state. Assumes nothing.
-use Prim.Native.Nat.{ℕ, zero, suc, _+_, _-_, _*_, _≤_, _<_, max}
+use Prim.Native.Nat.{ℕ, _+_, _-_, _≤_, _<_}
 use native.Mathlib.Omega.{arith}
-use native.Mathlib.Nat.{le-trans}
-use mathlib.Core.Path.{_≡_, refl, sym, ap, _∙_}
-use mathlib.Core.Bool.{Bool, true, false, cond}
-use mathlib.Core.List.{List, [], _∷_, _++_, map, flatMap}
-use lib.Dec.{eqb, leb}
-use lib.ListN.{length, getD, set, take, drop, length-set, length-append}
+use mathlib.Core.Path.{_≡_, refl, ap}
+use mathlib.Core.List.{[], _∷_, _++_}
+use lib.ListN.{length, set}
 use Rattle.text.specs.Ascii.{Bytes}
-use Rattle.model.specs.Records.{Model, with-design-top, with-domains as with-domainsʳ, with-nets as with-netsʳ, with-ports as with-portsʳ, with-switches as with-switchesʳ, with-isolations as with-isolationsʳ, with-retentions as with-retentionsʳ, with-shifters as with-shiftersʳ, with-port-states, with-tables as with-tablesʳ}
-use Rattle.store.specs.Strings.{string, maybeOf, belowOf}
+use Rattle.model.specs.Records.{with-design-top, with-domains as with-domainsʳ, with-nets as with-netsʳ, with-ports as with-portsʳ, with-switches as with-switchesʳ, with-isolations as with-isolationsʳ, with-retentions as with-retentionsʳ, with-shifters as with-shiftersʳ, with-port-states, with-tables as with-tablesʳ}
+use Rattle.store.specs.Strings.{maybeOf, belowOf}
 use Rattle.store.specs.View.{Store, domainOf, portOf, switchOf, isolationOf, retentionOf, shifterOf, portStateOf, tableOf, modelOf}
-use Rattle.store.specs.Order.{Within, none-left, one-more, ofMaybe, ofBelow, ofDomain, ofPort, ofSwitch, ofIsolation, ofRetention, ofShifter, ofPortState, ofTable, ofRow, switchWords, portWords, rowTable, Sized, Shaped, Bounded}
+use Rattle.store.specs.Order.{ofMaybe, ofBelow, ofDomain, ofPort, ofSwitch, ofIsolation, ofRetention, ofShifter, ofPortState, ofTable, switchWords, portWords, rowTable, Shaped, Bounded}
 use Rattle.store.specs.Added.{domain-added, net-added, port-added, switch-added, isolation-added, retention-added, shifter-added, portstate-added, table-added, domain-set, isolation-set, top-set, scope-set}
 use Rattle.store.specs.Tables.{table-push, table-set, numbered-push, within-push, within-update, within-le, sized-push, sized-set}
 use Rattle.store.specs.declared.stored.Stored.{Stored}

@@ -3,9 +3,9 @@ use Prim.Native.Nat.{ℕ, zero, suc, _+_, _-_, _≤_, _<_}
 use native.Mathlib.Nat.{le-trans, le-of-suc-le-suc, not-suc-le-zero}
 use native.Mathlib.Numerals.{add-one}
 use native.Mathlib.Omega.{arith}
-use mathlib.Core.Path.{_≡_, refl, sym, ap, _∙_}
+use mathlib.Core.Path.{_≡_, refl, ap, _∙_}
 use mathlib.Core.List.{List, [], _∷_, _++_, map, flatMap, append-assoc, map-append}
-use lib.ListN.{length, getD, set, take, drop, length-set, length-take, length-append, length-map, List·getD-map}
+use lib.ListN.{length, getD, set, take, length-set, length-map, List·getD-map}
 use lib.Seq.{take-suc-set, take-set-lt, length-take-le, getD-take}
 use Rattle.store.specs.Order.{Within, none-left, one-more, Sized}
 use Rattle.store.specs.View.{numbered}

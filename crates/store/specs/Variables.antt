@@ -1,26 +1,24 @@
 -- Laws: a variable more; and every state in order is within the limits of records. Assumes nothing.
 use Prim.Native.Nat.{ℕ, zero, suc, _+_, _-_, _*_, _≤_, _<_}
 use native.Mathlib.Omega.{arith}
-use native.Mathlib.Nat.{zero-add, add-zero}
+use native.Mathlib.Nat.{zero-add}
 use native.Mathlib.Numerals.{add-one}
 use mathlib.Core.Path.{_≡_, refl, sym, ap, _∙_}
 use mathlib.Core.Bool.{true}
-use mathlib.Core.List.{List, [], _∷_, _++_, map}
+use mathlib.Core.List.{List, [], _∷_, _++_}
 use mathlib.Core.Logic.{inl}
 use lib.Dec.{leb}
 use lib.ListN.{length, getD, set, take, drop, length-set, length-map, length-take, length-append}
 use lib.Seq.{getD-set-same, length-take-le}
 use borrow.Author.Tests.{le-leb}
 use Rattle.text.specs.Ascii.{Bytes}
-use Rattle.spans.specs.Span.{_⋯_, bytes, pairAt, pairs}
+use Rattle.spans.specs.Span.{bytes, pairAt, pairs}
 use Rattle.spans.specs.Frame.{pairs-same, pairs-last}
-use Rattle.spans.specs.declared.span.Span.{Span}
-use Rattle.tcl.specs.Substitution.{Variable}
-use Rattle.substitution.specs.Stored.{nameAt, valueAt, variableAt, variables}
+use Rattle.substitution.specs.Stored.{variableAt, variables}
 use Rattle.model.specs.Records.{with-variables as with-variablesʳ}
 use Rattle.store.specs.Strings.{string, spanOf, belowOf}
 use Rattle.store.specs.View.{Store, domainOf, portOf, switchOf, isolationOf, retentionOf, shifterOf, portStateOf, tableOf, warningText, warningsIn, modelOf}
-use Rattle.store.specs.Order.{Within, ofSpan, Sized, Shaped, Bounded}
+use Rattle.store.specs.Order.{Within, ofSpan, Shaped, Bounded}
 use Rattle.store.specs.Added.{variable-added}
 use Rattle.store.specs.Tables.{sized-length, numbered-length, within-snoc}
 use Rattle.store.specs.Fits.{Fits}

@@ -1,9 +1,8 @@
 -- How the state and the store stand for the records. Assumes nothing.
-use Prim.Native.Nat.{ℕ, zero, suc, _+_}
-use Prim.Native.String.{String}
-use mathlib.Core.Bool.{Bool, true, false, cond, _&&_}
+use Prim.Native.Nat.{ℕ, _+_}
+use mathlib.Core.Bool.{cond, _&&_}
 use mathlib.Core.List.{List, [], _∷_, _++_, map, flatMap}
-use mathlib.Core.Option.{Option, none, some}
+use mathlib.Core.Option.{some}
 use lib.Dec.{eqb, leb}
 use lib.ListN.{take, drop}
 use Rattle.text.specs.Ascii.{Bytes, ascii}

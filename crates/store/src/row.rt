@@ -1,9 +1,9 @@
 // Rows of the store: connections, states of tables, warnings, in the order of the commands. Five numbers each; the first holds the kind and, of a
 // connection, the scope, of a state, the number of its table.
 ghost use mathlib.Core.Path.{_≡_};
-ghost use Prim.Native.Nat.{_+_, _*_, _≤_, _<_, _^_};
+ghost use Prim.Native.Nat.{_+_, _*_, _≤_, _<_};
 ghost use lib.ListN.{length};
-ghost use Rattle.store.specs.Rows.{Packs, row-place, row-put, rowAt};
+ghost use Rattle.store.specs.Rows.{Packs, row-put, rowAt};
 use super::stored::Stored;
 use text::part::num;
 

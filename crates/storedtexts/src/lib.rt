@@ -5,25 +5,15 @@ ghost use mathlib.Core.List.{[], _++_};
 ghost use Rattle.out.specs.Emit.{_▸_, emit};
 ghost use Rattle.out.specs.Fill.{isTemplate, fill};
 ghost use Rattle.store.specs.Strings.{string};
-ghost use Rattle.clamps.specs.Values.{storedName};
-use names::name::Name;
-use names::name::alone;
+use clamps::stored;
 use names::put::put_name;
 use store::stored::Stored;
-use store::stored::span;
-
-// A stored string as a name.
-pub fn name_of(s: Stored) -> Name
-    ensures { λ r. ⌜ r ≡ storedName s ⌝ }
-{
-    alone(span(s), 0)
-}
 
 // Writes a stored string.
 pub fn put(out: &mut [u8], at: usize, files: &[u8], area: &[u8], s: Stored) -> usize
     ensures { λ z. ⌜ now (out .exit) ▸ z ≡ emit (now (out .entry) ▸ at) (string (now (files .entry) ++ now (area .entry)) s) ⌝ }
 {
-    put_name(out, at, files, area, name_of(s))
+    put_name(out, at, files, area, stored(s))
 }
 
 // Writes the template t with a stored string in its places.
@@ -31,7 +21,7 @@ pub fn fill1(out: &mut [u8], at: usize, t: &[u8], files: &[u8], area: &[u8], s: 
     requires { ⌜ isTemplate 1 (now t) ≡ true ⌝ }
     ensures { λ z. ⌜ now (out .exit) ▸ z ≡ emit (now (out .entry) ▸ at) (fill (now (t .entry)) (string (now (files .entry) ++ now (area .entry)) s) [] [] [] []) ⌝ }
 {
-    nametexts::fill1(out, at, t, files, area, name_of(s))
+    nametexts::fill1(out, at, t, files, area, stored(s))
 }
 
 // With two strings.
@@ -47,5 +37,5 @@ pub fn fill2(
     requires { ⌜ isTemplate 2 (now t) ≡ true ⌝ }
     ensures { λ z. ⌜ now (out .exit) ▸ z ≡ emit (now (out .entry) ▸ at) (fill (now (t .entry)) (string (now (files .entry) ++ now (area .entry)) s) (string (now (files .entry) ++ now (area .entry)) u) [] [] []) ⌝ }
 {
-    nametexts::fill2(out, at, t, files, area, name_of(s), name_of(u))
+    nametexts::fill2(out, at, t, files, area, stored(s), stored(u))
 }

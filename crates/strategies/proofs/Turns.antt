@@ -1,10 +1,9 @@
 -- A strategy: each law is stated as a need asks it. Assumes nothing.
-use Prim.Native.Nat.{ℕ, _+_, _≤_, _<_}
+use Prim.Native.Nat.{ℕ, _+_}
 use native.Mathlib.Omega.{arith}
 use mathlib.Core.Path.{_≡_, refl, sym, ap, _∙_}
-use mathlib.Core.Bool.{Bool, true, false, cond}
-use mathlib.Core.List.{List, [], _∷_, _++_, append-nil}
-use lib.ListN.{length}
+use mathlib.Core.Bool.{Bool, true, false}
+use mathlib.Core.List.{List, [], _++_, append-nil}
 use borrow.Author.Needs.{needs}
 use Rattle.text.specs.Ascii.{Bytes, ascii}
 use Rattle.text.specs.Sames.{no-true}
@@ -21,9 +20,9 @@ use Rattle.store.specs.declared.stored.Maybe.the-variants.{Not, Given}
 use Rattle.store.specs.declared.state.Isolation.{Isolation}
 use Rattle.texts.specs.Isolation.{isolationLine}
 use Rattle.isolated.specs.Table.{Kept, keptIn}
-use Rattle.keep.specs.Gains.{Aim, Gain, behind, gains}
-use Rattle.keep.specs.Covered.{counted, Ready, saidBy, said, Answer}
-use Rattle.keep.specs.Turns.{said-behind, counted-append}
+use Rattle.keep.specs.Gains.{Aim, gains}
+use Rattle.keep.specs.Covered.{counted, saidBy, said, Answer}
+use Rattle.keep.specs.Turns.{said-behind}
 use Rattle.keep.specs.declared.Cover.{Cover}
 use Rattle.cover.specs.Found.{Asks}
 use Rattle.cover.specs.declared.Strategy.{Strategy}

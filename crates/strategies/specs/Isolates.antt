@@ -1,22 +1,20 @@
 -- Theorem: what the definitions isolate is what the strategies gain. Assumes nothing.
-use Prim.Native.Nat.{ℕ, zero, suc, _+_}
+use Prim.Native.Nat.{ℕ, _+_}
 use native.Mathlib.Omega.{arith}
-use native.Mathlib.Numerals.{add-one}
-use native.Mathlib.Nat.{add-zero}
 use mathlib.Core.Path.{_≡_, refl, sym, ap, _∙_}
 use mathlib.Core.Bool.{Bool, true, false, cond, not}
-use mathlib.Core.List.{List, [], _∷_, _++_, map, flatMap, append-assoc, append-nil}
+use mathlib.Core.List.{List, [], _∷_, _++_, flatMap, append-assoc, append-nil}
 use mathlib.Core.Option.{Option, none, some}
 use lib.ListN.{length, getD, length-append}
 use lib.Seq.{getD-append-seam}
 use Rattle.text.specs.Ascii.{Bytes}
-use Rattle.design.specs.Lists.{first, those}
+use Rattle.design.specs.Lists.{those}
 use Rattle.model.specs.Records.{Domain, Isolation}
 use Rattle.model.specs.Commands.{or-else}
 use Rattle.texts.specs.Setting.{Setting, hier, slashPath}
-use Rattle.texts.specs.Isolation.{Isolated, Target, lowered, isClamp, activeOf, domainNamed, outputsOf, elementTargets, keyOf, Cover, no-cover, remarked, isolatedBy, covering, reported, covered, isolationLine, appliesTo, isOutputs, inDomain, withDomain, withSignal, strategies, hasElements, inRounds, isolation}
-use Rattle.isolated.specs.Table.{Kept, kept, keysOf}
-use Rattle.keep.specs.Gains.{Aim, Gain, stay, behind, gains}
+use Rattle.texts.specs.Isolation.{Isolated, Target, lowered, isClamp, activeOf, domainNamed, outputsOf, elementTargets, keyOf, Cover, no-cover, remarked, isolatedBy, reported, covered, isolationLine, appliesTo, isOutputs, inDomain, withDomain, withSignal, strategies, hasElements, isolation}
+use Rattle.isolated.specs.Table.{Kept, kept}
+use Rattle.keep.specs.Gains.{Aim, Gain, behind, gains}
 use Rattle.cover.specs.Aims.{outputAims, elementAims}
 use Rattle.cover.specs.Covering.{targetAims, outputs-aims, element-aims, flat-aims, shown, Shows, shown-shows, shown-stay, shown-behind, covering-is}
 use Rattle.remarks.specs.Lines.{noSignal, unknownDomain, notOutputs, clampUnknown}

@@ -1,5 +1,4 @@
 // The pieces of a written word: a byte, or `$N` or `${N}`.
-ghost use mathlib.Core.Path.{_≡_};
 ghost use Prim.Native.Nat.{_+_, _≤_, _<_};
 ghost use mathlib.Core.List.{_∷_};
 ghost use lib.ListN.{length, drop, getD};

@@ -7,7 +7,6 @@ use mathlib.Core.Logic.{_⊎_, ⊎-elim}
 use mathlib.Core.Path.{_≡_, refl, sym, ap, _∙_}
 use mathlib.Core.Bool.{Bool, true, false, cond, _||_}
 use mathlib.Core.List.{List, [], _∷_, _++_, map, flatMap, append-nil}
-use lib.Dec.{eqb}
 use lib.ListN.{length, drop}
 use borrow.Author.Tests.{eq-eqb, ne-eqb}
 use Rattle.text.specs.Ascii.{Bytes}
@@ -20,7 +19,7 @@ use Rattle.tcl.specs.Lists.{list}
 use Rattle.entries.specs.Entry.{entryBytes, entriesLeft}
 use Rattle.entries.specs.Together.{list-is}
 use Rattle.entries.specs.View.{Finds}
-use Rattle.entries.specs.Loops.{entries-none, entries-first, entry-less}
+use Rattle.entries.specs.Loops.{entries-none, entries-first}
 use Rattle.entries.specs.declared.item.Item.{Item}
 use Rattle.entries.specs.declared.item.Item.the-variants.{Entry, None}
 use Rattle.names.specs.Scoped.{scoped}

@@ -1,8 +1,8 @@
 -- A table of nets that grows by what is new: laws as the needs ask them. Assumes nothing.
-use Prim.Native.Nat.{ℕ, zero, suc, _+_, _-_, _*_, _≤_, _<_, _^_, max}
+use Prim.Native.Nat.{ℕ, suc, _+_, _-_, _*_, _≤_, _<_, _^_, max}
 use native.Mathlib.Omega.{arith}
 use mathlib.Core.Path.{_≡_, refl, sym, ap, _∙_}
-use mathlib.Core.Bool.{Bool, true, false, cond, _||_, not}
+use mathlib.Core.Bool.{Bool, true, false, cond, _||_}
 use mathlib.Core.List.{List, [], _∷_, _++_, map, flatMap, append-assoc, append-nil}
 use lib.ListN.{length, take, drop, getD, length-set}
 use Rattle.text.specs.Ascii.{Bytes}
@@ -12,7 +12,7 @@ use Rattle.spans.specs.Span.{bytes}
 use Rattle.spans.specs.Reach.{reach-end}
 use Rattle.spans.specs.declared.span.Span.{Span}
 use Rattle.tcl.specs.Lists.{list}
-use Rattle.names.specs.Name.{nameOf, nameEnd, stepOf}
+use Rattle.names.specs.Name.{nameOf, stepOf}
 use Rattle.names.specs.declared.name.Name.{Name}
 use Rattle.names.specs.declared.name.Step.{Step}
 use Rattle.names.specs.declared.name.Step.the-variants.{Byte, End}
@@ -20,13 +20,11 @@ use Rattle.nametable.specs.Table.{rowName, rowPut, namesFrom, tableNames, Store
 use Rattle.listnames.specs.Lists.{nthBelow, Whole, Known, whole-by}
 use Rattle.design.specs.Lists.{those, isIn, addNew, addAll}
 use Rattle.design.specs.Laws.{addAll-append}
-use Rattle.model.specs.Records.{Connection}
 use Rattle.texts.specs.Supplies.{netOf, supplyNets}
-use Rattle.store.specs.Strings.{string, spanOf, belowOf}
+use Rattle.store.specs.Strings.{spanOf, belowOf}
 use Rattle.store.specs.View.{connectionsOf, modelOf}
-use Rattle.store.specs.Order.{Within, Sized, endOf, ofBelow, ofPort, ofSwitch}
+use Rattle.store.specs.Order.{endOf, ofBelow, ofPort, ofSwitch}
 use Rattle.store.specs.Rows.{rowsIn, storeOf}
-use Rattle.store.specs.declared.stored.Stored.{Stored}
 use Rattle.store.specs.declared.stored.Below.{Below}
 use Rattle.store.specs.declared.row.Row.{Row}
 use Rattle.store.specs.declared.state.Port.{Port}

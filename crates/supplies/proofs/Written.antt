@@ -1,11 +1,10 @@
 -- Texts of nets: laws as the needs ask them. Assumes nothing.
-use Prim.Native.Nat.{ℕ, zero, suc, _+_, _-_, _≤_, _<_}
+use Prim.Native.Nat.{ℕ, suc, _+_, _-_, _≤_, _<_}
 use native.Mathlib.Omega.{arith}
 use mathlib.Core.Path.{_≡_, sym, ap, _∙_}
 use mathlib.Core.List.{List, [], _∷_}
-use borrow.Author.Needs.{needs}
 use Rattle.text.specs.Ascii.{Bytes}
-use Rattle.out.specs.Emit.{Out, emit, emit-append, _⊕_}
+use Rattle.out.specs.Emit.{Out, emit, emit-append}
 use Rattle.out.specs.Bytewise.{dotted}
 use Rattle.out.specs.Fill.{fill}
 use Rattle.out.specs.Items.{each, each-cons, each-none}

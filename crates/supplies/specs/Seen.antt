@@ -7,18 +7,17 @@ use lib.ListN.{take}
 use Rattle.text.specs.Ascii.{Bytes}
 use Rattle.out.specs.Bytewise.{dotted}
 use Rattle.out.specs.Fill.{fill}
-use Rattle.out.specs.Items.{each}
 use Rattle.tcl.specs.Lists.{list}
 use Rattle.joblines.specs.Lines.{no-module}
 use Rattle.design.specs.Lists.{those, addAll}
-use Rattle.model.specs.Records.{Connection, Switch as Switchʳ, SupplyPort, Model, no-records, with-nets}
+use Rattle.model.specs.Records.{Connection, Switch as Switchʳ, SupplyPort, no-records, with-nets}
 use Rattle.listnames.specs.Lists.{supply-net}
 use Rattle.texts.specs.Setting.{Setting}
-use Rattle.texts.specs.Supplies.{netOf, portNets, switchNets, supplyNets, netBlocks, cases, unrooted}
+use Rattle.texts.specs.Supplies.{netOf, supplyNets, netBlocks, unrooted}
 use Rattle.format.specs.Args.{rooted}
 use Rattle.texts.specs.Texts.{packageOf}
-use Rattle.store.specs.Strings.{string, belowOf}
-use Rattle.store.specs.View.{Store, portOf, switchOf, connectionsOf, modelOf}
+use Rattle.store.specs.Strings.{string}
+use Rattle.store.specs.View.{portOf, switchOf, connectionsOf, modelOf}
 use Rattle.store.specs.Rows.{rowsIn, storeOf}
 use Rattle.store.specs.declared.stored.Stored.{Stored}
 use Rattle.store.specs.declared.state.Port.{Port}
@@ -26,7 +25,7 @@ use Rattle.store.specs.declared.state.Switch.{Switch}
 use Rattle.store.specs.declared.state.State.{State}
 use Rattle.scope.specs.Parts.{parts}
 use Rattle.setting.specs.Stands.{Stands}
-use Rattle.supplies.specs.Nets.{portNet, supplyNet, bothNets, hasName, netsOf}
+use Rattle.supplies.specs.Nets.{portNet, bothNets, netsOf}
 
 ports-seen : (mem : Bytes) (cs : List Connection) (ps : List Port) → map (portNet mem cs) ps ≡ map (λ (p : SupplyPort). netOf cs (p .name) (p .name)) (map (portOf mem) ps)
 unfolding portOf

@@ -1,23 +1,20 @@
 -- The glue of switches: laws as the needs ask them. Assumes nothing.
-use Prim.Native.Nat.{ℕ, suc, _+_, _-_, _*_, _≤_, _<_, _^_, max}
+use Prim.Native.Nat.{ℕ, suc, _+_, _-_, _*_, _≤_, _<_, _^_}
 use native.Mathlib.Omega.{arith}
 use mathlib.Core.Path.{_≡_, refl, sym, ap, ap₂, _∙_}
-use mathlib.Core.Bool.{false}
 use mathlib.Core.List.{List, [], _∷_, _++_, map}
 use lib.ListN.{length, take, drop, getD}
-use borrow.Author.Needs.{needs}
 use Rattle.text.specs.Ascii.{Bytes, ascii}
-use Rattle.out.specs.Emit.{Out, emit, emit1, emit-append, emit-⊕, _⊕_}
+use Rattle.out.specs.Emit.{Out, emit, emit-append, emit-⊕, _⊕_}
 use Rattle.out.specs.Fill.{fill, arg, pick, turns, writes, emit-fill}
-use Rattle.out.specs.Items.{each, joined, rest, unless, join-next, join-done, each-cons, each-none}
-use Rattle.spans.specs.Span.{_⋯_, bytes}
-use Rattle.spans.specs.Reach.{reach-end}
+use Rattle.out.specs.Items.{each, each-cons, each-none}
+use Rattle.spans.specs.Span.{bytes}
 use Rattle.spans.specs.declared.span.Span.{Span}
 use Rattle.tcl.specs.Lists.{list}
-use Rattle.names.specs.Name.{named, nameOf}
+use Rattle.names.specs.Name.{nameOf}
 use Rattle.names.specs.declared.name.Name.{Name}
 use Rattle.names.specs.Frame.{alone-is}
-use Rattle.nametable.specs.Table.{rowName, namesFrom, tableNames, names-next, names-none}
+use Rattle.nametable.specs.Table.{rowName, namesFrom, tableNames, names-next}
 use Rattle.listnames.specs.Lists.{nthBelow, Whole, Known, whole-by, supply-net}
 use Rattle.design.specs.Paths.{elementPath}
 use Rattle.format.specs.Args.{argOf, nameArg, hierArg}
@@ -29,11 +26,10 @@ use Rattle.texts.specs.Setting.{Setting}
 use Rattle.texts.specs.Switches.{switchOn, switchState, controlBlock, switchGlue}
 use Rattle.store.specs.Strings.{string, spanOf}
 use Rattle.store.specs.View.{switchOf}
-use Rattle.store.specs.Order.{Sized, ofSwitch}
+use Rattle.store.specs.Order.{Sized}
 use Rattle.store.specs.declared.stored.Stored.{Stored}
 use Rattle.store.specs.declared.state.Switch.{Switch}
 use Rattle.store.specs.declared.state.Switches.{Switches}
-use Rattle.made.specs.Made.{reachOf}
 use Rattle.setting.specs.Orders.{sized-next, sized-end}
 use Rattle.conditions.specs.Controls.{scopeSetting, controls-few}
 use Rattle.switches.specs.Words.{onsFrom, switchIn, ons-are}

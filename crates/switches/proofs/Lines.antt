@@ -1,11 +1,11 @@
 -- The report lines of switches: laws as the needs ask them. Assumes nothing.
-use Prim.Native.Nat.{ℕ, zero, suc, _+_, _-_, _≤_, _<_, _^_}
+use Prim.Native.Nat.{ℕ, _+_, _-_, _≤_, _<_, _^_}
 use native.Mathlib.Omega.{arith}
-use mathlib.Core.Path.{_≡_, refl, sym, ap, _∙_}
-use mathlib.Core.List.{List, [], _∷_, _++_, map}
-use lib.ListN.{length, getD}
+use mathlib.Core.Path.{_≡_, refl, sym}
+use mathlib.Core.List.{List, [], _++_, map}
+use lib.ListN.{getD}
 use Rattle.text.specs.Ascii.{Bytes, ascii}
-use Rattle.out.specs.Emit.{Out, emit, emit1}
+use Rattle.out.specs.Emit.{Out, emit}
 use Rattle.out.specs.Fill.{fill, format2, format4, arg, pick, turns, writes, emit-fill}
 use Rattle.out.specs.Items.{joined, rest, unless, join-next, join-done}
 use Rattle.tcl.specs.Lists.{list}
@@ -15,7 +15,6 @@ use Rattle.nametable.specs.Table.{rowName, namesFrom, tableNames}
 use Rattle.listnames.specs.Lists.{nthBelow, supply-net}
 use Rattle.format.specs.Args.{argOf}
 use Rattle.format.specs.declared.arg.Arg.{Arg}
-use Rattle.model.specs.Records.{Control}
 use Rattle.model.specs.Commands.{controlsOf}
 use Rattle.texts.specs.Switches.{controlled, switchLine}
 use Rattle.store.specs.Strings.{string}

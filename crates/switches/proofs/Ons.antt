@@ -1,13 +1,12 @@
 -- When a switch is on, written: laws as the needs ask them. Assumes nothing.
 use Prim.Native.Nat.{ℕ, zero, suc, _+_, _-_, _≤_, _<_, _^_}
 use native.Mathlib.Omega.{arith}
-use mathlib.Core.Path.{_≡_, refl, sym, ap, _∙_}
+use mathlib.Core.Path.{_≡_, refl, sym, _∙_}
 use mathlib.Core.List.{List, [], _∷_, _++_, map}
 use lib.ListN.{length}
-use borrow.Author.Needs.{needs}
 use Rattle.text.specs.Ascii.{Bytes, ascii}
-use Rattle.out.specs.Emit.{Out, emit, emit1}
-use Rattle.out.specs.Fill.{fill, format1, arg, pick, turns, writes, emit-fill}
+use Rattle.out.specs.Emit.{Out, emit}
+use Rattle.out.specs.Fill.{format1, arg, pick, turns, writes, emit-fill}
 use Rattle.out.specs.Items.{joined, rest, unless, join-next, join-done}
 use Rattle.spans.specs.Span.{bytes}
 use Rattle.spans.specs.declared.span.Span.{Span}
@@ -15,7 +14,7 @@ use Rattle.tcl.specs.Lists.{list}
 use Rattle.names.specs.Name.{nameOf}
 use Rattle.names.specs.declared.name.Name.{Name}
 use Rattle.listnames.specs.Lists.{Whole, Known, whole-by}
-use Rattle.model.specs.Records.{Control, OnState}
+use Rattle.model.specs.Records.{Control}
 use Rattle.model.specs.Commands.{nth}
 use Rattle.texts.specs.Setting.{Setting}
 use Rattle.texts.specs.Switches.{condition}
@@ -23,7 +22,6 @@ use Rattle.store.specs.Strings.{spanOf}
 use Rattle.store.specs.View.{onOf}
 use Rattle.store.specs.Rows.{wordAt}
 use Rattle.store.specs.declared.stored.Stored.{Stored}
-use Rattle.made.specs.Made.{reachOf}
 use Rattle.switches.specs.Words.{onsFrom, ons-cons, ons-none}
 use Rattle.switches.specs.Texts.{onText, onsText}
 use Rattle.switches.specs.Asked.{Ons}

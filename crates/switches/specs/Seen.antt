@@ -6,7 +6,6 @@ use lib.ListN.{take}
 use Rattle.text.specs.Ascii.{Bytes}
 use Rattle.out.specs.Items.{each}
 use Rattle.scope.specs.Parts.{parts}
-use Rattle.model.specs.Records.{Switch as Switchʳ}
 use Rattle.texts.specs.Setting.{Setting}
 use Rattle.texts.specs.Switches.{switchGlue, switchLine, switchWarnings}
 use Rattle.store.specs.View.{Store, switchOf, modelOf}

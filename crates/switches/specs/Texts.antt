@@ -1,21 +1,21 @@
 -- The texts of switches by what the code is lent: the scope's names, the control ports, the on-states. They are those of every setting with that scope.
 -- Assumes nothing.
 use Prim.Native.Nat.{ℕ, _+_, _≤_}
-use mathlib.Core.Path.{_≡_, refl, sym, ap, ap₂, _∙_}
-use mathlib.Core.Bool.{Bool, cond}
+use mathlib.Core.Path.{_≡_, refl, ap, ap₂}
+use mathlib.Core.Bool.{cond}
 use mathlib.Core.List.{List, [], _∷_, _++_, map, flatMap}
 use lib.ListN.{length}
 use Rattle.text.specs.Ascii.{Bytes, ascii}
 use Rattle.text.specs.Compare.{same}
 use Rattle.out.specs.Emit.{Out, emit, _⊕_}
-use Rattle.out.specs.Fill.{fill, format1, format2, format3, format4}
+use Rattle.out.specs.Fill.{format1, format2, format3, format4}
 use Rattle.out.specs.Items.{each, joined}
 use Rattle.names.specs.Name.{nameOf}
 use Rattle.nametable.specs.Table.{rowName}
 use Rattle.design.specs.Paths.{elementPath}
 use Rattle.model.specs.Records.{Control, OnState, Switch as Switchʳ}
 use Rattle.texts.specs.Setting.{Setting}
-use Rattle.texts.specs.Switches.{condition, unknowns, orOff, onCondition, switchOn, switchState, controlBlock, switchGlue, switchLine, onWarnings}
+use Rattle.texts.specs.Switches.{condition, unknowns, orOff, onCondition, switchOn, controlBlock, switchGlue, switchLine, onWarnings}
 use Rattle.texts.specs.Texts.{warningLine}
 use Rattle.format.specs.Args.{argOf}
 use Rattle.format.specs.declared.arg.Arg.{Arg}

@@ -1,5 +1,5 @@
 -- The words of a switch's states in the store, and a switch by its own words alone. Assumes nothing.
-use Prim.Native.Nat.{ℕ, zero, suc, _+_, _-_, _≤_, _<_}
+use Prim.Native.Nat.{ℕ, zero, suc, _+_, _-_, _≤_}
 use native.Mathlib.Omega.{arith}
 use native.Mathlib.Nat.{add-zero}
 use mathlib.Core.Path.{_≡_, refl, sym, ap, ap₂, _∙_}
@@ -7,9 +7,9 @@ use mathlib.Core.List.{List, [], _∷_, _++_, map, append-assoc, append-nil}
 use lib.ListN.{length, take, drop, length-append}
 use lib.Seq.{take-at, drop-at}
 use Rattle.text.specs.Ascii.{Bytes}
-use Rattle.model.specs.Records.{OnState, Named, Switch as Switchʳ}
+use Rattle.model.specs.Records.{OnState, Switch as Switchʳ}
 use Rattle.store.specs.Strings.{string}
-use Rattle.store.specs.View.{onOf, namedOf, switchOf}
+use Rattle.store.specs.View.{onOf, switchOf}
 use Rattle.store.specs.Order.{Within, none-left, one-more, switchWords}
 use Rattle.store.specs.Rows.{wordAt, wordsIn}
 use Rattle.store.specs.declared.stored.Stored.{Stored}

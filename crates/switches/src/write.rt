@@ -3,28 +3,23 @@ ghost use mathlib.Core.Path.{_≡_};
 ghost use mathlib.Core.List.{[], _++_, map};
 ghost use Prim.Native.Nat.{_+_, _≤_, _<_};
 ghost use lib.ListN.{length, take};
-ghost use Rattle.text.specs.Ascii.{ascii};
 ghost use Rattle.out.specs.Emit.{_▸_, emit};
-ghost use Rattle.out.specs.Fill.{format2};
 ghost use Rattle.out.specs.Items.{each, joined};
-ghost use Rattle.spans.specs.Span.{bytes};
 ghost use Rattle.tcl.specs.Lists.{list};
-ghost use Rattle.names.specs.Name.{nameOf};
-ghost use Rattle.nametable.specs.Table.{rowName, tableNames};
+ghost use Rattle.nametable.specs.Table.{tableNames};
 ghost use Rattle.listnames.specs.Lists.{nthBelow, Whole};
 ghost use Rattle.scope.specs.Parts.{parts};
 ghost use Rattle.format.specs.Args.{argOf};
-ghost use Rattle.model.specs.Records.{Control};
 ghost use Rattle.model.specs.Commands.{controlsOf};
 ghost use Rattle.store.specs.Strings.{string, spanOf};
 ghost use Rattle.store.specs.View.{switchOf};
-ghost use Rattle.texts.specs.Switches.{switchGlue, switchLine, controlled};
+ghost use Rattle.texts.specs.Switches.{switchGlue, switchLine};
 ghost use Rattle.conditions.specs.Controls.{scopeSetting};
 ghost use Rattle.switches.specs.Words.{onsFrom, switchIn};
 ghost use Rattle.switches.specs.Texts.{ArgIs, onsText, stateText, signalText, controlText, controlAt, pairText};
 ghost use Rattle.switches.specs.Asked.{Ons, OfNames, OfSwitch, OfAll, OfSwitches, Controlled};
-ghost use Rattle.clamps.specs.Values.{storedName};
 use super::on::put_on;
+use clamps::stored;
 use format::arg::Arg;
 use format::arg::fixed;
 use format::arg::hier;
@@ -33,8 +28,6 @@ use format::fill::fill3;
 use format::fill::fill4;
 use listnames::entries;
 use listnames::nth_below;
-use names::name::Name;
-use names::name::alone;
 use names::put::put_name;
 use nametable::row;
 use out::emit::put;
@@ -43,13 +36,6 @@ use store::state::Switch;
 use store::state::Switches;
 use store::stored::Stored;
 use store::stored::span;
-
-// A stored string as a name.
-pub fn stored(s: Stored) -> Name
-    ensures { λ r. ⌜ r ≡ storedName s ⌝ }
-{
-    alone(span(s), 0)
-}
 
 // A stored string as an argument.
 pub fn string_arg(files: &[u8], area: &[u8], s: Stored) -> Arg

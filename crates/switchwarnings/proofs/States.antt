@@ -1,17 +1,16 @@
 -- The warnings about on-states, switch by switch: laws as the needs ask them. Assumes nothing.
-use Prim.Native.Nat.{ℕ, zero, suc, _+_, _-_, _*_, _≤_, _<_, _^_}
+use Prim.Native.Nat.{ℕ, suc, _+_, _-_, _*_, _≤_, _<_, _^_}
 use native.Mathlib.Omega.{arith}
 use mathlib.Core.Path.{_≡_, refl, sym, ap, ap₂, _∙_}
-use mathlib.Core.Bool.{Bool, true, false, cond}
+use mathlib.Core.Bool.{Bool, true, false}
 use mathlib.Core.List.{List, [], _∷_, _++_, map, flatMap}
 use lib.ListN.{length, take, drop, getD, length-append}
-use borrow.Author.Needs.{needs}
 use Rattle.text.specs.Ascii.{Bytes, ascii}
 use Rattle.text.specs.Compare.{same}
-use Rattle.out.specs.Emit.{Out, emit, emit1, emit-append}
+use Rattle.out.specs.Emit.{Out, emit, emit-append}
 use Rattle.out.specs.Fill.{fill, format3, arg, pick, turns, writes, emit-fill}
 use Rattle.out.specs.Items.{each, each-none}
-use Rattle.spans.specs.Span.{_⋯_, bytes}
+use Rattle.spans.specs.Span.{bytes}
 use Rattle.spans.specs.declared.span.Span.{Span}
 use Rattle.tcl.specs.Lists.{list}
 use Rattle.names.specs.Name.{nameOf}
@@ -37,7 +36,7 @@ use Rattle.store.specs.declared.state.Switches.{Switches}
 use Rattle.setting.specs.Orders.{sized-next, sized-end}
 use Rattle.switches.specs.Words.{onsFrom, switchIn, ons-are, ons-cons, ons-none}
 use Rattle.switches.specs.Texts.{Told, onRemarks, remarks}
-use Rattle.switches.specs.Asked.{OfNames, OfSwitch, OfSwitches, Controlled}
+use Rattle.switches.specs.Asked.{OfSwitch, OfSwitches, Controlled}
 use Rattle.switchwarnings.specs.Asked.{Reads}
 use Rattle.switchwarnings.proofs.Words.{told-none, told-one, told-then}
 use Rattle.clamps.specs.Values.{storedName}

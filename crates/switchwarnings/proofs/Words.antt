@@ -1,17 +1,16 @@
 -- The warnings about a condition: laws as the needs ask them. Assumes nothing.
-use Prim.Native.Nat.{ℕ, zero, suc, _+_, _*_, _≤_, _<_, _^_}
+use Prim.Native.Nat.{ℕ, _+_, _≤_, _<_, _^_}
 use native.Mathlib.Omega.{arith}
-use mathlib.Core.Path.{_≡_, refl, sym, ap, ap₂, _∙_}
-use mathlib.Core.Bool.{Bool, true, false, cond}
+use mathlib.Core.Path.{_≡_, refl, sym, ap, _∙_}
+use mathlib.Core.Bool.{Bool, true, false}
 use mathlib.Core.List.{List, [], _∷_, _++_}
-use mathlib.Core.Option.{Option, none, some}
+use mathlib.Core.Option.{none, some}
 use lib.ListN.{length, take, drop, length-append}
-use borrow.Author.Needs.{needs}
 use borrow.Author.Tests.{eq-eqb, ne-eqb}
 use Rattle.text.specs.Ascii.{Bytes, ascii}
 use Rattle.text.specs.Classes.{isDigit, isVariable}
 use Rattle.text.specs.Scan.{all, before}
-use Rattle.out.specs.Emit.{Out, emit, emit1, emit-append, wrote, kept}
+use Rattle.out.specs.Emit.{Out, emit, emit-append, wrote, kept}
 use Rattle.out.specs.Fill.{fill, format1, arg, pick, turns, writes, emit-fill}
 use Rattle.out.specs.Items.{each, each-none}
 use Rattle.tcl.specs.Substitution.{no-variable}

@@ -19,6 +19,7 @@ ghost use Rattle.switches.specs.Words.{onsFrom, switchIn};
 ghost use Rattle.switches.specs.Texts.{Told, onRemarks, remarks};
 ghost use Rattle.switches.specs.Asked.{OfSwitch, OfSwitches, Controlled};
 ghost use Rattle.switchwarnings.specs.Asked.{Reads};
+use clamps::stored;
 use conditions::behind;
 use conditions::control;
 use conditions::is_number;
@@ -40,7 +41,6 @@ use store::state::Switches;
 use store::stored::Stored;
 use store::stored::span;
 use store::word::word_at;
-use switches::write::stored;
 use text::class::is_variable;
 use text::part::wide;
 

@@ -1,29 +1,25 @@
 -- add_pst_state: the first table of a name, and what the command does. Assumes nothing.
-use Prim.Native.Nat.{ℕ, zero, suc, _+_, _≤_, _<_, max}
+use Prim.Native.Nat.{ℕ, zero, suc, _+_, _≤_, _<_}
 use native.Mathlib.Omega.{arith}
 use native.Mathlib.Nat.{zero-add}
 use mathlib.Core.Path.{_≡_, refl, sym, ap, _∙_}
-use mathlib.Core.Bool.{Bool, true, false, cond}
-use mathlib.Core.List.{List, [], _∷_, _++_, map}
-use mathlib.Core.Option.{Option, none, some, Option·map}
+use mathlib.Core.Bool.{Bool}
+use mathlib.Core.List.{List, [], _∷_, _++_}
+use mathlib.Core.Option.{none, some}
 use lib.ListN.{length, getD, set, take}
 use lib.Seq.{length-take-le}
 use Rattle.text.specs.Ascii.{Bytes, ascii}
 use Rattle.text.specs.Compare.{same}
-use Rattle.out.specs.Fill.{format1}
-use Rattle.spans.specs.Span.{pairs}
-use Rattle.spans.specs.Reach.{lastOf, reach, none-reach}
+use Rattle.spans.specs.Reach.{reach, none-reach}
 use Rattle.spans.specs.declared.span.Span.{Span}
 use Rattle.spans.specs.declared.span.Found.{Found}
 use Rattle.tcl.specs.Arguments.{optionOf, nameOf}
-use Rattle.tcl.specs.Lists.{list}
 use Rattle.args.specs.View.{wordsFrom, Reads, Finds}
 use Rattle.model.specs.Records.{Model, Table as Tableʳ, with-tables}
-use Rattle.model.specs.Commands.{onFirst, or-warned, warned, or-else, listOf, optionList, with-state, table-state-command}
+use Rattle.model.specs.Commands.{onFirst, warned, with-state, table-state-command}
 use Rattle.model.specs.Commands.{tableOf as tableNamed}
-use Rattle.store.specs.Strings.{no-string, string, spanOf, storedOf, foundOr}
+use Rattle.store.specs.Strings.{no-string, string, storedOf, foundOr}
 use Rattle.store.specs.View.{Store, numbered, tableOf, textOf, modelOf}
-use Rattle.store.specs.Rows.{Packs}
 use Rattle.store.specs.Added.{row-counted}
 use Rattle.store.specs.Tables.{numbered-length}
 use Rattle.store.specs.First.{firstAt, first-hit, first-miss}
@@ -31,9 +27,12 @@ use Rattle.store.specs.Rowed.{rowed, state-view, row-shaped, row-bounded}
 use Rattle.store.specs.declared.stored.Stored.{Stored}
 use Rattle.store.specs.declared.row.Row.{Row}
 use Rattle.store.specs.declared.state.Table.{Table}
+use Rattle.store.specs.declared.state.Tables.{Tables}
 use Rattle.store.specs.declared.state.State.{State}
 use Rattle.made.specs.declared.Made.{Made}
-use Rattle.made.specs.Made.{rowMade, warnedMade, reachOf, Ready, Did}
+use Rattle.made.specs.declared.Brief.{Brief}
+use Rattle.made.specs.declared.Deed.the-variants as deed
+use Rattle.made.specs.Made.{briefOf, rowMade, warnedMade, reachOf, Ready, Did, Does}
 use Rattle.made.specs.Dids.{did-warn}
 use Rattle.made.specs.Done.{did-row}
 use Rattle.made.specs.Asked.{list-found, or-found, found-by}
@@ -129,3 +128,23 @@ module _ (long : ℕ) (mem : Bytes) (words : List ℕ) (n : ℕ) (st : Store) (l
             (row-shaped st s row (v .shaped) (omega arith) (omega arith))
             (row-bounded (reachOf long) (length mem) st s row (v .bounded) (omega (arith, v .line, b .within (reach long) (none-reach long), found-by mem words n (reach long) (none-reach long) (optionOf (ascii "-state") ws) g q)))
             (record { kind = omega arith; at = omega (arith, v .shaped .tables .count); len = omega arith }))
+
+-- ---- its deed
+module _ (files area : Bytes) (words : List ℕ) (n : ℕ) (b : Brief) (t : Tables) (o : Found) (x : Stored) (i : ℕ) where
+  abbrev all-words : List Bytes
+  all-words = wordsFrom (files ++ area) words n 1
+
+  abbrev does : Model → Model
+  does m = table-state-command m all-words
+
+  pub states-warned : Finds (files ++ area) words n (optionOf (ascii "-pst") all-words) o → x ≡ foundOr o → i ≡ firstAt (isNamed (files ++ area) x) (take (t .n) (t .all)) → t .n ≤ i → Does files area words n (λ (s : State). (briefOf s ≡ b) × (s .tables ≡ t)) (deed.Warning 6 x) does
+  states-warned a e f h s k =
+      let f′ : i ≡ firstAt (isNamed (files ++ area) x) (take (s .tables .n) (s .tables .all)) = rw (k .1) f in
+      let h′ : s .tables .n ≤ i = rw (k .1) h in
+      record { fits = tt; did = λ st log v. state-warned (length files) (files ++ area) words n st log s v o x a e i f′ (warnedMade s 6 x) h′ refl }
+
+  pub states-more : (r : Span) (g : Found) (y w : Stored) → Finds (files ++ area) words n (optionOf (ascii "-pst") all-words) o → x ≡ foundOr o → i ≡ firstAt (isNamed (files ++ area) x) (take (t .n) (t .all)) → i < t .n → Reads (files ++ area) words n (nameOf all-words) r → Finds (files ++ area) words n (optionOf (ascii "-state") all-words) g → y ≡ storedOf r → w ≡ foundOr g → Does files area words n (λ (s : State). (briefOf s ≡ b) × (s .tables ≡ t)) (deed.Row (record { kind = 2; scope = record { at = i; len = 0 }; name = y; value = w })) does
+  states-more r g y w a e f h p q ey ew s k =
+      let f′ : i ≡ firstAt (isNamed (files ++ area) x) (take (s .tables .n) (s .tables .all)) = rw (k .1) f in
+      let h′ : i < s .tables .n = rw (k .1) h in
+      record { fits = tt; did = λ st log v. state-fine (length files) (files ++ area) words n st log s v o x a e i f′ no-table h′ r g p q y w (rowMade s (record { kind = 2; scope = record { at = i; len = 0 }; name = y; value = w })) ey ew refl }

@@ -2,9 +2,8 @@
 use Prim.Native.Nat.{ℕ, _+_, _≤_, _<_, max}
 use native.Mathlib.Omega.{arith}
 use mathlib.Core.Path.{_≡_, refl, sym, ap, _∙_}
-use mathlib.Core.Bool.{Bool, true, false, cond}
+use mathlib.Core.Bool.{Bool, true, false}
 use mathlib.Core.List.{List, [], _∷_, _++_, map, flatMap}
-use mathlib.Core.Option.{Option, none, some}
 use lib.Dec.{eqb}
 use lib.ListN.{length, take}
 use lib.Seq.{length-take-le}
@@ -15,7 +14,6 @@ use Rattle.spans.specs.Reach.{lastOf, reach, none-reach}
 use Rattle.spans.specs.declared.span.Span.{Span}
 use Rattle.spans.specs.declared.span.Found.{Found}
 use Rattle.tcl.specs.Arguments.{optionOf, nameOf}
-use Rattle.tcl.specs.Lists.{list}
 use Rattle.args.specs.View.{wordsFrom, Reads, Finds}
 use Rattle.model.specs.Scope.{scoped}
 use Rattle.model.specs.Within.{recordsFit}
@@ -24,11 +22,13 @@ use Rattle.store.specs.declared.state.State.{State}
 use Rattle.store.specs.Tables.{numbered-length}
 use Rattle.store.specs.Variables.{now-fits}
 use Rattle.made.specs.declared.Made.{Made}
-use Rattle.made.specs.Made.{fineMade, fullMade, reachOf, Ready, Did}
+use Rattle.made.specs.declared.Brief.{Brief}
+use Rattle.made.specs.declared.Deed.the-variants as deed
+use Rattle.made.specs.Made.{briefOf, fineMade, fullMade, reachOf, Ready, Did, Does}
 use Rattle.made.specs.Dids.{one-over, did-full}
 use Rattle.made.specs.Done.{did-state}
-use Rattle.model.specs.Records.{Model, TableState, Table as Tableʳ, with-tables}
-use Rattle.model.specs.Commands.{listOf, optionList, table-command}
+use Rattle.model.specs.Records.{Model, Table as Tableʳ, with-tables}
+use Rattle.model.specs.Commands.{optionList, table-command}
 use Rattle.store.specs.Strings.{string, spanOf, storedOf, foundOr}
 use Rattle.store.specs.View.{Store, listBelow, statesOf, tableOf, modelOf}
 use Rattle.store.specs.Order.{Within, none-left, one-more, ofTable, rowTable}
@@ -114,3 +114,16 @@ module _ (long : ℕ) (mem : Bytes) (words : List ℕ) (n : ℕ) (st : Store) (l
       (table-shaped st s (v .shaped) d h)
       (table-bounded (reachOf long) (length mem) st s (v .bounded) d l (omega (arith, a .within (reach long) (none-reach long), v .line, v .bounded .scope)))
       (record { count = refl; scope = refl; end = refl; log = refl; words = refl }))
+
+-- ---- its deed
+module _ (files area : Bytes) (words : List ℕ) (n : ℕ) (b : Brief) where
+  abbrev does : Model → Model
+  does m = table-command m (wordsFrom (files ++ area) words n 1)
+
+  pub tables-full : 32 ≤ b .tables → Does files area words n (λ (s : State). briefOf s ≡ b) deed.Full does
+  tables-full h s e = record { fits = tt; did = λ st log v. table-full (length files) (files ++ area) words n st log s v (fullMade s) (omega (arith, ap (λ (z : Brief). z .tables) e)) refl }
+
+  pub tables-more : (d : Table) → b .tables < 32 → TableIs (files ++ area) words n (b .scope) d → Does files area words n (λ (s : State). briefOf s ≡ b) (deed.Table d) does
+  tables-more d h a s e =
+      let k : TableIs (files ++ area) words n (s .head .scope) d = rw (ap (λ (z : Brief). z .scope) e) a in
+      record { fits = omega (arith, ap (λ (z : Brief). z .tables) e); did = λ st log v. table-fine (length files) (files ++ area) words n st log s v d (table-added s d) (fineMade (table-added s d)) (omega (arith, ap (λ (z : Brief). z .tables) e)) k refl refl }

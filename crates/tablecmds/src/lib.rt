@@ -1,31 +1,26 @@
 // create_pst, add_pst_state.
-ghost use mathlib.Core.List.{List, _++_};
+ghost use mathlib.Core.List.{_++_};
 ghost use mathlib.Core.Path.{_≡_};
-ghost use Prim.Native.Nat.{ℕ, _≤_, _<_, _^_};
-ghost use Rattle.text.specs.Ascii.{Bytes};
+ghost use Prim.Native.Nat.{_≤_, _<_, _^_};
 ghost use Rattle.spans.specs.Span.{pairs};
 ghost use Rattle.spans.specs.Reach.{spanEnd, lastOf};
-ghost use lib.ListN.{length, take};
+ghost use lib.ListN.{take};
 ghost use Rattle.args.specs.View.{wordsFrom};
 ghost use Rattle.model.specs.Commands.{table-command, table-state-command};
-ghost use Rattle.store.specs.View.{Store, modelOf};
 ghost use Rattle.store.specs.First.{firstAt};
-ghost use Rattle.made.specs.Made.{Room, Ready, Did};
+ghost use Rattle.made.specs.Made.{Line, briefOf, Does};
+ghost use Rattle.model.specs.Records.{Model};
+ghost use Rattle.store.specs.declared.state.State.{State};
 ghost use Rattle.tablecmds.specs.Tables.{TableIs};
 ghost use Rattle.tablecmds.specs.States.{isNamed};
 use args::argument::name;
 use args::argument::option;
-use made::Made;
-use made::fine;
-use made::full;
-use made::warned;
-use made::with_row;
+use made::Brief;
+use made::Deed;
 use spans::span::same_spans;
 use store::row::Row;
-use store::state::State;
 use store::state::Table;
 use store::state::Tables;
-use store::state::add_table;
 use store::stored::Stored;
 use store::stored::narrow;
 use store::stored::or_empty;
@@ -46,17 +41,16 @@ fn table<'a>(files: &'a [u8], area: &'a [u8], words: &[u32], n: usize, scope: St
 }
 
 // A table more.
-pub fn create_pst<'a>(files: &'a [u8], area: &'a [u8], words: &[u32], n: usize, s: State) -> Made
-    requires { ⌜ Room (now words) n s ⌝ }
-    ensures { λ r. ⌜ ((st : Store) (log : Bytes) → Ready (length (now (files .entry))) (now (files .entry) ++ now (area .entry)) (now (words .entry)) n st s → Did (length (now (files .entry))) (now (files .entry) ++ now (area .entry)) st log s r (table-command (modelOf (now (files .entry) ++ now (area .entry)) st s log) (wordsFrom (now (files .entry) ++ now (area .entry)) (now (words .entry)) n 1))) ⌝ }
+pub fn create_pst<'a>(files: &'a [u8], area: &'a [u8], words: &[u32], n: usize, b: Brief) -> Deed
+    requires { ⌜ Line (now words) n ⌝ }
+    ensures { λ r. ⌜ Does (now (files .entry)) (now (area .entry)) (now (words .entry)) n (λ (s : State). briefOf s ≡ b) r (λ (m : Model). table-command m (wordsFrom (now (files .entry) ++ now (area .entry)) (now (words .entry)) n 1)) ⌝ }
 {
-    if 32 <= s.tables.n {
-        return full(s);
+    if 32 <= b.tables {
+        return Deed::Full;
     }
-    let h = s.head;
-    let scope = h.scope;
+    let scope = b.scope;
     let t = table(files, area, words, n, scope);
-    fine(add_table(s, t))
+    Deed::Table(t)
 }
 
 // The first table of the name; the number of tables where there is none.
@@ -78,15 +72,21 @@ fn find_table<'a>(files: &'a [u8], area: &'a [u8], t: Tables, name: Stored) -> u
 }
 
 // A state of the first table of the name, as a row, or a warning.
-pub fn add_pst_state<'a>(files: &'a [u8], area: &'a [u8], words: &[u32], n: usize, s: State) -> Made
-    requires { ⌜ Room (now words) n s ⌝ }
-    ensures { λ r. ⌜ ((st : Store) (log : Bytes) → Ready (length (now (files .entry))) (now (files .entry) ++ now (area .entry)) (now (words .entry)) n st s → Did (length (now (files .entry))) (now (files .entry) ++ now (area .entry)) st log s r (table-state-command (modelOf (now (files .entry) ++ now (area .entry)) st s log) (wordsFrom (now (files .entry) ++ now (area .entry)) (now (words .entry)) n 1))) ⌝ }
+pub fn add_pst_state<'a>(
+    files: &'a [u8],
+    area: &'a [u8],
+    words: &[u32],
+    n: usize,
+    b: Brief,
+    t: Tables,
+) -> Deed
+    requires { ⌜ Line (now words) n × (t .n ≤ 32) ⌝ }
+    ensures { λ r. ⌜ Does (now (files .entry)) (now (area .entry)) (now (words .entry)) n (λ (s : State). (briefOf s ≡ b) × (s .tables ≡ t)) r (λ (m : Model). table-state-command m (wordsFrom (now (files .entry) ++ now (area .entry)) (now (words .entry)) n 1)) ⌝ }
 {
     let table = or_empty(option(files, area, words, n, b"-pst"));
-    let t = s.tables;
     let i = find_table(files, area, t, table);
     if t.n <= i {
-        return warned(s, 6, table);
+        return Deed::Warning(6, table);
     }
     let named = name(files, area, words, n);
     let values = option(files, area, words, n, b"-state");
@@ -100,5 +100,5 @@ pub fn add_pst_state<'a>(files: &'a [u8], area: &'a [u8], words: &[u32], n: usiz
         name: narrow(named),
         value: or_empty(values),
     };
-    with_row(s, r)
+    Deed::Row(r)
 }

@@ -1,22 +1,22 @@
 -- The lines of tables: laws as the needs ask them. Assumes nothing.
-use Prim.Native.Nat.{ℕ, zero, suc, _+_, _-_, _*_, _≤_, _<_, _^_, max}
+use Prim.Native.Nat.{ℕ, zero, suc, _+_, _-_, _≤_, _<_}
 use mathlib.Core.Path.{_≡_, refl, sym, ap, _∙_}
-use mathlib.Core.List.{List, [], _∷_, _++_, map, flatMap}
+use mathlib.Core.List.{List, [], _∷_, _++_, flatMap}
 use native.Mathlib.Omega.{arith}
 use lib.ListN.{length, take, drop, getD, length-map}
 use lib.Seq.{length-take-le, getD-take}
 use borrow.Author.Needs.{needs}
 use Rattle.text.specs.Ascii.{Bytes, ascii}
 use Rattle.out.specs.Emit.{Out, emit, emit-append, _⊕_, emit-⊕}
-use Rattle.out.specs.Fill.{fill, turns, arg, pick, writes, runs, format1, format3, emit-fill}
-use Rattle.out.specs.Items.{each, joined, each-cons, each-none}
+use Rattle.out.specs.Fill.{turns, arg, pick, writes, format1, format3, emit-fill}
+use Rattle.out.specs.Items.{each, each-cons, each-none}
 use Rattle.spans.specs.Reach.{held-by, reach-end}
 use Rattle.tcl.specs.Lists.{list}
 use Rattle.names.specs.Scoped.{scoped}
 use Rattle.nametable.specs.Table.{tableNames, names-none}
 use Rattle.listnames.specs.Lists.{Rooms, Listed}
-use Rattle.model.specs.Records.{TableState, Table as Tableʳ}
-use Rattle.texts.specs.Texts.{tableState, tableLine}
+use Rattle.model.specs.Records.{Table as Tableʳ}
+use Rattle.texts.specs.Texts.{tableLine}
 use Rattle.store.specs.Strings.{string, spanOf}
 use Rattle.store.specs.View.{listBelow, statesOf, tableOf, numbered}
 use Rattle.store.specs.Order.{Within, one-more, ofTable}

@@ -1,15 +1,14 @@
 -- The states of a table: laws as the needs ask them. Assumes nothing.
-use Prim.Native.Nat.{ℕ, zero, suc, _+_, _-_, _*_, _≤_, _<_, _^_, max}
+use Prim.Native.Nat.{ℕ, _+_, _-_, _≤_, _<_}
 use mathlib.Core.Path.{_≡_, refl, sym, ap, _∙_}
-use mathlib.Core.Bool.{Bool, true, false, cond, _&&_}
-use mathlib.Core.List.{List, [], _∷_, _++_, map, flatMap}
+use mathlib.Core.Bool.{Bool, true, false, cond}
+use mathlib.Core.List.{List, _∷_, _++_, map, flatMap}
 use native.Mathlib.Omega.{arith}
-use lib.Dec.{eqb}
 use lib.ListN.{length, drop}
 use borrow.Author.Needs.{needs}
 use Rattle.text.specs.Ascii.{Bytes, ascii}
 use Rattle.out.specs.Emit.{Out, emit, _⊕_, emit-⊕}
-use Rattle.out.specs.Fill.{fill, turns, arg, pick, writes, runs, format2, emit-fill}
+use Rattle.out.specs.Fill.{turns, arg, pick, writes, format2, emit-fill}
 use Rattle.out.specs.Items.{joined, rest, unless, join-next, join-done}
 use Rattle.spans.specs.Span.{_⋯_, bytes}
 use Rattle.spans.specs.Reach.{held-by, reach-end}
@@ -21,7 +20,7 @@ use Rattle.model.specs.Records.{TableState}
 use Rattle.texts.specs.Texts.{tableState}
 use Rattle.store.specs.Strings.{string, spanOf}
 use Rattle.store.specs.View.{statesOf}
-use Rattle.store.specs.Order.{Within, ofRow}
+use Rattle.store.specs.Order.{ofRow}
 use Rattle.store.specs.Rows.{rowAt, rowsIn}
 use Rattle.store.specs.declared.row.Row.{Row}
 use Rattle.made.specs.Made.{reachOf}

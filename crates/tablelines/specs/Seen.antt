@@ -1,7 +1,7 @@
 -- Laws: stored records in order give what is asked, and the lines are those of the records that they stand for. Assumes nothing.
 use Prim.Native.Nat.{ℕ}
-use mathlib.Core.Path.{_≡_, refl}
-use mathlib.Core.List.{List, [], _++_}
+use mathlib.Core.Path.{_≡_}
+use mathlib.Core.List.{List}
 use lib.ListN.{take}
 use Rattle.text.specs.Ascii.{Bytes}
 use Rattle.out.specs.Items.{each}

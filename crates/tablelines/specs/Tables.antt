@@ -1,12 +1,11 @@
 -- The lines of tables by the texts that stand in them, and what is asked of the stored tables and rows. Assumes nothing.
 use Prim.Native.Nat.{ℕ, _≤_, _<_, _^_}
-use mathlib.Core.Path.{_≡_, refl}
 use mathlib.Core.Bool.{Bool, _&&_}
-use mathlib.Core.List.{List, [], _∷_, _++_, map, flatMap}
+use mathlib.Core.List.{List, _++_, map, flatMap}
 use lib.Dec.{eqb}
 use lib.ListN.{length, take}
 use Rattle.text.specs.Ascii.{Bytes, ascii}
-use Rattle.out.specs.Fill.{fill, format2, format3}
+use Rattle.out.specs.Fill.{format2, format3}
 use Rattle.out.specs.Items.{joined}
 use Rattle.tcl.specs.Lists.{list}
 use Rattle.model.specs.Records.{TableState, Table as Tableʳ}

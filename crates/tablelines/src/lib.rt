@@ -1,9 +1,7 @@
 // The report lines of the tables of states.
 ghost use mathlib.Core.Path.{_≡_};
-ghost use mathlib.Core.Bool.{_&&_};
 ghost use mathlib.Core.List.{_++_, map, flatMap};
 ghost use Prim.Native.Nat.{_≤_};
-ghost use lib.Dec.{eqb};
 ghost use lib.ListN.{length, take};
 ghost use Rattle.out.specs.Emit.{_▸_, emit};
 ghost use Rattle.out.specs.Items.{each, joined};

@@ -1,10 +1,10 @@
 -- Whether the first part of a text surely is not a name: laws as the needs ask them. Assumes nothing.
-use Prim.Native.Nat.{ℕ, _+_, _≤_, _<_, _^_}
+use Prim.Native.Nat.{ℕ, _+_, _<_, _^_}
 use native.Mathlib.Omega.{arith}
 use mathlib.Core.Path.{_≡_, refl, sym, ap, _∙_}
-use mathlib.Core.Bool.{Bool, true, false, cond, not, _&&_, _||_}
-use mathlib.Core.Option.{Option, none, some}
-use mathlib.Core.List.{List, [], _∷_, _++_, append-assoc}
+use mathlib.Core.Bool.{Bool, true, false, cond, not, _||_}
+use mathlib.Core.Option.{none}
+use mathlib.Core.List.{[], _∷_, _++_}
 use lib.Dec.{eqb}
 use lib.ListN.{length, take, drop, getD}
 use borrow.Author.Needs.{needs}
@@ -16,7 +16,7 @@ use Rattle.text.specs.Sames.{both, no-true}
 use Rattle.spans.specs.Span.{bytes, gotOf}
 use Rattle.spans.specs.declared.span.Span.{Span}
 use Rattle.spans.specs.declared.span.Got.{Got}
-use Rattle.spans.specs.declared.span.Got.the-variants.{Yes, No}
+use Rattle.spans.specs.declared.span.Got.the-variants.{Yes}
 use Rattle.tcl.specs.Rewrite.{rewrite}
 use Rattle.tcl.specs.Join.{jointBy, joinedBy, join}
 use Rattle.tcl.specs.Substitution.{escape, unescape}

@@ -1,16 +1,14 @@
 -- An instance by the parts of a text, turn by turn: the answer is that of what is left. Assumes nothing.
-use Prim.Native.Nat.{ℕ, zero, suc, _+_, _-_, _≤_, _<_, _^_}
+use Prim.Native.Nat.{ℕ, zero, suc, _+_, _-_, _*_, _≤_, _<_, _^_}
 use native.Mathlib.Omega.{arith}
-use native.Mathlib.Numerals.{add-one}
 use mathlib.Core.Path.{_≡_, refl, sym, ap, _∙_}
 use mathlib.Core.Bool.{Bool, true, false, cond}
 use mathlib.Core.List.{List, [], _∷_, _++_, append-assoc, append-nil}
-use mathlib.Core.Option.{Option, none, some}
+use mathlib.Core.Option.{none, some}
 use lib.Dec.{eqb}
-use lib.ListN.{length, take, drop, length-append}
-use lib.Seq.{take-at, length-take-le, take-append-add}
+use lib.ListN.{length, take, set, length-append}
+use lib.Seq.{take-at, length-take-le}
 use borrow.Author.Needs.{needs}
-use borrow.Author.Tests.{eqb-true}
 use Rattle.text.specs.Ascii.{Bytes, ascii, byte}
 use Rattle.text.specs.Compare.{same}
 use Rattle.text.specs.Sames.{no-true, same-of, same-turned}
@@ -18,41 +16,70 @@ use Rattle.text.specs.Scan.{onto, splitAt}
 use Rattle.out.specs.Items.{joined, behind as Items·behind}
 use Rattle.fields.specs.declared.Dims.{Dims}
 use Rattle.joblines.specs.Job.{Inst, Module}
-use Rattle.joblines.specs.Sections.{instsIn, connsIn}
-use Rattle.jobindex.specs.Index.{section, moduleRow}
+use Rattle.joblines.specs.Sections.{connsIn}
+use Rattle.jobindex.specs.Index.{num, section, moduleRow}
 use Rattle.jobindex.specs.declared.Span.{Span}
 use Rattle.design.specs.Lists.{first, onSome}
 use Rattle.design.specs.Lookup.{moduleNamed, instanceNamed}
 use Rattle.lines.specs.Cursors.{spanned, instIs, InstSeen, Stepped}
 use Rattle.lines.specs.declared.InstAt.{InstAt}
 use Rattle.lines.specs.declared.InstAt.the-variants as inst
-use Rattle.lookup.specs.Rows.{modules, rowIs, ModuleSeen, insts-from, insts-end, insts-are}
+use Rattle.lookup.specs.Rows.{modules, rowIs, ModuleSeen, insts-from, insts-end}
+use Rattle.memo.specs.Known.{slots, Begins, Leads, Known, Recalls, Asked, asked-row, asked-slot, asked-fits, recalls-row, recalls-asks, recalls-room, begins-row, begins-first, begins-here, leads-here, known-put}
 use Rattle.names.specs.Parts.{parts, firstPart, others, behind, part-same, part-other, parts-some}
-use Rattle.refs.specs.Text.{textOf}
+use Rattle.refs.specs.Text.{textOf, stepOf}
 use Rattle.refs.specs.declared.Ref.{Ref}
+use Rattle.refs.specs.declared.Step.{Step}
+use Rattle.refs.specs.declared.Step.the-variants as step
 use Rattle.texts.specs.Isolation.{frontParts, belowParent}
-use Rattle.targets.specs.Instance.{Instance, instanceAt}
+use Rattle.targets.specs.Instance.{instanceAt}
 use Rattle.targets.specs.Textual.{textual, textual-is}
-use Rattle.targets.specs.Seen.{partIs, DownIs, DownSeen, nowherePlace, placeIs, PlaceSeen}
+use Rattle.targets.specs.Seen.{partIs, DownIs, DownSeen, StepSeen, Sought, nowherePlace, PlaceSeen}
 use Rattle.targets.specs.declared.Part.{Part}
 use Rattle.targets.specs.declared.Part.the-variants as part
 use Rattle.targets.specs.declared.Down.{Down}
 use Rattle.targets.specs.declared.Down.the-variants as down
 use Rattle.targets.specs.declared.Place.{Place}
 
+-- ---- the slot of the first part
+
+pub slot-less : (job mem : Bytes) (x : Ref) (r : Step) → textOf job mem x ≡ stepOf job mem r → (b : ℕ) (u : Ref) → r ≡ step.Byte b u → length (textOf job mem u) < length (textOf job mem x)
+slot-less job mem x r e b u h = let z : textOf job mem x ≡ b ∷ textOf job mem u = e ∙ rw h in rw z (omega arith)
+
+pub ruleset slotted = (needs, slot-less)
+
+-- ---- where the lookup of the first part begins
+
+pub begin-first : (job : Bytes) (index memo : List ℕ) (k h : ℕ) → Asked job index memo k h → (t : Bytes) (p : ℕ) → p ≡ insts-from index k → Begins job index k (firstPart (parts t)) p
+begin-first job index memo k h a t p e = begins-first job index k (firstPart (parts t)) p (a .row) e
+
+-- the part looked for is the first
+first-same : (t w : Bytes) (qs : List Bytes) → some qs ≡ behind w (parts t) → w ≡ firstPart (parts t)
+first-same t w qs e = sym (ap firstPart (part-same t w qs e))
+
+module _ (job : Bytes) (index memo : List ℕ) (k h : ℕ) (asked : Asked job index memo k h) (a : ℕ) (ea : a ≡ num memo (2 * h)) (row : a ≡ k + 1) (p : ℕ) (ep : p ≡ num memo (2 * h + 1))
+    (end : ℕ) (ee : end ≡ insts-end index k) (r : InstAt) (seen : InstSeen job p end r) (d : Dims) (n kind : Span) (next : ℕ) (g : r ≡ inst.Inst d n kind next)
+    (w : Bytes) (ew : w ≡ spanned job n) (mem t : Bytes) (q : Part) (eq : partIs job mem q ≡ behind w (parts t)) where
+  begin-by : (qs : List Bytes) → some qs ≡ behind w (parts t) → Begins job index k (firstPart (parts t)) p
+  begin-by qs e =
+      let l : Leads job index k p = rw (← ep) at (asked .known .leads h k (asked .slot) (sym ea ∙ row)) in
+      begins-here job index k p r (rw ee at seen) d n kind next g (firstPart (parts t)) (sym ew ∙ first-same t w qs e) (asked .row) l
+
+  pub begin-last : q ≡ part.Last → Begins job index k (firstPart (parts t)) p
+  begin-last f = begin-by [] (rw f at eq)
+
+  pub begin-more : (x : Ref) → q ≡ part.More x → Begins job index k (firstPart (parts t)) p
+  begin-more x f = begin-by (parts (textOf job mem x)) (rw f at eq)
+
+pub ruleset lookups = (needs, asked-row, asked-slot, asked-fits, begin-first, begin-last, begin-more)
+
 -- ---- one instance down by the first part of t
 
-abbrev pub partIn : Bytes → ℕ → ℕ → Bytes → Option Inst
-partIn job at end t = first (λ (i : Inst). same (i .name) (firstPart (parts t))) (instsIn (section job at end))
-
 module _ (job : Bytes) (index : List ℕ) (k : ℕ) (mem t : Bytes) (end : ℕ) (ee : end ≡ insts-end index k) where
-  pub down-start : (at : ℕ) → at ≡ insts-from index k → instanceNamed (moduleRow job index k) (firstPart (parts t)) ≡ partIn job at end t
-  down-start at ea = rw (insts-are job index k, ee, ea)
-
-  module _ (at : ℕ) (inv : instanceNamed (moduleRow job index k) (firstPart (parts t)) ≡ partIn job at end t) (r : InstAt) (seen : InstSeen job at end r) where
+  module _ (at : ℕ) (inv : Begins job index k (firstPart (parts t)) at) (r : InstAt) (seen : InstSeen job at end r) where
     pub down-none : r ≡ inst.End → DownSeen job index k mem t down.None
     unfolding first
-    down-none g = record { is = inv ∙ rw (← seen .says, g) }
+    down-none g = record { is = inv .keeps ∙ rw (← ee, ← seen .says, g); place = tt }
 
     module _ (d : Dims) (n kind : Span) (next : ℕ) (g : r ≡ inst.Inst d n kind next) where
       on : Stepped job at end next
@@ -65,30 +92,52 @@ module _ (job : Bytes) (index : List ℕ) (k : ℕ) (mem t : Bytes) (end : ℕ) 
         here : (qs : List Bytes) → some qs ≡ behind w (parts t) → parts t ≡ w ∷ qs
         here qs e = part-same t w qs e
 
+        named : (qs : List Bytes) → some qs ≡ behind w (parts t) → spanned job n ≡ firstPart (parts t)
+        named qs e = sym ew ∙ first-same t w qs e
+
         found : (qs : List Bytes) → some qs ≡ behind w (parts t) → instanceNamed (moduleRow job index k) (firstPart (parts t)) ≡ some (instIs job end d n kind next)
         unfolding first
-        found qs e =
-            let f : spanned job n ≡ firstPart (parts t) = sym (ap firstPart (here qs e) ∙ ew) in
-            inv ∙ rw (← seen .says, g, same-of (spanned job n) (firstPart (parts t)) f)
+        found qs e = inv .keeps ∙ rw (← ee, ← seen .says, g, same-of (spanned job n) (firstPart (parts t)) (named qs e))
 
-        pub down-last : q ≡ part.Last → DownSeen job index k mem t (down.Last kind next)
+        leads : (qs : List Bytes) → some qs ≡ behind w (parts t) → Leads job index k at
+        leads qs e = leads-here job index k at r (rw ee at seen) d n kind next g (firstPart (parts t)) (named qs e) inv
+
+        pub down-last : q ≡ part.Last → DownSeen job index k mem t (down.Last at kind next)
         down-last h =
-            let p : parts t ≡ w ∷ [] = here [] (rw h at eq) in
-            record { is = (p ∙ ap (λ (x : Bytes). x ∷ []) (sym (ap firstPart p)), (instIs job end d n kind next, (found [] (rw h at eq), (refl, rw ee)))) }
+            let e : some [] ≡ behind w (parts t) = rw h at eq in
+            let p : parts t ≡ w ∷ [] = here [] e in
+            record { is = (p ∙ ap (λ (x : Bytes). x ∷ []) (sym (ap firstPart p)), (instIs job end d n kind next, (found [] e, (refl, rw ee)))); place = leads [] e }
 
-        pub down-more : (x : Ref) (size : ℕ) → size ≡ length w → q ≡ part.More x → DownSeen job index k mem t (down.More kind size x)
+        pub down-more : (x : Ref) (size : ℕ) → size ≡ length w → q ≡ part.More x → DownSeen job index k mem t (down.More at kind size x)
         down-more x size es h =
-            let p : parts t ≡ w ∷ parts (textOf job mem x) = here (parts (textOf job mem x)) (rw h at eq) in
-            record { is = (p ∙ ap (λ (y : Bytes). y ∷ parts (textOf job mem x)) (sym (ap firstPart p)), (es ∙ ap length (sym (ap firstPart p)), (instIs job end d n kind next, (found (parts (textOf job mem x)) (rw h at eq), refl)))) }
+            let e : some (parts (textOf job mem x)) ≡ behind w (parts t) = rw h at eq in
+            let p : parts t ≡ w ∷ parts (textOf job mem x) = here (parts (textOf job mem x)) e in
+            record {
+              is = (p ∙ ap (λ (y : Bytes). y ∷ parts (textOf job mem x)) (sym (ap firstPart p)), (es ∙ ap length (sym (ap firstPart p)), (instIs job end d n kind next, (found (parts (textOf job mem x)) e, refl))));
+              place = leads (parts (textOf job mem x)) e;
+            }
 
-        pub down-other : q ≡ part.Other → instanceNamed (moduleRow job index k) (firstPart (parts t)) ≡ partIn job next end t
+        pub down-other : q ≡ part.Other → Begins job index k (firstPart (parts t)) next
         unfolding first
         down-other h =
             let o : same (firstPart (parts t)) w ≡ false = part-other t w (rw h at eq) in
             let f : same (spanned job n) (firstPart (parts t)) ≡ false = same-turned (spanned job n) (firstPart (parts t)) ∙ rw (← ew) o in
-            inv ∙ rw (← seen .says, g, f)
+            record { row = inv .row; keeps = inv .keeps ∙ rw (← ee, ← seen .says, g, f) }
 
-pub ruleset downs = (needs, down-start, down-none, down-less, down-last, down-more, down-other)
+pub ruleset downs = (needs, begins-row, down-none, down-less, down-last, down-more, down-other)
+
+-- ---- the same with a memo
+
+module _ (job : Bytes) (index memo : List ℕ) (k : ℕ) (r : Recalls job index memo k) (mem t : Bytes) (d : Down) (seen : DownSeen job index k mem t d) where
+  pub step-kept : StepSeen job index k mem t d memo
+  step-kept = record { down = seen; known = r .known }
+
+  pub step-put : (at : ℕ) (kind : Span) (size : ℕ) (x : Ref) → d ≡ down.More at kind size x → (h : ℕ) → h < slots → (memo′ : List ℕ) → memo′ ≡ set (set memo (2 * h) (k + 1)) (2 * h + 1) at → StepSeen job index k mem t (down.More at kind size x) memo′
+  step-put at kind size x g h few memo′ e =
+      let l : Leads job index k at = rw g at (seen .place) in
+      record { down = rw g at seen; known = rw e (known-put job index memo (r .known) h k at few l) }
+
+pub ruleset steps = (needs, recalls-row, recalls-asks, recalls-room, begins-first, step-kept, step-put)
 
 -- ---- a text and its parts
 
@@ -113,9 +162,9 @@ first-more t w u e =
     sym (textual-is t) ∙ ap textual e ∙ a ∙ ap (λ (l : Bytes). w ++ byte "/" ∷ l) (textual-is u)
 
 -- what is left is shorter
-pub more-less : (job : Bytes) (index : List ℕ) (m : ℕ) (mem left : Bytes) (r : Down) → DownSeen job index m mem left r → (kind : Span) (size : ℕ) (x : Ref) → r ≡ down.More kind size x → length (textOf job mem x) < length left
-more-less job index m mem left r seen kind size x g =
-    let s : DownIs job index m mem left (down.More kind size x) = rw g at (seen .is) in
+pub more-less : (job : Bytes) (index : List ℕ) (m : ℕ) (mem left : Bytes) (r : Down) (memo : List ℕ) → StepSeen job index m mem left r memo → (at : ℕ) (kind : Span) (size : ℕ) (x : Ref) → r ≡ down.More at kind size x → length (textOf job mem x) < length left
+more-less job index m mem left r memo step at kind size x g =
+    let s : DownIs job index m mem left (down.More at kind size x) = rw g at (step .down .is) in
     let a : length left ≡ length (firstPart (parts left)) + suc (length (textOf job mem x)) = ap length (first-more left (firstPart (parts left)) (textOf job mem x) (s .0)) ∙ length-append (firstPart (parts left)) (byte "/" ∷ textOf job mem x) in
     omega arith
 
@@ -141,7 +190,7 @@ row-is job index zero h = absurd (h refl)
 row-is job index (suc k) h = let z : suc k - 1 ≡ k = omega arith in rw z
 
 -- ---- the way down, part by part: T is the whole text, of which X is left, from module m on
-pub record Seeks (job : Bytes) (index : List ℕ) (count k : ℕ) (whole : Bytes) (m : ℕ) (left : Bytes) (upto : ℕ) : Type 0 where
+pub record Seeks (job : Bytes) (index : List ℕ) (count k : ℕ) (whole : Bytes) (m : ℕ) (left : Bytes) (upto : ℕ) (memo : List ℕ) : Type 0 where
   pub few : count ≤ 128
   pub row : m < count
   pub small : length whole < 2 ^ 63
@@ -149,13 +198,14 @@ pub record Seeks (job : Bytes) (index : List ℕ) (count k : ℕ) (whole : Bytes
   pub text : take upto whole ++ left ≡ whole
   pub inside : upto ≤ length whole
   pub front : (n : Bytes) → belowParent (frontParts (parts whole)) n ≡ take upto whole ++ belowParent (frontParts (parts left)) n
+  pub known : Known job index memo
 
-pub seek-start : (job : Bytes) (index : List ℕ) (count k : ℕ) (t : Bytes) → count ≤ 128 → k < count → length t < 2 ^ 63 → Seeks job index count k t k t 0
-seek-start job index count k t f h s = record { few = f; row = h; small = s; keeps = refl; text = refl; inside = omega arith; front = λ n. refl }
+pub seek-start : (job : Bytes) (index : List ℕ) (count k : ℕ) (t : Bytes) (memo : List ℕ) → Sought job index count k t memo → Seeks job index count k t k t 0 memo
+seek-start job index count k t memo s = record { few = s .few; row = s .row; small = s .small; keeps = refl; text = refl; inside = omega arith; front = λ n. refl; known = s .known }
 
-module _ (job : Bytes) (index : List ℕ) (count k : ℕ) (whole : Bytes) (m : ℕ) (left : Bytes) (upto : ℕ) (inv : Seeks job index count k whole m left upto) where
-  pub seek-row : m ≤ 128
-  seek-row = omega (arith, inv .few, inv .row)
+module _ (job : Bytes) (index : List ℕ) (count k : ℕ) (whole : Bytes) (m : ℕ) (left : Bytes) (upto : ℕ) (memo : List ℕ) (inv : Seeks job index count k whole m left upto memo) where
+  pub seek-recalls : Recalls job index memo m
+  seek-recalls = record { row = omega (arith, inv .few, inv .row); known = inv .known }
 
   d : List Module
   d = modules job index count
@@ -181,12 +231,15 @@ module _ (job : Bytes) (index : List ℕ) (count k : ℕ) (whole : Bytes) (m : �
       go [] = rw e
       go (p ∷ ps) = rw e
 
-  module _ (mem : Bytes) (r : Down) (seen : DownSeen job index m mem left r) where
+  module _ (mem : Bytes) (r : Down) (memo′ : List ℕ) (step : StepSeen job index m mem left r memo′) where
+    seen : DownSeen job index m mem left r
+    seen = step .down
+
     pub seek-none : (z : Place) → z ≡ nowherePlace → r ≡ down.None → PlaceSeen job index count k whole z
     seek-none z q g = rw q (unseen (first-none (rw g at (seen .is))))
 
-    module _ (kind : Span) (conns : ℕ) (g : r ≡ down.Last kind conns) (p : Bytes) (ep : p ≡ spanned job kind) (row : ℕ) (rs : ModuleSeen job index count (moduleNamed (modules job index count) p) row) where
-      abbrev at-last : DownIs job index m mem left (down.Last kind conns)
+    module _ (at : ℕ) (kind : Span) (conns : ℕ) (g : r ≡ down.Last at kind conns) (p : Bytes) (ep : p ≡ spanned job kind) (row : ℕ) (rs : ModuleSeen job index count (moduleNamed (modules job index count) p) row) where
+      abbrev at-last : DownIs job index m mem left (down.Last at kind conns)
       at-last = rw g at (seen .is)
 
       whole-last : instanceAt (modules job index count) (moduleRow job index m) (parts left) ≡ onSome (rowIs job index row) none λ s. some (record { parent = moduleRow job index m; conns = connsIn (section job conns (insts-end index m)); sub = s })
@@ -210,8 +263,8 @@ module _ (job : Bytes) (index : List ℕ) (count k : ℕ) (whole : Bytes) (m : �
             front = λ e n. inv .front n ∙ ap (λ (l : List Bytes). take upto whole ++ belowParent (frontParts l) n) (at-last .0);
           }
 
-    module _ (kind : Span) (size : ℕ) (x : Ref) (g : r ≡ down.More kind size x) (p : Bytes) (ep : p ≡ spanned job kind) (row : ℕ) (rs : ModuleSeen job index count (moduleNamed (modules job index count) p) row) where
-      abbrev at-more : DownIs job index m mem left (down.More kind size x)
+    module _ (at : ℕ) (kind : Span) (size : ℕ) (x : Ref) (g : r ≡ down.More at kind size x) (p : Bytes) (ep : p ≡ spanned job kind) (row : ℕ) (rs : ModuleSeen job index count (moduleNamed (modules job index count) p) row) where
+      abbrev at-more : DownIs job index m mem left (down.More at kind size x)
       at-more = rw g at (seen .is)
 
       whole-more : instanceAt (modules job index count) (moduleRow job index m) (parts left) ≡ onSome (rowIs job index row) none λ m′. instanceAt (modules job index count) m′ (parts (textOf job mem x))
@@ -251,7 +304,7 @@ module _ (job : Bytes) (index : List ℕ) (count k : ℕ) (whole : Bytes) (m : �
       unfolding rowIs
       seek-stop z q h = rw q (unseen (whole-more ∙ rw h))
 
-      pub seek-on : (row ≡ 0 → ⊥) → Seeks job index count k whole (row - 1) (textOf job mem x) (upto + size + 1)
+      pub seek-on : (row ≡ 0 → ⊥) → Seeks job index count k whole (row - 1) (textOf job mem x) (upto + size + 1) memo′
       seek-on h =
           record {
             few = inv .few;
@@ -261,6 +314,7 @@ module _ (job : Bytes) (index : List ℕ) (count k : ℕ) (whole : Bytes) (m : �
             text = rw next-take (sym parted);
             inside = fits-in;
             front = λ n. inv .front n ∙ (ap (λ (l : List Bytes). take upto whole ++ belowParent (frontParts l) n) (at-more .0) ∙ (ap (λ (l : Bytes). take upto whole ++ l) (front-more (firstPart (parts left)) (textOf job mem x) n) ∙ rw (next-take, append-assoc, append-assoc)));
+            known = step .known;
           }
 
-pub ruleset seeks = (needs, seek-start, seek-row, seek-none, seek-lost, seek-found, seek-fits, seek-fits-on, seek-stop, seek-on)
+pub ruleset seeks = (needs, seek-start, seek-recalls, seek-none, seek-lost, seek-found, seek-fits, seek-fits-on, seek-stop, seek-on)

@@ -1,21 +1,20 @@
 -- An instance below a module, by the parts of a text: what isolation asks of it. Assumes nothing.
 use Prim.Native.Nat.{ℕ}
 use native.Mathlib.Omega.{arith}
-use mathlib.Core.Path.{_≡_, refl, sym, ap, _∙_}
-use mathlib.Core.List.{List, [], _∷_, _++_, map}
+use mathlib.Core.Path.{_≡_, refl, ap}
+use mathlib.Core.List.{List, [], _∷_, map}
 use mathlib.Core.Option.{Option, none, some}
 use lib.ListN.{length}
-use Rattle.text.specs.Ascii.{Bytes, ascii, byte}
+use Rattle.text.specs.Ascii.{Bytes, byte}
 use Rattle.joblines.specs.Job.{Conn, Inst, Module}
 use Rattle.design.specs.Lists.{onSome}
 use Rattle.design.specs.Lookup.{moduleNamed, instanceNamed, moduleAt}
-use Rattle.design.specs.Connections.{outputActual}
 use Rattle.design.specs.Ports.{outputPorts}
 use Rattle.design.specs.Paths.{parts}
 use Rattle.names.specs.Parts.{firstPart, others, parts-some}
 use Rattle.actual.specs.Nets.{actualOf}
 use Rattle.texts.specs.Setting.{Setting}
-use Rattle.texts.specs.Isolation.{Target, lastPart, frontParts, outputsOf, Resolved, belowParent, actualOf as resolvedBy, resolved}
+use Rattle.texts.specs.Isolation.{Target, lastPart, frontParts, outputsOf, Resolved, belowParent, resolved}
 
 -- its parent, its connections, its own module
 pub record Instance : Type 0 where

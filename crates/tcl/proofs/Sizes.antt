@@ -9,7 +9,9 @@ use lib.Seq.{length-take-le}
 use lib.Dec.{eqb, leb}
 use borrow.Author.Tests.{eqb-true, leb-false, leb-true, ne-eqb}
 use borrow.Author.Needs.{needs}
-use Rattle.tcl.specs.Join.{jointBy}
+use native.Mathlib.Nat.{add-zero}
+use lib.Seq.{getD-drop}
+use Rattle.tcl.specs.Join.{jointBy, joint}
 use Rattle.tcl.specs.Words.{depth, inside, kindOf, quoteSize, quoteState, sizeOf}
 use Rattle.text.specs.Scan.{before}
 use Rattle.tcl.specs.Machines.{span-le, word-kind}
@@ -82,3 +84,10 @@ joint-in s i x y z r e a b c h = go (eqb x (byte "\\")) (eqb y (byte "\n")) (eqb
     go true false true false p q f = omega arith
     go true false false w p q f = omega arith
     go false u v w p q f = omega arith
+
+-- no continuation begins with another byte than a backslash
+pub no-joint : (s : List ℕ) (i : ℕ) → (getD s i 0 ≡ byte "\\" → ⊥) → 0 ≡ joint (drop i s)
+unfolding jointBy
+no-joint s i h =
+    let e : getD (drop i s) 0 0 ≡ getD s i 0 = getD-drop i s 0 0 ∙ ap (λ (k : ℕ). getD s k 0) (add-zero i) in
+    rw (e, ne-eqb (getD s i 0) (byte "\\") h)

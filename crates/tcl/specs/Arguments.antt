@@ -1,11 +1,8 @@
 -- The arguments of a command: positional words, options and flags (document 01, "Files and commands"). Assumes nothing.
-use Prim.Native.Nat.{ℕ}
-use Prim.Native.String.{String}
 use mathlib.Core.Bool.{Bool, true, false, cond, not, _&&_, _||_}
 use mathlib.Core.List.{List, [], _∷_}
 use mathlib.Core.Option.{Option, none, some}
 use lib.Dec.{eqb}
-use lib.ListN.{drop}
 use Rattle.text.specs.Ascii.{Bytes, ascii, byte}
 use Rattle.text.specs.Classes.{isDigit}
 use Rattle.text.specs.Compare.{same}

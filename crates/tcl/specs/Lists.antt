@@ -4,7 +4,7 @@ use Rattle.text.specs.Ascii.{Bytes}
 use Rattle.tcl.specs.Words.{Word}
 use Rattle.tcl.specs.Join.{join}
 use Rattle.tcl.specs.Commands.{commands}
-use Rattle.tcl.specs.Substitution.{Variable, values}
+use Rattle.tcl.specs.Substitution.{values}
 
 unfoldable pub together : List (List Word) → List Word
 together [] = []

@@ -1,6 +1,6 @@
 -- Bytes rewritten piece by piece. Assumes nothing.
 use Prim.Native.Nat.{ℕ, zero, suc}
-use mathlib.Core.List.{List, [], _∷_, _++_}
+use mathlib.Core.List.{[], _∷_, _++_}
 use Rattle.text.specs.Ascii.{Bytes}
 
 -- `more` says how many bytes the piece at the head of a text has besides its first, and `to` what is written for that piece.

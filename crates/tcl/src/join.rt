@@ -24,6 +24,9 @@ pub fn joint(s: &[u8], i: usize) -> usize
     requires { ⌜ i < length (now s) ⌝ }
     ensures { λ r. ⌜ (r ≡ Join·joint (drop i (now (s .entry)))) × ((r ≤ 2) × (i + r < length (now (s .entry)))) ⌝ }
 {
+    if s[i] != b'\\' {
+        return 0;
+    }
     joint_by(peek(s, i), peek(s, i + 1), peek(s, i + 2))
 }
 

@@ -1,6 +1,6 @@
 -- What a call answered is what the way taken says of it. Assumes nothing.
 use Prim.Native.Nat.{ℕ}
-use mathlib.Core.Path.{_≡_, subst, sym, ap, _∙_}
+use mathlib.Core.Path.{_≡_, subst, ap, _∙_}
 use mathlib.Core.Bool.{Bool, true, false}
 use mathlib.Core.List.{List}
 use mathlib.Core.Option.{Option}
@@ -11,7 +11,6 @@ use Rattle.spans.specs.declared.span.Span.{Span}
 use Rattle.spans.specs.declared.span.Found.{Found}
 use Rattle.spans.specs.declared.span.Found.the-variants as found
 use Rattle.commands.specs.declared.next.Next.{Next}
-use Rattle.commands.specs.declared.next.Next.the-variants as next
 use Rattle.commands.specs.Stored.{NextOf}
 use Rattle.entries.specs.declared.item.Item.{Item}
 use Rattle.entries.specs.declared.item.Item.the-variants as item

@@ -1,8 +1,7 @@
 -- Byte strings compared: the same, one begins with another, one comes before another.
 -- Assumes nothing.
-use Prim.Native.Nat.{ℕ}
 use mathlib.Core.Bool.{Bool, true, false, cond, _&&_}
-use mathlib.Core.List.{List, [], _∷_}
+use mathlib.Core.List.{[], _∷_}
 use lib.ListN.{length, take}
 use lib.Dec.{eqb, ltb}
 use Rattle.text.specs.Ascii.{Bytes}

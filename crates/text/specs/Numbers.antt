@@ -1,8 +1,8 @@
 -- Decimal numbers: "decimal, no leading zero but for 0".
 -- Assumes nothing.
 use Prim.Native.Nat.{ℕ, _+_, _-_, _*_}
-use mathlib.Core.Bool.{Bool, true, false, cond, not, _&&_, _||_}
-use mathlib.Core.List.{List, [], _∷_}
+use mathlib.Core.Bool.{Bool, false, cond, not, _&&_, _||_}
+use mathlib.Core.List.{[], _∷_}
 use lib.Dec.{eqb, leb}
 use Rattle.text.specs.Ascii.{Bytes, byte}
 use Rattle.text.specs.Classes.{isDigit}

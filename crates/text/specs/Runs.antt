@@ -1,8 +1,8 @@
 -- Worked examples: each is computed from the definitions.
 -- Assumes nothing.
 use mathlib.Core.Path.{_≡_, refl}
-use mathlib.Core.Bool.{Bool, true, false}
-use mathlib.Core.List.{List, [], _∷_}
+use mathlib.Core.Bool.{true}
+use mathlib.Core.List.{[], _∷_}
 use Rattle.text.specs.Ascii.{ascii, byte}
 use Rattle.text.specs.Compare.{same, startsWith, less}
 use Rattle.text.specs.Scan.{before, upTo, all, splitAt}

@@ -1,7 +1,7 @@
 -- Laws: the walk below a scope other than the top is the walk as if the scope were the top, with the scope's path and a dot put before each path. Retained
 -- entries that are empty equal no path there.
 -- Assumes nothing.
-use Prim.Native.Nat.{ℕ, zero, suc, _+_, _≤_, _<_}
+use Prim.Native.Nat.{ℕ, zero, suc, _+_, _<_}
 use mathlib.Core.Path.{_≡_, refl, sym, ap, ap₂, _∙_}
 use mathlib.Core.Bool.{Bool, true, false, cond, not, _||_}
 use mathlib.Core.Option.{Option, none, some}
@@ -17,7 +17,7 @@ use Rattle.joblines.specs.Job.{Inst, Module}
 use Rattle.design.specs.Lists.{onSome, those, isIn, addNew, addAll}
 use Rattle.design.specs.Lookup.{instances, moduleAt}
 use Rattle.design.specs.Ports.{losable}
-use Rattle.design.specs.Paths.{childPath, scopePath, dotted, elementPath, retainedPath, filledParts}
+use Rattle.design.specs.Paths.{childPath, scopePath, dotted, elementPath, filledParts}
 use Rattle.design.specs.Losables.{named-mem, moduleAt-mem}
 use Rattle.walk.specs.Limits.{most-depth}
 use Rattle.walk.specs.Walk.{entered, own, corruptible, sumOver, modulesEntered, retainedPaths, elementList, domainList, elementEntered, domainEntered, pathBytes}

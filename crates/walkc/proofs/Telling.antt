@@ -1,6 +1,6 @@
 -- What the reader's answer is told as. Assumes nothing.
 use Prim.Native.Nat.{ℕ}
-use mathlib.Core.Path.{_≡_, sym, ap, _∙_}
+use mathlib.Core.Path.{_≡_, sym}
 use mathlib.Core.List.{List}
 use Rattle.text.specs.Ascii.{Bytes}
 use borrow.Author.Needs.{needs}

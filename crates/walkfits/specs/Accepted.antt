@@ -1,10 +1,10 @@
 -- Of an accepted job and its index: the names of instances have at most 64 bytes and are not empty, and the scope's module is one of its modules.
 -- Assumes nothing.
-use Prim.Native.Nat.{ℕ, zero, suc, _+_, _≤_, _<_}
-use mathlib.Core.Path.{_≡_, refl, sym, ap, subst, _∙_}
+use Prim.Native.Nat.{ℕ, _≤_, _<_}
+use mathlib.Core.Path.{_≡_, sym, ap, subst}
 use mathlib.Core.Bool.{true, _&&_}
-use mathlib.Core.List.{List, [], _∷_, _++_}
-use mathlib.Core.List.{List·Memᴰ as Mem, List·Memᴰ·head as here, Memᴰ·append-left as on-left, Memᴰ·append-right as on-right, Memᴰ·cast as cast}
+use mathlib.Core.List.{List, [], _∷_}
+use mathlib.Core.List.{List·Memᴰ as Mem}
 use native.Mathlib.Omega.{arith}
 use lib.Dec.{leb}
 use lib.ListN.{length}
@@ -12,10 +12,10 @@ use borrow.Author.Tests.{leb-true}
 use Rattle.text.specs.Ascii.{Bytes}
 use Rattle.text.specs.Classes.{opensName, inName}
 use Rattle.text.specs.Scan.{all}
-use Rattle.text.specs.Sames.{no-true, both}
+use Rattle.text.specs.Sames.{both}
 use Rattle.fields.specs.Limits.{most-name}
 use Rattle.fields.specs.Fields.{isName}
-use Rattle.joblines.specs.Job.{Inst, Module, Job}
+use Rattle.joblines.specs.Job.{Module, Job}
 use Rattle.joblines.specs.Parse.{accepted, parse}
 use Rattle.jobindex.specs.Index.{moduleRow, Indexed}
 use Rattle.jobindex.specs.declared.Header.{Header}

@@ -1,7 +1,7 @@
 -- The walk's answer, by the definitions with the real scope: it is a refusal exactly where `walkFits` is false; else the paths, with the scope's path put
 -- before each, are the domain's list.
 -- Assumes nothing.
-use Prim.Native.Nat.{ℕ, suc, _+_, _≤_, _<_}
+use Prim.Native.Nat.{ℕ, _+_, _<_}
 use mathlib.Core.Path.{_≡_, refl, sym, ap, ap₂, _∙_}
 use mathlib.Core.Bool.{Bool, true, false, not, _&&_}
 use mathlib.Core.List.{List, [], _∷_, map, List·Memᴰ as Mem}
@@ -18,7 +18,7 @@ use Rattle.walk.specs.Limits.{most-entered, most-paths, most-path-bytes}
 use Rattle.walk.specs.Walk.{sumOver, pathBytes, domainList, domainEntered, walkFits}
 use Rattle.walk.specs.Relative.{Filled, filledEntries, relative-list, relative-entered, relative-bytes}
 use Rattle.listing.specs.declared.Walk.{Walk}
-use Rattle.listing.specs.Listing.{pathsOf, cost, cut-length, Within, Ready, Answer}
+use Rattle.listing.specs.Listing.{pathsOf, cost, cut-length, Within, Answer}
 
 -- the limits as one test
 abbrev within : ℕ → ℕ → List Bytes → Bool

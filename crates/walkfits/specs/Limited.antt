@@ -1,9 +1,9 @@
 -- Of an accepted job and its index: a module loses at most 192 names, has at most 192 non-output ports and 64 instances, so the table of its modules can be made.
 -- Assumes nothing.
 use Prim.Native.Nat.{ℕ, suc, _+_, _≤_, _<_}
-use mathlib.Core.Path.{_≡_, refl, sym, ap, _∙_}
+use mathlib.Core.Path.{_≡_, refl, ap}
 use mathlib.Core.Bool.{Bool, true, false, cond, not, _&&_}
-use mathlib.Core.List.{List, [], _∷_, _++_, map, flatMap}
+use mathlib.Core.List.{List, [], _∷_, _++_, flatMap}
 use mathlib.Core.List.{List·Memᴰ as Mem, List·Memᴰ·head as here, List·Memᴰ·tail as there}
 use native.Mathlib.Omega.{arith}
 use lib.ListN.{length, length-append, length-map}

@@ -1,7 +1,5 @@
-use Prim.Native.Nat.{_+_, _≤_, _-_}
-use mathlib.Core.Path.{_≡_}
+use Prim.Native.Nat.{_+_, _-_}
 use mathlib.Core.List.{_++_}
-use lib.ListN.{length, drop}
 use Rattle.refs.specs.Text.{textOf}
 use Rattle.actual.proofs.Turns.{Deciding, decisions}
 use Rattle.actual.proofs.output_actual.Statement.{statement}

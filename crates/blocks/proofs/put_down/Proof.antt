@@ -2,7 +2,7 @@
 use mathlib.Core.Path.{_∙_}
 use Rattle.blocks.proofs.Pieces.{down-pieces}
 use borrow.Author.Needs.{needs}
-use Rattle.out.specs.Emit.{Wrote, wrote, _then_, kept}
+use Rattle.out.specs.Emit.{wrote, _then_, kept}
 use Rattle.blocks.proofs.put_down.Statement.{statement}
 use Rattle.blocks.proofs.put_down.Tie as tie
 

@@ -2,7 +2,7 @@
 use mathlib.Core.Path.{_∙_}
 use Rattle.blocks.proofs.Pieces.{initial-pieces}
 use borrow.Author.Needs.{needs}
-use Rattle.out.specs.Emit.{Wrote, wrote, _then_, kept}
+use Rattle.out.specs.Emit.{wrote, _then_, kept}
 use Rattle.blocks.proofs.put_initial.Statement.{statement}
 use Rattle.blocks.proofs.put_initial.Tie as tie
 

@@ -1,9 +1,7 @@
 -- `checks::checks` meets its contract: those of the ports from row k on are sorted. Assumes nothing.
 use mathlib.Core.List.{_++_}
 use Rattle.checks.proofs.Loops.{Gathers, gather-start, gather-row, gather-number, gather-adds, gather-other, gather-one, gather-skip, gathers}
-use Prim.Native.Nat.{_+_, _≤_, _-_}
-use mathlib.Core.Path.{_≡_}
-use lib.ListN.{length, drop}
+use Prim.Native.Nat.{_+_, _-_}
 use borrow.Author.Needs.{needs}
 use Rattle.checks.proofs.checks.Statement.{statement}
 use Rattle.checks.proofs.checks.Tie as tie

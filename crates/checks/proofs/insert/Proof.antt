@@ -1,5 +1,4 @@
 -- `checks::insert` meets its contract: i numbers stand before one free place, the others behind it. Assumes nothing.
-use borrow.Author.Needs.{needs}
 use lib.ListN.{length-set}
 use Rattle.checks.proofs.Inserts.{Moves, moves-start, moves}
 use Rattle.checks.proofs.insert.Statement.{statement}

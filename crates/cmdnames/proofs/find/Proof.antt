@@ -1,7 +1,5 @@
 -- `cmdnames::find` meets its contract: the names passed are not the word. Assumes nothing.
-use Prim.Native.Nat.{_+_, _≤_, _-_}
-use mathlib.Core.Path.{_≡_}
-use lib.ListN.{length, drop}
+use Prim.Native.Nat.{_+_, _-_}
 use mathlib.Core.List.{_++_}
 use Rattle.spans.specs.Span.{bytes}
 use Rattle.cmdnames.proofs.Finds.{Left, finds}

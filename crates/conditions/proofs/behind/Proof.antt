@@ -1,8 +1,6 @@
 -- `conditions::behind` meets its contract: what is left is the answer. Assumes nothing.
-use Prim.Native.Nat.{_+_, _≤_, _-_}
-use mathlib.Core.Path.{_≡_}
-use lib.ListN.{length, drop}
-use borrow.Author.Needs.{needs}
+use Prim.Native.Nat.{_+_, _-_}
+use lib.ListN.{drop}
 use mathlib.Core.List.{_++_}
 use Rattle.names.specs.Name.{nameOf}
 use Rattle.conditions.proofs.Words.{Drops, drops}

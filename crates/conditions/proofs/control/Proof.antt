@@ -1,8 +1,5 @@
 -- `conditions::control` meets its contract: the ports that are left, behind what was found, have the answer. Assumes nothing.
-use Prim.Native.Nat.{_+_, _≤_, _-_}
-use mathlib.Core.Path.{_≡_}
-use lib.ListN.{length, drop}
-use borrow.Author.Needs.{needs}
+use Prim.Native.Nat.{_+_, _-_}
 use mathlib.Core.List.{_++_}
 use Rattle.refs.specs.Text.{textOf}
 use Rattle.conditions.proofs.Words.{Controls, controls}

@@ -1,8 +1,6 @@
 -- `conditions::is_number` meets its contract: what is left has the answer. Assumes nothing.
-use Prim.Native.Nat.{_+_, _≤_, _-_}
-use mathlib.Core.Path.{_≡_}
-use lib.ListN.{length, drop, take}
-use borrow.Author.Needs.{needs}
+use Prim.Native.Nat.{_+_, _-_}
+use lib.ListN.{take}
 use mathlib.Core.List.{_++_}
 use Rattle.text.specs.Classes.{isDigit}
 use Rattle.text.specs.Scan.{all}

@@ -1,7 +1,7 @@
 -- `conditions::put_condition` meets its contract: what is left of the condition is written behind what was. Assumes nothing.
-use Prim.Native.Nat.{_+_, _≤_, _-_}
+use Prim.Native.Nat.{_+_, _-_}
 use mathlib.Core.Path.{_≡_, refl}
-use lib.ListN.{length, drop}
+use lib.ListN.{length}
 use borrow.Author.Needs.{needs}
 use mathlib.Core.List.{_++_}
 use Rattle.out.specs.Emit.{emit, _▸_}

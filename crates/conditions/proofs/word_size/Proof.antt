@@ -1,8 +1,6 @@
 -- `conditions::word_size` meets its contract: what was passed and the word that is left are the word. Assumes nothing.
-use Prim.Native.Nat.{_+_, _≤_, _-_}
-use mathlib.Core.Path.{_≡_}
-use lib.ListN.{length, drop}
-use borrow.Author.Needs.{needs}
+use Prim.Native.Nat.{_+_, _-_}
+use lib.ListN.{length}
 use mathlib.Core.List.{_++_}
 use Rattle.names.specs.Name.{nameOf}
 use Rattle.text.specs.Scan.{before}

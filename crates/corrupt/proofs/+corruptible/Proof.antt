@@ -2,14 +2,14 @@
 use mathlib.Core.Path.{_≡_, _∙_}
 use mathlib.Core.List.{[], _++_}
 use native.Mathlib.Omega.{arith}
-use lib.ListN.{length, drop}
+use lib.ListN.{length}
 use borrow.Author.Needs.{needs}
 use Rattle.nametable.specs.Table.{tableNames}
 use Rattle.design.specs.Lists.{addAll}
 use Rattle.paths.specs.Pieces.{entriesBelow}
 use Rattle.listing.specs.Listing.{pathsOf}
 use Rattle.corrupt.proofs.Rounds.{Round, row-visits, row-lists, own-given, module-row, walk-full, walk-last, walk-done, round-start, round-row, round-low, round-fits, round-long, round-given, round-stop, round-front, round-on, round-end, retaineds, rooms}
-use Prim.Native.Nat.{ℕ, _<_, _+_, _≤_, _-_}
+use Prim.Native.Nat.{ℕ, _<_, _+_, _-_}
 use borrow.Fn.Kinds.{In}
 use borrow.Fn.PlainCycle.{Measures, is, falls, and}
 use Rattle.corrupt.proofs.corruptible.Reads as self

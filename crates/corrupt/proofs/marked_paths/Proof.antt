@@ -1,16 +1,16 @@
 -- `corrupt::marked_paths` meets its contract: the domain is what was listed so far and what the elements left come to. Assumes nothing.
-use Prim.Native.Nat.{_+_, _≤_, _-_}
+use Prim.Native.Nat.{_+_, _-_}
 use mathlib.Core.Path.{_≡_, _∙_, refl}
 use mathlib.Core.List.{[], _++_}
 use native.Mathlib.Omega.{arith}
-use lib.ListN.{length, drop}
+use lib.ListN.{length}
 use borrow.Author.Needs.{needs}
 use Rattle.jobindex.specs.Index.{moduleRow}
 use Rattle.lookup.specs.Rows.{modules}
 use Rattle.nametable.specs.Table.{tableNames}
 use Rattle.walk.specs.Walk.{domainList, domainEntered}
 use Rattle.paths.specs.Pieces.{entriesBelow}
-use Rattle.corrupt.proofs.Domain.{Elements, elements-start, elements-end, element-row, element-given, element-fits, elements-pass, element-small, element-walk, elements-stop, elements-on}
+use Rattle.corrupt.proofs.Domain.{Elements, elements-start, elements-end, element-row, element-given, element-fits, elements-pass, element-walk, elements-stop, elements-on}
 use Rattle.corrupt.proofs.marked_paths.Statement.{statement}
 use Rattle.corrupt.proofs.marked_paths.Tie as tie
 

@@ -1,7 +1,7 @@
 -- `corrupt::own` meets its contract: the names from i on are left. Assumes nothing.
-use Prim.Native.Nat.{_+_, _≤_, _-_}
+use Prim.Native.Nat.{_+_, _-_}
 use mathlib.Core.Path.{_≡_, _∙_}
-use lib.ListN.{length, drop}
+use lib.ListN.{length}
 use mathlib.Core.List.{_++_, map}
 use Rattle.names.specs.Name.{nameOf}
 use Rattle.design.specs.Lists.{addAll}

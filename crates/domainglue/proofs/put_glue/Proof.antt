@@ -1,6 +1,6 @@
 -- `domainglue::put_glue` meets its contract. Assumes nothing.
 use borrow.Author.Needs.{needs}
-use Rattle.out.specs.Emit.{Wrote, wrote, _then_, kept}
+use Rattle.out.specs.Emit.{wrote, _then_, kept}
 use Rattle.domainglue.proofs.put_glue.Statement.{statement}
 use Rattle.domainglue.proofs.put_glue.Tie as tie
 

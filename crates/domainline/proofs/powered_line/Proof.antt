@@ -1,6 +1,6 @@
 -- `domainline::powered_line` meets its contract. Assumes nothing.
 use borrow.Author.Needs.{needs}
-use Rattle.out.specs.Emit.{Wrote, wrote, _then_, kept}
+use Rattle.out.specs.Emit.{wrote, _then_, kept}
 use Rattle.domainline.proofs.powered_line.Statement.{statement}
 use Rattle.domainline.proofs.powered_line.Tie as tie
 

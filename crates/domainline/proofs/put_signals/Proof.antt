@@ -2,7 +2,7 @@
 use mathlib.Core.Path.{_∙_}
 use Rattle.domainline.proofs.Written.{signals-pieces}
 use borrow.Author.Needs.{needs}
-use Rattle.out.specs.Emit.{Wrote, wrote, _then_, kept}
+use Rattle.out.specs.Emit.{wrote, _then_, kept}
 use Rattle.domainline.proofs.put_signals.Statement.{statement}
 use Rattle.domainline.proofs.put_signals.Tie as tie
 

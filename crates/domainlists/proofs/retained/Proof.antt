@@ -4,7 +4,7 @@ use mathlib.Core.Path.{_≡_, refl}
 use mathlib.Core.List.{_++_}
 use lib.ListN.{length}
 use borrow.Author.Needs.{needs}
-use Rattle.domainlists.proofs.Tables.{All, all-start, all-step, all-rooms, all-done, alls}
+use Rattle.domainlists.proofs.Tables.{All, all-start, all-step, all-rooms, alls}
 use Rattle.domainlists.proofs.retained.Statement.{statement}
 use Rattle.domainlists.proofs.retained.Tie as tie
 

@@ -4,7 +4,7 @@ use mathlib.Core.Path.{_≡_, refl}
 use mathlib.Core.List.{_++_}
 use lib.ListN.{length}
 use borrow.Author.Needs.{needs}
-use Rattle.domainlists.proofs.Tables.{Own, own-start, own-step, own-other, own-rooms, own-done, owns}
+use Rattle.domainlists.proofs.Tables.{Own, own-start, own-step, own-other, own-rooms, owns}
 use Rattle.domainlists.proofs.retained_of.Statement.{statement}
 use Rattle.domainlists.proofs.retained_of.Tie as tie
 

@@ -8,7 +8,7 @@ pub powered-line-spec : {M : Type 1} → statement M
 powered-line-spec =
     tie.close
     (tie.spec
-    (λ c κs. search needs)  -- name-of-requires
+    (λ c κs. search needs)  -- stored-requires
     (λ c κs. search needs)  -- powered-line-requires
     (λ c. search needs)  -- same-length
     (λ c. search line-without)  -- returns

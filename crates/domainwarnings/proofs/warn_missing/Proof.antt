@@ -11,7 +11,7 @@ warn-missing-spec =
     (λ c κs. search needs)  -- element-module-requires
     (λ c. search told-none)  -- returns
     (λ c. search needs)  -- slice-aggregate-fill2
-    (λ c κs. search needs)  -- name-of-requires
+    (λ c κs. search needs)  -- stored-requires
     (λ c κs. search needs)  -- fill2-requires
     (λ c. search needs)  -- add-t20
     (λ c. search needs)  -- same-length

@@ -1,6 +1,7 @@
 -- `elements::element_module` meets its contract: the memo is empty at first. Assumes nothing.
-use Rattle.elements.proofs.Turns.{known-none, goings}
 use borrow.Author.Needs.{needs}
+use Rattle.memo.specs.Known.{known-none}
+use Rattle.elements.proofs.Turns.{goings}
 use Rattle.elements.proofs.element_module.Statement.{statement}
 use Rattle.elements.proofs.element_module.Tie as tie
 

@@ -1,6 +1,6 @@
-use Prim.Native.Nat.{_+_, _≤_, _-_}
+use Prim.Native.Nat.{_-_}
 use mathlib.Core.Path.{_≡_}
-use lib.ListN.{length, drop}
+use lib.ListN.{length}
 use Rattle.out.specs.Emit.{_▸_, emit}
 use Rattle.out.specs.Items.{joined}
 use Rattle.search.specs.Found.{wayFrom}

@@ -1,6 +1,5 @@
 -- `joined::join_files` meets its contract. Assumes nothing.
-use Prim.Native.Nat.{_+_, _≤_, _-_}
-use mathlib.Core.Path.{_≡_}
+use Prim.Native.Nat.{_-_}
 use lib.ListN.{length-set}
 use native.Mathlib.Omega.{arith}
 use Rattle.joined.proofs.Turns.{Going, size-more, going-more, turns}

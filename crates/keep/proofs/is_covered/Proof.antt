@@ -2,9 +2,7 @@
 use mathlib.Core.List.{_++_}
 use Rattle.refs.specs.Text.{textOf}
 use Rattle.keep.proofs.Aims.{Seeks, seek-start, seek-here, seek-on, seek-other, row-few, row-more, row-left, seeks}
-use Prim.Native.Nat.{_+_, _≤_, _-_}
-use mathlib.Core.Path.{_≡_}
-use lib.ListN.{length, drop}
+use Prim.Native.Nat.{_+_, _-_}
 use borrow.Author.Needs.{needs}
 use Rattle.keep.proofs.is_covered.Statement.{statement}
 use Rattle.keep.proofs.is_covered.Tie as tie

@@ -1,6 +1,6 @@
 -- `leaves::leaves_number` meets its contract. Assumes nothing.
 use Prim.Native.Nat.{ℕ}
-use mathlib.Core.Path.{_≡_, refl, sym, ap, _∙_}
+use mathlib.Core.Path.{_≡_, sym, ap, _∙_}
 use borrow.Author.Needs.{needs}
 use Rattle.text.specs.declared.number.Num.{Num}
 use Rattle.text.specs.declared.number.Num.the-variants.{Of, Bad}

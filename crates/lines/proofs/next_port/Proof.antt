@@ -1,9 +1,8 @@
 use Rattle.joblines.specs.Sections.{portsIn}
 use Rattle.jobindex.specs.Index.{section}
 use Rattle.lines.specs.Steps.{Passed}
-use Prim.Native.Nat.{_+_, _≤_, _-_}
+use Prim.Native.Nat.{_-_}
 use mathlib.Core.Path.{_≡_}
-use lib.ListN.{length, drop}
 use Rattle.lines.proofs.Turns.{portTurns}
 use Rattle.lines.proofs.next_port.Statement.{statement}
 use Rattle.lines.proofs.next_port.Tie as tie

@@ -1,7 +1,5 @@
 -- `listing::listed` meets its contract: whether the path is one of the rows left. Assumes nothing.
-use Prim.Native.Nat.{_+_, _≤_, _-_}
-use mathlib.Core.Path.{_≡_}
-use lib.ListN.{length, drop}
+use Prim.Native.Nat.{_+_, _-_}
 use mathlib.Core.List.{_++_}
 use Rattle.names.specs.Name.{nameOf}
 use Rattle.design.specs.Lists.{isIn}

@@ -14,7 +14,7 @@ nth-spec =
     (λ c κs. search needs)  -- alone-requires
     (λ c. search needs)  -- enum-known-s
     (λ c κs. let x = c .before .before .before .before .before .before .before .args in search (inside-whole (x .files .now) (x .area .now)))  -- inside-requires
-    (λ c κs. search needs)  -- form-requires
+    (λ c κs. search needs)  -- form-in-requires
     (λ c κs. search needs)  -- alone-requires-2
     (λ c. search nth-missing)  -- returns
     (λ c. search nth-there))  -- returns-2

@@ -14,7 +14,7 @@ nth-below-spec =
     (λ c κs. search needs)  -- alone-requires
     (λ c. search needs)  -- enum-known-s
     (λ c κs. let x = c .before .before .before .before .before .before .before .args in search (inside-whole (x .files .now) (x .area .now)))  -- inside-requires
-    (λ c κs. search needs)  -- form-requires
+    (λ c κs. search needs)  -- form-in-requires
     (λ c κs. search needs)  -- scoped-requires
     (λ c. search below-missing)  -- returns
     (λ c. search below-there))  -- returns-2

@@ -29,9 +29,9 @@ put-below-spec =
     (λ c. search below-end)  -- returns
     (λ c. search needs)  -- enum-known-s
     (λ c κs. search inside-small)  -- inside-requires
-    (λ c κs. search needs)  -- form-requires
+    (λ c κs. search needs)  -- form-in-requires
     (λ c κs. search needs)  -- scoped-requires
     (λ c κs. search (row-few, row-room, stores-made))  -- put-row-requires
-    (λ c. search row-more)  -- add-k
+    (λ c. search (row-more, c .before .before .before .before .before .before .before .before .before .before .before .loop .inv, c .before .before .before .before .before .before .before .before .before .before .before .before .before .before .before .before .pre))  -- add-k
     (λ c. search entry-less)  -- loop-less
-    (λ c. search below-step))  -- loop-again
+    (λ c. search (below-step, c .before .before .before .before .before .before .before .before .before .before .before .before .before .before .before .before .pre, c .before .before .before .before .before .before .before .before .before .before .before .loop .inv, c .before .before .before .before .before .before .before .before .before .before .next-entry .ensures, c .before .before .before .before .before .before .inside .ensures, c .before .before .before .before .before .form-in .ensures, c .before .before .before .before .scoped .ensures, c .before .before .put-row .ensures)))  -- loop-again

@@ -28,7 +28,7 @@ put-entries-spec =
     (λ c. search plain-end)  -- returns
     (λ c. search needs)  -- enum-known-s
     (λ c κs. search inside-small)  -- inside-requires
-    (λ c κs. search needs)  -- form-requires
+    (λ c κs. search needs)  -- form-in-requires
     (λ c κs. search needs)  -- alone-requires
     (λ c κs. search (row-few, row-room, stores-alone))  -- put-row-requires
     (λ c. search row-more)  -- add-k

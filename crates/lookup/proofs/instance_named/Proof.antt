@@ -1,9 +1,8 @@
 use Rattle.jobindex.specs.Index.{moduleRow}
 use Rattle.design.specs.Lookup.{instanceNamed}
 use Rattle.lookup.proofs.Turns.{namedIn}
-use Prim.Native.Nat.{_+_, _≤_, _-_}
+use Prim.Native.Nat.{_-_}
 use mathlib.Core.Path.{_≡_}
-use lib.ListN.{length, drop}
 use Rattle.lookup.proofs.Turns.{instTurns}
 use Rattle.lookup.proofs.instance_named.Statement.{statement}
 use Rattle.lookup.proofs.instance_named.Tie as tie

@@ -1,8 +1,8 @@
 use Rattle.design.specs.Lookup.{moduleNamed}
 use Rattle.lookup.specs.Rows.{modules}
-use Prim.Native.Nat.{_+_, _≤_, _-_}
+use Prim.Native.Nat.{_≤_, _-_}
 use mathlib.Core.Path.{_≡_}
-use lib.ListN.{length, drop}
+use lib.ListN.{drop}
 use Rattle.lookup.proofs.Turns.{moduleTurns}
 use Rattle.lookup.proofs.module_named.Statement.{statement}
 use Rattle.lookup.proofs.module_named.Tie as tie

@@ -2,7 +2,7 @@
 use mathlib.Core.Path.{_∙_}
 use Rattle.pathlines.proofs.Writes.{line-is}
 use borrow.Author.Needs.{needs}
-use Rattle.out.specs.Emit.{Wrote, wrote, _then_, kept}
+use Rattle.out.specs.Emit.{wrote, _then_, kept}
 use Rattle.pathlines.proofs.put_line.Statement.{statement}
 use Rattle.pathlines.proofs.put_line.Tie as tie
 

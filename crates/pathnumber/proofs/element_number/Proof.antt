@@ -1,7 +1,6 @@
 -- `pathnumber::element_number` meets its contract: the number so far, with what is left behind it, is the number of all. Assumes nothing.
-use Prim.Native.Nat.{_+_, _≤_, _-_}
-use mathlib.Core.Path.{_≡_}
-use lib.ListN.{length, drop}
+use Prim.Native.Nat.{_+_, _-_}
+use lib.ListN.{length}
 use mathlib.Core.List.{_++_}
 use Rattle.names.specs.Name.{nameOf}
 use Rattle.design.specs.Paths.{dotted}

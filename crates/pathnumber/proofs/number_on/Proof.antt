@@ -1,7 +1,6 @@
 -- `pathnumber::number_on` meets its contract: the number so far, with what is left behind it, is the number of all. Assumes nothing.
-use Prim.Native.Nat.{_+_, _≤_, _-_}
-use mathlib.Core.Path.{_≡_}
-use lib.ListN.{length, drop}
+use Prim.Native.Nat.{_-_}
+use lib.ListN.{length}
 use Rattle.pathnumber.specs.Number.{number}
 use Rattle.pathnumber.proofs.Numbers.{Numbers, numbers}
 use Rattle.pathnumber.proofs.number_on.Statement.{statement}

@@ -1,6 +1,4 @@
-use Prim.Native.Nat.{_+_, _≤_, _-_}
-use mathlib.Core.Path.{_≡_}
-use lib.ListN.{length, drop}
+use Prim.Native.Nat.{_-_}
 use Rattle.ports.proofs.Turns.{Going, freshTurns, freshHeads, freshBodies}
 use Rattle.ports.proofs.next_fresh.Statement.{statement}
 use Rattle.ports.proofs.next_fresh.Tie as tie

@@ -6,10 +6,10 @@ use Rattle.scope.specs.Parts.{parts}
 use Rattle.isolated.specs.Table.{keptIn}
 use Rattle.alike.specs.Strategies.{strategyAt}
 use Rattle.processes.specs.Ports.{portsText}
-use Rattle.processes.proofs.Written.{Writes, writes-start, writes-row, writes-number, writes-numbered, writes-clamp, writes-one, writes-other, writes-skip, writes}
-use Prim.Native.Nat.{_+_, _≤_, _-_}
+use Rattle.processes.proofs.Written.{Writes, writes-start, writes-row, writes-numbered, writes-clamp, writes-one, writes-other, writes-skip, writes}
+use Prim.Native.Nat.{_+_, _-_}
 use mathlib.Core.Path.{_≡_}
-use lib.ListN.{length, drop}
+use lib.ListN.{length}
 use borrow.Author.Needs.{needs}
 use Rattle.processes.proofs.each_port.Statement.{statement}
 use Rattle.processes.proofs.each_port.Tie as tie
@@ -51,7 +51,7 @@ port-at-requires : tie.Need-port-at-requires Inv-loop μ-loop
 port-at-requires c κs = writes-row _ _ _ _ _ _ _ _ _ _ _ _ _ (c .before .before .before .before .before .before .loop .inv .1) (c .before .before .before .before .before .loop-test .taken)
 
 put-port-requires : tie.Need-put-port-requires Inv-loop μ-loop
-put-port-requires c κs = (c .before .before .before .before .before .before .before .before .loop .inv .1 .template, (writes-number _ _ _ _ _ _ _ _ _ _ _ _ _ (c .before .before .before .before .before .before .before .before .loop .inv .1) (c .before .before .before .before .before .before .before .loop-test .taken) _ (c .before .port-at .ensures), writes-clamp _ _ _ _ _ _ _ _ _ _ _ _ _ (c .before .before .before .before .before .before .before .before .loop .inv .1) (c .before .before .before .before .before .before .before .loop-test .taken) _ (c .before .port-at .ensures)))
+put-port-requires c κs = (c .before .before .before .before .before .before .before .before .loop .inv .1 .template, writes-clamp _ _ _ _ _ _ _ _ _ _ _ _ _ (c .before .before .before .before .before .before .before .before .loop .inv .1) (c .before .before .before .before .before .before .before .loop-test .taken) _ (c .before .before .before .before .before .before .strategy-at .ensures))
 
 add-k-3 : tie.Need-add-k-3 Inv-loop μ-loop
 add-k-3 c = search writes

@@ -3,9 +3,7 @@ use mathlib.Core.List.{_++_}
 use Rattle.alike.specs.Strategies.{strategyAt}
 use Rattle.alike.specs.Ruled.{row-small}
 use Rattle.processes.proofs.Led.{Seeks, number-small, seek-start, seek-skip, seek-here, seek-on, seeks}
-use Prim.Native.Nat.{_+_, _≤_, _-_}
-use mathlib.Core.Path.{_≡_}
-use lib.ListN.{length, drop}
+use Prim.Native.Nat.{_+_, _-_}
 use borrow.Author.Needs.{needs}
 use Rattle.processes.proofs.is_led.Statement.{statement}
 use Rattle.processes.proofs.is_led.Tie as tie

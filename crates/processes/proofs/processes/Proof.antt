@@ -8,9 +8,9 @@ use Rattle.isolated.specs.Table.{keptIn}
 use Rattle.alike.specs.Strategies.{strategyAt}
 use Rattle.alike.specs.Shown.{shown}
 use Rattle.processes.proofs.Texts.{Leads, leads-start, leads-row, leads-front, leads-number, leads-one, leads-other, leads-skip, leads}
-use Prim.Native.Nat.{_+_, _≤_, _-_}
+use Prim.Native.Nat.{_+_, _-_}
 use mathlib.Core.Path.{_≡_}
-use lib.ListN.{length, drop}
+use lib.ListN.{length}
 use borrow.Author.Needs.{needs}
 use Rattle.processes.proofs.processes.Statement.{statement}
 use Rattle.processes.proofs.processes.Tie as tie

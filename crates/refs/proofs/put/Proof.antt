@@ -8,9 +8,12 @@ pub put-spec : {M : Type 1} → statement M
 put-spec =
     tie.close
     (tie.spec
-    (λ c κs. search needs)  -- put-stream-requires
+    (λ c κs. search needs)  -- put-plain-requires
     (λ c. search needs)  -- same-length
-    (λ c. search needs)  -- returns
-    (λ c κs. search written)  -- put-plain-requires
+    (λ c. search written)  -- returns
+    (λ c κs. search needs)  -- put-plain-requires-2
     (λ c. search needs)  -- same-length-2
-    (λ c. search written))  -- returns-2
+    (λ c. search written)  -- returns-2
+    (λ c κs. search needs)  -- put-stream-requires
+    (λ c. search needs)  -- same-length-3
+    (λ c. search needs))  -- returns-3

@@ -2,7 +2,7 @@
 use mathlib.Core.Path.{_∙_}
 use Rattle.reportlines.proofs.Head.{scope-pieces}
 use borrow.Author.Needs.{needs}
-use Rattle.out.specs.Emit.{Wrote, wrote, _then_, kept}
+use Rattle.out.specs.Emit.{wrote, _then_, kept}
 use Rattle.reportlines.proofs.scope_line.Statement.{statement}
 use Rattle.reportlines.proofs.scope_line.Tie as tie
 

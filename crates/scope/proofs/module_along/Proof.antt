@@ -1,6 +1,5 @@
-use Prim.Native.Nat.{_+_, _≤_, _-_}
-use mathlib.Core.Path.{_≡_}
-use lib.ListN.{length, drop}
+use Prim.Native.Nat.{_-_}
+use lib.ListN.{length}
 use Rattle.scope.proofs.Turns.{Along, alongs}
 use Rattle.scope.proofs.module_along.Statement.{statement}
 use Rattle.scope.proofs.module_along.Tie as tie

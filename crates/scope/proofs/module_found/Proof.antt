@@ -1,6 +1,4 @@
-use Prim.Native.Nat.{_+_, _≤_, _-_}
-use mathlib.Core.Path.{_≡_}
-use lib.ListN.{length, drop}
+use Prim.Native.Nat.{_-_}
 use Rattle.scope.proofs.Turns.{Way, wayTurns}
 use Rattle.scope.proofs.module_found.Statement.{statement}
 use Rattle.scope.proofs.module_found.Tie as tie

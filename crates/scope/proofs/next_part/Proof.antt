@@ -1,7 +1,7 @@
 use Rattle.scope.specs.Parts.{parts}
-use Prim.Native.Nat.{_+_, _≤_, _-_}
+use Prim.Native.Nat.{_≤_, _-_}
 use mathlib.Core.Path.{_≡_}
-use lib.ListN.{length, drop}
+use lib.ListN.{length}
 use Rattle.scope.proofs.Turns.{partTurns}
 use Rattle.scope.proofs.next_part.Statement.{statement}
 use Rattle.scope.proofs.next_part.Tie as tie

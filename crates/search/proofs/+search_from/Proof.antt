@@ -1,8 +1,6 @@
-use mathlib.Core.Path.{_≡_}
-use lib.ListN.{length, drop}
 use Rattle.search.proofs.Turns.{Left, starts, ends, turns, founds, overs, belows}
 use borrow.Author.Needs.{needs}
-use Prim.Native.Nat.{ℕ, _<_, _+_, _≤_, _-_}
+use Prim.Native.Nat.{ℕ, _<_, _+_, _-_}
 use borrow.Fn.Kinds.{In}
 use borrow.Fn.PlainCycle.{Measures, is, falls, and}
 use Rattle.search.proofs.search_from.Reads as self

@@ -1,6 +1,5 @@
 -- `statecmds::create_power_switch` meets its contract. Assumes nothing.
 use mathlib.Core.List.{_++_}
-use lib.ListN.{length}
 use Rattle.text.specs.Ascii.{ascii}
 use Rattle.spans.specs.Span.{bytes, pairAt}
 use Rattle.args.specs.View.{wordsFrom}
@@ -13,42 +12,38 @@ use Rattle.statecmds.proofs.create_power_switch.Tie as tie
 
 returns : tie.Need-returns
 returns c =
-    let a = c .before .before .before .before .before .before .before .args in
-    switch-full (length (a .files .now)) (a .files .now ++ a .area .now) (a .words .now) (a .n) (a .nums .now) (a .s) (ascii "-on_state") (ascii "-off_state") (c .before .before .before .before .before .before .before .pre) (c .full .result) (c .before .if1 .taken) (c .full .ensures)
+    let a = c .before .before .before .before .before .before .args in
+    switch-full (a .files .now) (a .area .now) (a .words .now) (a .n) (a .nums .now) (a .b) (ascii "-on_state") (ascii "-off_state") (c .before .before .before .before .before .before .pre) (c .if1 .taken)
 
 put-states-requires : tie.Need-put-states-requires
 put-states-requires c κs =
-    let a = c .before .before .before .before .before .before .before .before .before .before .before .args in
-    switch-room (length (a .files .now)) (a .files .now ++ a .area .now) (a .words .now) (a .n) (a .nums .now) (a .s) (ascii "-on_state") (ascii "-off_state") (c .before .before .before .before .before .before .before .before .before .before .before .pre) (c .before .before .before .before .before .if1 .left)
+    let a = c .before .before .before .before .before .before .before .before .before .before .args in
+    switch-room (a .files .now ++ a .area .now) (a .words .now) (a .n) (a .nums .now) (a .b) (ascii "-on_state") (ascii "-off_state") (c .before .before .before .before .before .before .before .before .before .before .pre) (c .before .before .before .before .if1 .left)
 
 put-states-requires-2 : tie.Need-put-states-requires-2
 put-states-requires-2 c κs =
-    let a = c .before .before .before .before .before .before .before .before .before .before .before .before .before .before .before .before .before .args in
-    switch-room-2 (length (a .files .now)) (a .files .now ++ a .area .now) (a .words .now) (a .n) (a .nums .now) (a .s) (ascii "-on_state") (ascii "-off_state") (c .before .before .before .before .before .before .before .before .before .before .before .before .before .before .before .before .before .pre) _ _ (c .before .before .before .before .before .put-states .ensures) (c .before .before .before .before .before .before .before .before .before .before .before .if1 .left)
+    let a = c .before .before .before .before .before .before .before .before .before .before .before .before .before .before .before .before .args in
+    switch-room-2 (a .files .now ++ a .area .now) (a .words .now) (a .n) (a .nums .now) (a .b) (ascii "-on_state") (ascii "-off_state") (c .before .before .before .before .before .before .before .before .before .before .before .before .before .before .before .before .pre) _ _ (c .before .before .before .before .before .put-states .ensures) (c .before .before .before .before .before .before .before .before .before .before .if1 .left)
 
 switch-requires : tie.Need-switch-requires
 switch-requires c κs =
-    let a = c .before .before .before .before .before .before .before .before .before .before .before .before .before .before .before .before .before .before .before .before .args in
-    switch-room-3 (length (a .files .now)) (a .files .now ++ a .area .now) (a .words .now) (a .n) (a .nums .now) (a .s) (ascii "-on_state") (ascii "-off_state") (c .before .before .before .before .before .before .before .before .before .before .before .before .before .before .before .before .before .before .before .before .pre) _ _ _ _ (c .before .before .before .before .before .before .before .before .put-states .ensures) (c .before .before .put-states2 .ensures) (c .before .before .before .before .before .before .before .before .before .before .before .before .before .before .if1 .left)
-
-returns-2 : tie.Need-returns-2
-returns-2 c =
-    let a = c .before .before .before .before .before .before .before .before .before .before .before .before .before .before .before .before .before .before .before .before .before .before .before .before .args in
-    switch-words-did (length (a .files .now)) (a .files .now ++ a .area .now) (a .words .now) (a .n) (a .nums .now) (a .s) (ascii "-on_state") (ascii "-off_state") (c .before .before .before .before .before .before .before .before .before .before .before .before .before .before .before .before .before .before .before .before .before .before .before .before .pre) _ _ _ _ (c .before .before .before .before .before .before .before .before .before .before .before .before .put-states .ensures) (c .before .before .before .before .before .before .put-states2 .ensures) (λ (m : Model). switch-command m (bytes (a .files .now ++ a .area .now) (pairAt (a .words .now) 0)) (wordsFrom (a .files .now ++ a .area .now) (a .words .now) (a .n) 1)) (λ m. switch-told m _ _) (c .before .before .before .switch .result) (c .before .before .add-switch .result) (c .fine .result) (c .before .before .before .before .before .before .before .before .before .before .before .before .before .before .before .before .before .before .if1 .left) (c .before .before .before .switch .ensures) (c .before .before .add-switch .ensures) (c .fine .ensures)
-
-add-switch-requires : tie.Need-add-switch-requires
-add-switch-requires c κs = c .before .before .before .before .before .before .before .before .before .before .before .before .before .before .before .if1 .left
+    let a = c .before .before .before .before .before .before .before .before .before .before .before .before .before .before .before .before .before .before .before .args in
+    switch-room-3 (a .files .now ++ a .area .now) (a .words .now) (a .n) (a .nums .now) (a .b) (ascii "-on_state") (ascii "-off_state") (c .before .before .before .before .before .before .before .before .before .before .before .before .before .before .before .before .before .before .before .pre) _ _ _ _ (c .before .before .before .before .before .before .before .before .put-states .ensures) (c .before .before .put-states2 .ensures) (c .before .before .before .before .before .before .before .before .before .before .before .before .before .if1 .left)
 
 same-length : tie.Need-same-length
 same-length c =
-    let a = c .before .before .before .before .before .before .before .before .before .before .before .before .before .before .before .before .before .before .before .before .before .before .before .before .args in
-    both-long (length (a .files .now)) (a .files .now ++ a .area .now) (a .words .now) (a .n) (a .nums .now) (a .s) (ascii "-on_state") (ascii "-off_state") (c .before .before .before .before .before .before .before .before .before .before .before .before .before .before .before .before .before .before .before .before .before .before .before .before .pre) _ _ _ _ (c .before .before .before .before .before .before .before .before .before .before .before .before .put-states .ensures) (c .before .before .before .before .before .before .put-states2 .ensures)
+    let a = c .before .before .before .before .before .before .before .before .before .before .before .before .before .before .before .before .before .before .before .before .args in
+    both-long (a .files .now ++ a .area .now) (a .words .now) (a .n) (a .nums .now) (a .b) (ascii "-on_state") (ascii "-off_state") (c .before .before .before .before .before .before .before .before .before .before .before .before .before .before .before .before .before .before .before .before .pre) _ _ _ _ (c .before .before .before .before .before .before .before .before .before .put-states .ensures) (c .before .before .before .put-states2 .ensures)
+
+returns-2 : tie.Need-returns-2
+returns-2 c =
+    let a = c .before .before .before .before .before .before .before .before .before .before .before .before .before .before .before .before .before .before .before .before .args in
+    switch-words-did (a .files .now) (a .area .now) (a .words .now) (a .n) (a .nums .now) (a .b) (ascii "-on_state") (ascii "-off_state") (c .before .before .before .before .before .before .before .before .before .before .before .before .before .before .before .before .before .before .before .before .pre) _ _ _ _ (c .before .before .before .before .before .before .before .before .before .put-states .ensures) (c .before .before .before .put-states2 .ensures) (λ (m : Model). switch-command m (bytes (a .files .now ++ a .area .now) (pairAt (a .words .now) 0)) (wordsFrom (a .files .now ++ a .area .now) (a .words .now) (a .n) 1)) (λ m. switch-told m _ _) (c .switch .result) (c .before .before .before .before .before .before .before .before .before .before .before .before .before .before .if1 .left) (c .switch .ensures)
 
 pub create-power-switch-spec : {M : Type 1} → statement M
 create-power-switch-spec =
     tie.close
     (tie.spec
-    (λ c κs. search needs)  -- full-requires
     returns
     (λ c. search needs)  -- slice-aggregate-put-states
     (λ c. search needs)  -- slice-aggregate-put-states-2
@@ -57,7 +52,5 @@ create-power-switch-spec =
     (λ c. search needs)  -- slice-aggregate-put-states-4
     put-states-requires-2
     switch-requires
-    add-switch-requires
-    (λ c κs. search needs)  -- fine-requires
     same-length
     returns-2)

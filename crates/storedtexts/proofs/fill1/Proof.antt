@@ -6,7 +6,7 @@ use Rattle.storedtexts.proofs.fill1.Tie as tie
 
 pub fill1-spec : {M : Type 1} → statement M
 fill1-spec = tie.close (tie.spec
-    (λ c κs. search needs)  -- name-of-requires
+    (λ c κs. search needs)  -- stored-requires
     (λ c κs. search needs)  -- fill1-requires
     (λ c. search needs)  -- same-length
     (λ c. search filled))  -- returns

@@ -7,8 +7,8 @@ use Rattle.storedtexts.proofs.fill2.Tie as tie
 pub fill2-spec : {M : Type 1} → statement M
 fill2-spec =
     tie.close (tie.spec
-    (λ c κs. search needs)  -- name-of-requires
-    (λ c κs. search needs)  -- name-of-requires-2
+    (λ c κs. search needs)  -- stored-requires
+    (λ c κs. search needs)  -- stored-requires-2
     (λ c κs. search needs)  -- fill2-requires
     (λ c. search needs)  -- same-length
     (λ c. search filled))  -- returns

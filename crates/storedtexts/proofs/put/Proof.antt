@@ -6,7 +6,7 @@ use Rattle.storedtexts.proofs.put.Tie as tie
 
 pub put-spec : {M : Type 1} → statement M
 put-spec = tie.close (tie.spec
-    (λ c κs. search needs)  -- name-of-requires
+    (λ c κs. search needs)  -- stored-requires
     (λ c κs. search needs)  -- put-name-requires
     (λ c. search needs)  -- same-length
     (λ c. search filled))  -- returns

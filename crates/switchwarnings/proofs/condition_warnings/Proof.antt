@@ -1,7 +1,7 @@
 -- `switchwarnings::condition_warnings` meets its contract: the warnings that are left are told behind those that were. Assumes nothing.
-use Prim.Native.Nat.{_+_, _≤_, _-_}
+use Prim.Native.Nat.{_+_, _-_}
 use mathlib.Core.Path.{_≡_, _∙_}
-use lib.ListN.{length, drop}
+use lib.ListN.{length}
 use borrow.Author.Needs.{needs}
 use mathlib.Core.List.{_++_}
 use Rattle.out.specs.Emit.{_▸_}

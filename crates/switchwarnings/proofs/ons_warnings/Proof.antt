@@ -1,7 +1,7 @@
 -- `switchwarnings::ons_warnings` meets its contract: the warnings about the states that are left are told behind those that were. Assumes nothing.
 use Prim.Native.Nat.{_+_, _≤_, _-_}
 use mathlib.Core.Path.{_≡_}
-use lib.ListN.{length, drop}
+use lib.ListN.{length}
 use borrow.Author.Needs.{needs}
 use mathlib.Core.List.{_++_}
 use Rattle.out.specs.Emit.{_▸_}

@@ -1,9 +1,9 @@
 -- `tablecmds::find_table` meets its contract: the tables passed are not of the name. Assumes nothing.
-use Prim.Native.Nat.{_+_, _≤_, _-_}
+use Prim.Native.Nat.{_+_, _-_}
 use native.Mathlib.Omega.{arith}
 use mathlib.Core.Path.{_≡_}
 use mathlib.Core.List.{_++_}
-use lib.ListN.{length, drop}
+use lib.ListN.{length}
 use borrow.Author.Needs.{needs}
 use Rattle.made.specs.Firsts.{Looks, looks-start, looks-here, looks-on, looks-end, array-long, strings-same}
 use Rattle.tablecmds.specs.States.{isNamed}

@@ -2,7 +2,7 @@
 use mathlib.Core.Path.{_∙_}
 use Rattle.tablelines.proofs.Lines.{table-pieces}
 use borrow.Author.Needs.{needs}
-use Rattle.out.specs.Emit.{Wrote, wrote, _then_, kept}
+use Rattle.out.specs.Emit.{wrote, _then_, kept}
 use Rattle.tablelines.proofs.put_table.Statement.{statement}
 use Rattle.tablelines.proofs.put_table.Tie as tie
 

@@ -1,42 +1,13 @@
--- `targets::find_instance` meets its contract: what the whole text leads to is what is left of it leads to. Assumes nothing.
-use mathlib.Core.List.{_++_}
-use lib.ListN.{length}
-use Rattle.refs.specs.Text.{textOf}
-use Rattle.targets.proofs.Turns.{Seeks, more-less, seeks}
+-- `targets::find_instance` meets its contract: the memo is empty at first. Assumes nothing.
+use borrow.Author.Needs.{needs}
+use Rattle.memo.specs.Known.{known-none}
 use Rattle.targets.proofs.find_instance.Statement.{statement}
 use Rattle.targets.proofs.find_instance.Tie as tie
-
-abbrev Inv-loop : tie.InvT-loop
-Inv-loop job index count k files area m₀ x₀ upto₀ m x upto = Seeks job index count m₀ (textOf job (files ++ area) x₀) m (textOf job (files ++ area) x) upto
-
-abbrev μ-loop : tie.MeasureT-loop
-μ-loop job index count k files area m₀ x₀ upto₀ m x upto = length (textOf job (files ++ area) x)
 
 pub find-instance-spec : {M : Type 1} → statement M
 find-instance-spec =
     tie.close
     (tie.spec
-    Inv-loop
-    μ-loop
-    (λ c. search seeks)  -- loop-holds
-    (λ c κs. search seeks)  -- instance-at-requires
-    (λ c. search seeks)  -- enum-told
-    (λ c κs. search seeks)  -- nowhere-requires
-    (λ c. search seeks)  -- returns
-    (λ c. search seeks)  -- enum-known-kind
-    (λ c κs. search seeks)  -- part-of-requires
-    (λ c κs. search seeks)  -- module-named-requires
-    (λ c κs. search seeks)  -- nowhere-requires-2
-    (λ c. search seeks)  -- returns-2
-    (λ c. search seeks)  -- sub-t21
-    (λ c. search seeks)  -- returns-3
-    (λ c. search seeks)  -- enum-known-kind-2
-    (λ c κs. search seeks)  -- part-of-requires-2
-    (λ c κs. search seeks)  -- module-named-requires-2
-    (λ c κs. search seeks)  -- nowhere-requires-3
-    (λ c. search seeks)  -- returns-4
-    (λ c. search seeks)  -- sub-m
-    (λ c. search seeks)  -- add-upto
-    (λ c. search seeks)  -- add-upto-2
-    (λ c. search more-less)  -- loop-less
-    (λ c. search seeks))  -- loop-again
+    (λ c. search needs)  -- slice-aggregate-find-by
+    (λ c κs. record { few = search needs; row = search needs; small = search needs; known = known-none _ _ })  -- find-by-requires
+    (λ c. search needs))  -- returns

@@ -1,20 +1,18 @@
 -- `targets::instance_at` meets its contract: the instance looked for is the first of those that are left. Assumes nothing.
 use Prim.Native.Nat.{_-_}
-use mathlib.Core.Path.{_≡_}
 use mathlib.Core.List.{_++_}
-use Rattle.jobindex.specs.Index.{moduleRow}
-use Rattle.design.specs.Lookup.{instanceNamed}
+use Rattle.memo.specs.Known.{Begins}
 use Rattle.names.specs.Parts.{parts, firstPart}
 use Rattle.refs.specs.Text.{textOf}
-use Rattle.targets.proofs.Turns.{partIn, downs}
+use Rattle.targets.proofs.Turns.{downs}
 use Rattle.targets.proofs.instance_at.Statement.{statement}
 use Rattle.targets.proofs.instance_at.Tie as tie
 
 abbrev Inv-loop : tie.InvT-loop
-Inv-loop job index k files area r end at₀ at = instanceNamed (moduleRow job index k) (firstPart (parts (textOf job (files ++ area) r))) ≡ partIn job at end (textOf job (files ++ area) r)
+Inv-loop job index k files area r from end at₀ at = Begins job index k (firstPart (parts (textOf job (files ++ area) r))) at
 
 abbrev μ-loop : tie.MeasureT-loop
-μ-loop job index k files area r end at₀ at = end - at
+μ-loop job index k files area r from end at₀ at = end - at
 
 pub instance-at-spec : {M : Type 1} → statement M
 instance-at-spec =
@@ -23,7 +21,6 @@ instance-at-spec =
     Inv-loop
     μ-loop
     (λ c κs. search downs)  -- insts-end-requires
-    (λ c κs. search downs)  -- insts-from-requires
     (λ c. search downs)  -- loop-holds
     (λ c κs. search downs)  -- next-inst-requires
     (λ c. search downs)  -- enum-known-x

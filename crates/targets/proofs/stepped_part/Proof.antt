@@ -2,7 +2,6 @@
 use Prim.Native.Nat.{_-_}
 use mathlib.Core.List.{_++_}
 use mathlib.Core.Path.{refl}
-use native.Mathlib.Omega.{arith}
 use lib.ListN.{length}
 use Rattle.names.specs.Parts.{parts, behind}
 use Rattle.refs.specs.Text.{textOf}

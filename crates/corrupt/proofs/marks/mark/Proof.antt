@@ -1,9 +1,8 @@
 -- `corrupt::marks::mark` meets its contract: the first k entries are marked. Assumes nothing.
 use Prim.Native.Nat.{_-_}
-use mathlib.Core.Path.{_≡_, refl}
+use mathlib.Core.Path.{_≡_}
 use mathlib.Core.List.{_++_}
 use lib.ListN.{length}
-use borrow.Author.Needs.{needs}
 use Rattle.corrupt.proofs.Marking.{Marks, rules}
 use Rattle.corrupt.proofs.marks.mark.Statement.{statement}
 use Rattle.corrupt.proofs.marks.mark.Tie as tie

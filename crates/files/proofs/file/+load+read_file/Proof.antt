@@ -1,15 +1,15 @@
--- The file reader and its load step meet their contracts. Assumes nothing.
-use native.Mathlib.Omega.{arith}
-use Prim.Native.Nat.{_*_}
-use mathlib.Core.Path.{refl, sym, _∙_}
-use lib.ListN.{take}
+-- The file reader and its load step meet their contracts: the commands before `at` are carried out, and the rest come to what is left (`Going`). The measure
+-- is twice the loads that may still be nested, and one more for a file. Assumes nothing.
+use lib.ListN.{length, take, drop}
 use Rattle.tcl.specs.Commands.{commands}
 use Rattle.reader.specs.Turn.{Going, going-start, next-asks, turn-none, turn-full, begun-asks, turn-less, turn-doing, turn-failed, turn-again}
-use Rattle.files.proofs.Does.{load-over, load-asks, not-opened, deep, opening, failed, behind, named-at, end-in, front-long, lists, past, asks, does}
-use mathlib.Core.Path.{_≡_}
-use lib.ListN.{length, drop}
+use Rattle.files.proofs.Does.{named-at, end-in, front-long, lists, past, asks, does, placed-ran, said, scoped, acting, acts-of, deed-refused, deed-left, deed-fits, deed-done, told, load-over, load-asks, not-opened, deep, opening, failed, behind, placed-opening, placed-reads, head-back}
+use Rattle.files.proofs.Moved.{scope-asks}
+use native.Mathlib.Omega.{arith}
+use Prim.Native.Nat.{_*_, ℕ, _<_, _+_, _-_}
+use mathlib.Core.Path.{refl, sym, _∙_}
+use Rattle.loads.specs.Behind.{asked-by}
 use borrow.Author.Needs.{needs}
-use Prim.Native.Nat.{ℕ, _<_, _+_, _≤_, _-_}
 use borrow.Fn.Kinds.{In}
 use borrow.Fn.PlainCycle.{Measures, is, falls, and}
 use Rattle.files.proofs.file.load.Reads as load
@@ -20,11 +20,20 @@ use Rattle.files.proofs.file.read_file.Kinds as read-file-kinds
 use Rattle.files.proofs.file.+load+read_file.Lts-read_file as read-file-lts
 use Rattle.cmdnames.proofs.number.Reads as number-reads
 use Rattle.commands.proofs.next.next_command.Reads as next-command-reads
+use Rattle.deeds.proofs.done.Reads as done-reads
+use Rattle.deeds.proofs.no_record.Reads as no-record-reads
+use Rattle.deeds.proofs.refused.Reads as refused-reads
+use Rattle.deeds.proofs.rows_with.Reads as rows-with-reads
+use Rattle.deeds.proofs.warnings_with.Reads as warnings-with-reads
+use Rattle.files.proofs.file.in_scope.Reads as in-scope-reads
 use Rattle.held.proofs.begun.Reads as begun-reads
+use Rattle.loads.proofs.back.Reads as back-reads
 use Rattle.loads.proofs.before_load.Reads as before-load-reads
-use Rattle.loads.proofs.restored.Reads as restored-reads
+use Rattle.made.proofs.brief_of.Reads as brief-of-reads
+use Rattle.plain.proofs.act.Reads as act-reads
 use Rattle.plain.proofs.counted.Reads as counted-reads
-use Rattle.plain.proofs.plain.Reads as plain-reads
+use Rattle.plain.proofs.puts.Reads as puts-reads
+use Rattle.scopes.proofs.go.set_scope.Reads as set-scope-reads
 use Rattle.spans.proofs.span.pair.Reads as pair-reads
 use Rattle.text.proofs.part.place.Reads as place-reads
 use Rattle.files.proofs.file.+load+read_file.{statement}
@@ -51,237 +60,740 @@ read-file-below t =
 
 -- what the callees of `load` ask and give; a member of the cycle below the measure t
 abbrev load-cs : ℕ → load-lts.Claims
-load-cs t = (before-load-reads.Asked, before-load-reads.Learnt, read-file-below t, read-file.Post, restored-reads.Asked, restored-reads.Learnt)
+load-cs t = (before-load-reads.Asked, before-load-reads.Learnt, in-scope-reads.Asked, in-scope-reads.Learnt, read-file-below t, read-file.Post, back-reads.Asked, back-reads.Learnt)
 
 -- what the callees of `read-file` ask and give; a member of the cycle below the measure t
 abbrev read-file-cs : ℕ → read-file-lts.Claims
-read-file-cs t = (place-reads.Asked, place-reads.Learnt, next-command-reads.Asked, next-command-reads.Learnt, begun-reads.Asked, begun-reads.Learnt, pair-reads.Asked, pair-reads.Learnt, number-reads.Asked, number-reads.Learnt, load-below t, load.Post, counted-reads.Asked, counted-reads.Learnt, plain-reads.Asked, plain-reads.Learnt)
+read-file-cs t = (place-reads.Asked, place-reads.Learnt, next-command-reads.Asked, next-command-reads.Learnt, begun-reads.Asked, begun-reads.Learnt, pair-reads.Asked, pair-reads.Learnt, number-reads.Asked, number-reads.Learnt, load-below t, load.Post, counted-reads.Asked, counted-reads.Learnt, puts-reads.Asked, puts-reads.Learnt, set-scope-reads.Asked, set-scope-reads.Learnt, in-scope-reads.Asked, in-scope-reads.Learnt, brief-of-reads.Asked, brief-of-reads.Learnt, act-reads.Asked, act-reads.Learnt, refused-reads.Asked, refused-reads.Learnt, rows-with-reads.Asked, rows-with-reads.Learnt, warnings-with-reads.Asked, warnings-with-reads.Learnt, no-record-reads.Asked, no-record-reads.Learnt, done-reads.Asked, done-reads.Learnt)
 
 abbrev read-file-Inv-loop : read-file-lts.InvT-loop
 read-file-Inv-loop job files area₀ nums₀ log₀ count k left base len vars nv words₀ at₀ u₀ area nums log words at u =
     Going job files area₀ nums₀ log₀ count k left u₀ base len area nums log words at u
 
 abbrev read-file-μ-loop : read-file-lts.MeasureT-loop
-read-file-μ-loop job files area₀ nums₀ log₀ count k left base len vars nv words₀ at₀ u₀ area nums log words at u =
-    length (commands (drop at (take len (drop base files))))
+read-file-μ-loop job files area₀ nums₀ log₀ count k left base len vars nv words₀ at₀ u₀ area nums log words at u = length (commands (drop at (take len (drop base files))))
 
--- src/file.rt:89:77
+-- src/file.rt:118:77
 read-file-slice-aggregate-next-command-2 :
     (t : ℕ) → read-file-lts.Need-slice-aggregate-next-command-2 (read-file-cs t) (read-file-at t) read-file.Post read-file-Inv-loop read-file-μ-loop
-read-file-slice-aggregate-next-command-2 t c = sym (c .before .before .before .before .loop .inv .spans)
+read-file-slice-aggregate-next-command-2 t c =
+    let at-loop = c .before .before .before .before in
+    sym (at-loop .loop .inv .spans)
 
 load-returns : (t : ℕ) → load-lts.Need-returns (load-cs t) (load-at t) load.Post
 load-returns t c =
-    let e = c .before .before .before .before .before .before .before .before in let a = e .args in
-    load-over (a .job .now) (a .files .now) (a .area .now) (a .nums .now) (a .words .now) (a .count) (a .n) (a .k) (a .left) (a .s) (e .pre .1) (c .if1 .taken) (a .log .now)
+    let start = c .before .before .before .before .before .before .before .before in
+    let a = start .args in let h = start .pre .1 in
+    load-over (a .job .now) (a .files .now) (a .area .now) (a .nums .now) (a .words .now) (a .count) (a .n) (a .k) (a .left) (a .s) h (c .if1 .taken) (a .log .now)
 
 load-before-load-requires : (t : ℕ) → load-lts.Need-before-load-requires (load-cs t) (load-at t) load.Post
 load-before-load-requires t c κs =
-    let e = c .before .before .before .before .before .before .before .before .before .before in let a = e .args in
-    load-asks (a .job .now) (a .files .now) (a .area .now) (a .nums .now) (a .words .now) (a .count) (a .n) (a .k) (a .left) (a .s) (e .pre .1) (c .before .before .if1 .left)
+    let at-if1 = c .before .before .before .before in
+    let start = at-if1 .before .before .before .before .before .before .before .before in
+    let a = start .args in let h = start .pre .1 in
+    asked-by _ _ _ _ _ _ _ _ _ _ (load-asks (a .job .now) (a .files .now) (a .area .now) (a .nums .now) (a .words .now) (a .count) (a .n) (a .k) (a .left) (a .s) h (at-if1 .if1 .left))
 
 load-returns-2 : (t : ℕ) → load-lts.Need-returns-2 (load-cs t) (load-at t) load.Post
 load-returns-2 t c =
-    let e = c .before .before .before .before .before .before .before .before .before .before .before .before .before .before .before .before in let a = e .args in
-    not-opened (a .job .now) (a .files .now) (a .area .now) (a .nums .now) (a .words .now) (a .count) (a .n) (a .k) (a .left) (a .s) (e .pre .1) (c .before .before .before .before .before .before .before .before .if1 .left) _ _ (c .before .before .before .before .before .before-load .ensures) (a .log .now) (c .if2 .taken)
+    let at-in-scope = c .before .before .before .before in
+    let at-before-load = at-in-scope .before .before .before .before .before in
+    let at-if1 = at-before-load .before .before .before .before .before in
+    let start = at-if1 .before .before .before .before .before .before .before .before in
+    let a = start .args in let h = start .pre .1 in
+    let b = at-before-load .before-load in
+    placed-ran (a .s) _ (b .result .went) (at-in-scope .in-scope .ensures) _ _ _ _ _ _ _ _ (not-opened (a .job .now) (a .files .now) (a .area .now) (a .nums .now) (a .words .now) (a .count) (a .n) (a .k) (a .left) (a .s) h (at-if1 .if1 .left) _ _ _ (b .ensures _ (load-asks (a .job .now) (a .files .now) (a .area .now) (a .nums .now) (a .words .now) (a .count) (a .n) (a .k) (a .left) (a .s) h (at-if1 .if1 .left)) refl) (a .log .now) (c .if2 .taken))
 
 load-sub-read-file : (t : ℕ) → load-lts.Need-sub-read-file (load-cs t) (load-at t) load.Post
 load-sub-read-file t c =
-    let e = c .before .before .before .before .before .before .before .before .before .before .before .before .before .before .before .before .before .before .before in let a = e .args in
-    deep (a .job .now) (a .files .now) (a .area .now) (a .nums .now) (a .words .now) (a .count) (a .n) (a .k) (a .left) (a .s) (e .pre .1) (c .before .before .before .before .before .before .before .before .before .before .before .if1 .left) _ _ (c .before .before .before .before .before .before .before .before .before-load .ensures) (c .before .before .before .if2 .left)
+    let at-if2 = c .before .before .before in
+    let at-before-load = at-if2 .before .before .before .before .before .before .before .before .before in
+    let at-if1 = at-before-load .before .before .before .before .before in
+    let start = at-if1 .before .before .before .before .before .before .before .before in
+    let a = start .args in let h = start .pre .1 in
+    let b = at-before-load .before-load in
+    deep (a .job .now) (a .files .now) (a .area .now) (a .nums .now) (a .words .now) (a .count) (a .n) (a .k) (a .left) (a .s) h (at-if1 .if1 .left) _ _ _ (b .ensures _ (load-asks (a .job .now) (a .files .now) (a .area .now) (a .nums .now) (a .words .now) (a .count) (a .n) (a .k) (a .left) (a .s) h (at-if1 .if1 .left)) refl) (at-if2 .if2 .left)
 
 load-read-file-requires : (t : ℕ) → load-lts.Need-read-file-requires (load-cs t) (load-at t) load.Post
 load-read-file-requires t c κs =
-    let e = c .before .before .before .before .before .before .before .before .before .before .before .before .before .before .before .before .before .before .before in let a = e .args in
-    (omega (arith, e .pre .0, deep (a .job .now) (a .files .now) (a .area .now) (a .nums .now) (a .words .now) (a .count) (a .n) (a .k) (a .left) (a .s) (e .pre .1) (c .before .before .before .before .before .before .before .before .before .before .before .if1 .left) _ _ (c .before .before .before .before .before .before .before .before .before-load .ensures) (c .before .before .before .if2 .left)), opening (a .job .now) (a .files .now) (a .area .now) (a .nums .now) (a .words .now) (a .count) (a .n) (a .k) (a .left) (a .s) (e .pre .1) (c .before .before .before .before .before .before .before .before .before .before .before .if1 .left) _ _ (c .before .before .before .before .before .before .before .before .before-load .ensures) (c .before .before .before .if2 .left))
+    let at-if2 = c .before .before .before in
+    let at-in-scope = at-if2 .before .before .before .before in
+    let at-before-load = at-in-scope .before .before .before .before .before in
+    let at-if1 = at-before-load .before .before .before .before .before in
+    let start = at-if1 .before .before .before .before .before .before .before .before in
+    let a = start .args in let h = start .pre .1 in
+    let b = at-before-load .before-load in
+    (omega (arith, start .pre .0, deep (a .job .now) (a .files .now) (a .area .now) (a .nums .now) (a .words .now) (a .count) (a .n) (a .k) (a .left) (a .s) h (at-if1 .if1 .left) _ _ _ (b .ensures _ (load-asks (a .job .now) (a .files .now) (a .area .now) (a .nums .now) (a .words .now) (a .count) (a .n) (a .k) (a .left) (a .s) h (at-if1 .if1 .left)) refl) (at-if2 .if2 .left)), placed-opening (a .s) _ (b .result .went) (at-in-scope .in-scope .ensures) _ _ _ _ _ _ _ (opening (a .job .now) (a .files .now) (a .area .now) (a .nums .now) (a .words .now) (a .count) (a .n) (a .k) (a .left) (a .s) h (at-if1 .if1 .left) _ _ _ (b .ensures _ (load-asks (a .job .now) (a .files .now) (a .area .now) (a .nums .now) (a .words .now) (a .count) (a .n) (a .k) (a .left) (a .s) h (at-if1 .if1 .left)) refl) (at-if2 .if2 .left)))
 
 load-same-length-3 : (t : ℕ) → load-lts.Need-same-length-3 (load-cs t) (load-at t) load.Post
-load-same-length-3 t c = c .before .before .before .before .before .before .before .before .read-file .kept .1 .1 .0 ∙ c .before .before .before .before .before .before .before .before .before .before .before .before .before .before .before .before .before .before-load .kept .1 .1 .0
+load-same-length-3 t c =
+    let at-read-file = c .before .before .before .before .before .before .before .before in
+    let at-before-load = at-read-file .before .before .before .before .before .before .before .before .before .before .before .before .before in
+    at-read-file .read-file .kept .1 .1 .0 ∙ at-before-load .before-load .kept .1 .1 .0
 
 load-returns-3 : (t : ℕ) → load-lts.Need-returns-3 (load-cs t) (load-at t) load.Post
 load-returns-3 t c =
-    let e = c .before .before .before .before .before .before .before .before .before .before .before .before .before .before .before .before .before .before .before .before .before .before .before .before .before .before .before .before in let a = e .args in
-    failed (a .job .now) (a .files .now) (a .area .now) (a .nums .now) (a .words .now) (a .count) (a .n) (a .k) (a .left) (a .s) (e .pre .1) (c .before .before .before .before .before .before .before .before .before .before .before .before .before .before .before .before .before .before .before .before .if1 .left) _ _ (c .before .before .before .before .before .before .before .before .before .before .before .before .before .before .before .before .before .before-load .ensures) (c .before .before .before .before .before .before .before .before .before .before .before .before .if2 .left) _ _ _ _ _ (c .before .before .before .before .before .before .before .before .read-file .ensures) (c .if3 .taken)
+    let at-read-file = c .before .before .before .before .before .before .before .before in
+    let at-if2 = at-read-file .before .before .before .before in
+    let at-in-scope = at-if2 .before .before .before .before in
+    let at-before-load = at-in-scope .before .before .before .before .before in
+    let at-if1 = at-before-load .before .before .before .before .before in
+    let start = at-if1 .before .before .before .before .before .before .before .before in
+    let a = start .args in let h = start .pre .1 in
+    let b = at-before-load .before-load in
+    failed (a .job .now) (a .files .now) (a .area .now) (a .nums .now) (a .words .now) (a .count) (a .n) (a .k) (a .left) (a .s) h (at-if1 .if1 .left) _ _ _ (b .ensures _ (load-asks (a .job .now) (a .files .now) (a .area .now) (a .nums .now) (a .words .now) (a .count) (a .n) (a .k) (a .left) (a .s) h (at-if1 .if1 .left)) refl) (at-if2 .if2 .left) _ _ _ _ _ (placed-reads (a .s) _ (b .result .went) (at-in-scope .in-scope .ensures) _ _ _ _ _ _ _ _ _ _ _ _ (at-read-file .read-file .ensures)) (c .if3 .taken)
 
 load-same-length-6 : (t : ℕ) → load-lts.Need-same-length-6 (load-cs t) (load-at t) load.Post
-load-same-length-6 t c = c .before .before .before .before .before .before .before .before .before .read-file .kept .1 .1 .0 ∙ c .before .before .before .before .before .before .before .before .before .before .before .before .before .before .before .before .before .before .before-load .kept .1 .1 .0
+load-same-length-6 t c =
+    let at-read-file = c .before .before .before .before .before .before .before .before .before .before in
+    let at-before-load = at-read-file .before .before .before .before .before .before .before .before .before .before .before .before .before in
+    at-read-file .read-file .kept .1 .1 .0 ∙ at-before-load .before-load .kept .1 .1 .0
 
 load-returns-4 : (t : ℕ) → load-lts.Need-returns-4 (load-cs t) (load-at t) load.Post
 load-returns-4 t c =
-    let e = c .before .before .before .before .before .before .before .before .before .before .before .before .before .before .before .before .before .before .before .before .before .before .before .before .before .before .before .before .before in let a = e .args in
-    behind (a .job .now) (a .files .now) (a .area .now) (a .nums .now) (a .words .now) (a .count) (a .n) (a .k) (a .left) (a .s) (e .pre .1) (c .before .before .before .before .before .before .before .before .before .before .before .before .before .before .before .before .before .before .before .before .before .if1 .left) _ _ (c .before .before .before .before .before .before .before .before .before .before .before .before .before .before .before .before .before .before .before-load .ensures) (c .before .before .before .before .before .before .before .before .before .before .before .before .before .if2 .left) _ _ _ _ _ (c .before .before .before .before .before .before .before .before .before .read-file .ensures) (c .before .if3 .left) _ (c .restored .ensures)
+    let at-if3 = c .before .before in
+    let at-read-file = at-if3 .before .before .before .before .before .before .before .before in
+    let at-if2 = at-read-file .before .before .before .before in
+    let at-in-scope = at-if2 .before .before .before .before in
+    let at-before-load = at-in-scope .before .before .before .before .before in
+    let at-if1 = at-before-load .before .before .before .before .before in
+    let start = at-if1 .before .before .before .before .before .before .before .before in
+    let a = start .args in let h = start .pre .1 in
+    let b = at-before-load .before-load in
+    behind (a .job .now) (a .files .now) (a .area .now) (a .nums .now) (a .words .now) (a .count) (a .n) (a .k) (a .left) (a .s) h (at-if1 .if1 .left) _ _ _ (b .ensures _ (load-asks (a .job .now) (a .files .now) (a .area .now) (a .nums .now) (a .words .now) (a .count) (a .n) (a .k) (a .left) (a .s) h (at-if1 .if1 .left)) refl) (at-if2 .if2 .left) _ _ _ _ _ (placed-reads (a .s) _ (b .result .went) (at-in-scope .in-scope .ensures) _ _ _ _ _ _ _ _ _ _ _ _ (at-read-file .read-file .ensures)) (at-if3 .if3 .left) _ (head-back (a .s) (at-read-file .read-file .result .state) _ (c .back .ensures))
 
 read-file-loop-holds : (t : ℕ) → read-file-lts.Need-loop-holds (read-file-cs t) (read-file-at t) read-file.Post read-file-Inv-loop read-file-μ-loop
 read-file-loop-holds t c =
-    let e = c .before .before .before .before .before .before .before .before .before .before .before in let a = e .args in let b = c .before .before .before .before .place in let z = c .before .before .place2 in
-    going-start (a .job .now) (a .files .now) (a .area .now) (a .nums .now) (a .log .now) (a .count) (a .k) (a .left) (a .s) (b .result) (z .result) (e .pre .1) (b .ensures) (z .ensures) _ refl
+    let at-place2 = c .before .before in
+    let at-place = at-place2 .before .before in
+    let start = at-place .before .before .before .before .before .before .before in
+    let a = start .args in let b = at-place .place in let z = at-place2 .place2 in
+    going-start (a .job .now) (a .files .now) (a .area .now) (a .nums .now) (a .log .now) (a .count) (a .k) (a .left) (a .s) (b .result) (z .result) (start .pre .1) (b .ensures) (z .ensures) _ refl
 
 read-file-slice-aggregate-next-command : (t : ℕ) → read-file-lts.Need-slice-aggregate-next-command (read-file-cs t) (read-file-at t) read-file.Post read-file-Inv-loop read-file-μ-loop
 read-file-slice-aggregate-next-command t c =
-    let e = c .before .before .before .before .before .before .before .before .before .before .before .before .before .before in
-    sym (e .pre .1 .held .shaped .long)
+    let start = c .before .before .before .before .before .before .before .before .before .before .before .before .before .before in
+    sym (start .pre .1 .held .shaped .long)
 
 read-file-next-command-requires : (t : ℕ) → read-file-lts.Need-next-command-requires (read-file-cs t) (read-file-at t) read-file.Post read-file-Inv-loop read-file-μ-loop
 read-file-next-command-requires t c κs =
-    let e = c .before .before .before .before .before .before .before .before .before .before .before .before .before .before .before .before in let a = e .args in let l = c .before .before .before .before .loop in let b = c .before .before .before .before .before .before .before .before .before .place in let z = c .before .before .before .before .before .before .before .place2 in
-    next-asks (a .job .now) (a .files .now) (a .area .now) (a .nums .now) (a .log .now) (a .count) (a .k) (a .left) (a .s) (b .result) (z .result) (e .pre .1) (b .ensures) (z .ensures) (l .area) (l .nums) (l .log) (l .words) (l .at) (l .u) (l .inv)
+    let at-loop = c .before .before .before .before in
+    let at-place2 = at-loop .before .before .before in
+    let at-place = at-place2 .before .before in
+    let start = at-place .before .before .before .before .before .before .before in
+    let a = start .args in let l = at-loop .loop in let b = at-place .place in let z = at-place2 .place2 in
+    next-asks (a .job .now) (a .files .now) (a .area .now) (a .nums .now) (a .log .now) (a .count) (a .k) (a .left) (a .s) (b .result) (z .result) (start .pre .1) (b .ensures) (z .ensures) (l .area) (l .nums) (l .log) (l .words) (l .at) (l .u) (l .inv)
 
 read-file-same-length : (t : ℕ) → read-file-lts.Need-same-length (read-file-cs t) (read-file-at t) read-file.Post read-file-Inv-loop read-file-μ-loop
-read-file-same-length t c = c .before .before .before .before .before .next-command .kept .1 .1 .1 .1 .1 .1 .0 ∙ c .before .before .before .before .before .before .before .before .before .before .loop .inv .area-long
+read-file-same-length t c =
+    let at-next-command = c .before .before .before .before .before in
+    let at-loop = at-next-command .before .before .before .before .before in
+    at-next-command .next-command .kept .1 .1 .1 .1 .1 .1 .0 ∙ at-loop .loop .inv .area-long
 
 read-file-same-length-2 : (t : ℕ) → read-file-lts.Need-same-length-2 (read-file-cs t) (read-file-at t) read-file.Post read-file-Inv-loop read-file-μ-loop
-read-file-same-length-2 t c = c .before .before .before .before .before .before .before .before .before .before .loop .inv .nums-long
+read-file-same-length-2 t c =
+    let at-loop = c .before .before .before .before .before .before .before .before .before .before in
+    at-loop .loop .inv .nums-long
 
 read-file-same-length-3 : (t : ℕ) → read-file-lts.Need-same-length-3 (read-file-cs t) (read-file-at t) read-file.Post read-file-Inv-loop read-file-μ-loop
-read-file-same-length-3 t c = c .before .before .before .before .before .before .before .before .before .before .loop .inv .log-long
+read-file-same-length-3 t c =
+    let at-loop = c .before .before .before .before .before .before .before .before .before .before in
+    at-loop .loop .inv .log-long
 
 read-file-returns : (t : ℕ) → read-file-lts.Need-returns (read-file-cs t) (read-file-at t) read-file.Post read-file-Inv-loop read-file-μ-loop
 read-file-returns t c =
-    let e = c .before .before .before .before .before .before .before .before .before .before .before .before .before .before .before .before .before .before .before .before .before .before in let a = e .args in let l = c .before .before .before .before .before .before .before .before .before .before .loop in let b = c .before .before .before .before .before .before .before .before .before .before .before .before .before .before .before .place in let z = c .before .before .before .before .before .before .before .before .before .before .before .before .before .place2 in let d = c .before .before .before .before .before .next-command in
-    turn-none (a .job .now) (a .files .now) (a .area .now) (a .nums .now) (a .log .now) (a .count) (a .k) (a .left) (a .s) (b .result) (z .result) (e .pre .1) (b .ensures) (z .ensures) (l .area) (l .nums) (l .log) (l .words) (l .at) (l .u) (l .inv) _ _ (d .result) (d .ensures) (search (c .enum-told .given))
+    let at-next-command = c .before .before .before .before .before in
+    let at-loop = at-next-command .before .before .before .before .before in
+    let at-place2 = at-loop .before .before .before in
+    let at-place = at-place2 .before .before in
+    let start = at-place .before .before .before .before .before .before .before in
+    let a = start .args in let h = start .pre .1 in let l = at-loop .loop in let b = at-place .place in let z = at-place2 .place2 in let d = at-next-command .next-command in
+    turn-none (a .job .now) (a .files .now) (a .area .now) (a .nums .now) (a .log .now) (a .count) (a .k) (a .left) (a .s) (b .result) (z .result) h (b .ensures) (z .ensures) (l .area) (l .nums) (l .log) (l .words) (l .at) (l .u) (l .inv) _ _ (d .result) (d .ensures) (search (c .enum-told .given))
 
 read-file-begun-requires : (t : ℕ) → read-file-lts.Need-begun-requires (read-file-cs t) (read-file-at t) read-file.Post read-file-Inv-loop read-file-μ-loop
 read-file-begun-requires t c κs =
-    let l = c .before .before .before .before .before .before .before .before .before .before .loop in
+    let at-loop = c .before .before .before .before .before .before .before .before .before .before in
+    let l = at-loop .loop in
     (omega (arith, l .inv .held .commands), (omega arith, omega (arith, l .inv .held .substituted)))
 
 read-file-same-length-4 : (t : ℕ) → read-file-lts.Need-same-length-4 (read-file-cs t) (read-file-at t) read-file.Post read-file-Inv-loop read-file-μ-loop
-read-file-same-length-4 t c = c .before .before .before .before .before .before .next-command .kept .1 .1 .1 .1 .1 .1 .0 ∙ c .before .before .before .before .before .before .before .before .before .before .before .loop .inv .area-long
+read-file-same-length-4 t c =
+    let at-next-command = c .before .before .before .before .before .before in
+    let at-loop = at-next-command .before .before .before .before .before in
+    at-next-command .next-command .kept .1 .1 .1 .1 .1 .1 .0 ∙ at-loop .loop .inv .area-long
 
 read-file-same-length-5 : (t : ℕ) → read-file-lts.Need-same-length-5 (read-file-cs t) (read-file-at t) read-file.Post read-file-Inv-loop read-file-μ-loop
-read-file-same-length-5 t c = c .before .before .before .before .before .before .before .before .before .before .before .loop .inv .nums-long
+read-file-same-length-5 t c =
+    let at-loop = c .before .before .before .before .before .before .before .before .before .before .before in
+    at-loop .loop .inv .nums-long
 
 read-file-same-length-6 : (t : ℕ) → read-file-lts.Need-same-length-6 (read-file-cs t) (read-file-at t) read-file.Post read-file-Inv-loop read-file-μ-loop
-read-file-same-length-6 t c = c .before .before .before .before .before .before .before .before .before .before .before .loop .inv .log-long
+read-file-same-length-6 t c =
+    let at-loop = c .before .before .before .before .before .before .before .before .before .before .before in
+    at-loop .loop .inv .log-long
 
 read-file-returns-2 : (t : ℕ) → read-file-lts.Need-returns-2 (read-file-cs t) (read-file-at t) read-file.Post read-file-Inv-loop read-file-μ-loop
 read-file-returns-2 t c =
-    let e = c .before .before .before .before .before .before .before .before .before .before .before .before .before .before .before .before .before .before .before .before .before .before .before in let a = e .args in let l = c .before .before .before .before .before .before .before .before .before .before .before .loop in let b = c .before .before .before .before .before .before .before .before .before .before .before .before .before .before .before .before .place in let z = c .before .before .before .before .before .before .before .before .before .before .before .before .before .before .place2 in let d = c .before .before .before .before .before .before .next-command in
-    turn-full (a .job .now) (a .files .now) (a .area .now) (a .nums .now) (a .log .now) (a .count) (a .k) (a .left) (a .s) (b .result) (z .result) (e .pre .1) (b .ensures) (z .ensures) (l .area) (l .nums) (l .log) (l .words) (l .at) (l .u) (l .inv) _ _ (d .result) (d .ensures) (search (c .before .enum-told2 .given)) _ (c .begun .ensures)
+    let at-enum-told2 = c .before in
+    let at-next-command = at-enum-told2 .before .before .before .before .before in
+    let at-loop = at-next-command .before .before .before .before .before in
+    let at-place2 = at-loop .before .before .before in
+    let at-place = at-place2 .before .before in
+    let start = at-place .before .before .before .before .before .before .before in
+    let a = start .args in let h = start .pre .1 in let l = at-loop .loop in let b = at-place .place in let z = at-place2 .place2 in let d = at-next-command .next-command in
+    turn-full (a .job .now) (a .files .now) (a .area .now) (a .nums .now) (a .log .now) (a .count) (a .k) (a .left) (a .s) (b .result) (z .result) h (b .ensures) (z .ensures) (l .area) (l .nums) (l .log) (l .words) (l .at) (l .u) (l .inv) _ _ (d .result) (d .ensures) (search (at-enum-told2 .enum-told2 .given)) _ (c .begun .ensures)
 
 read-file-add-commands : (t : ℕ) → read-file-lts.Need-add-commands (read-file-cs t) (read-file-at t) read-file.Post read-file-Inv-loop read-file-μ-loop
 read-file-add-commands t c =
-    let e = c .before .before .before .before .before .before .before .before .before .before .before .before .before .before .before .before .before .before .before .before .before .before .before .before in let a = e .args in let l = c .before .before .before .before .before .before .before .before .before .before .before .before .loop in let b = c .before .before .before .before .before .before .before .before .before .before .before .before .before .before .before .before .before .place in let z = c .before .before .before .before .before .before .before .before .before .before .before .before .before .before .before .place2 in let d = c .before .before .before .before .before .before .before .next-command in
-    omega (arith, (begun-asks (a .job .now) (a .files .now) (a .area .now) (a .nums .now) (a .log .now) (a .count) (a .k) (a .left) (a .s) (b .result) (z .result) (e .pre .1) (b .ensures) (z .ensures) (l .area) (l .nums) (l .log) (l .words) (l .at) (l .u) (l .inv) _ _ (d .result) (d .ensures) _ _ _ (c .before .before .n .given .1)) .0)
+    let at-n = c .before .before in
+    let at-next-command = at-n .before .before .before .before .before in
+    let at-loop = at-next-command .before .before .before .before .before in
+    let at-place2 = at-loop .before .before .before in
+    let at-place = at-place2 .before .before in
+    let start = at-place .before .before .before .before .before .before .before in
+    let a = start .args in let h = start .pre .1 in let l = at-loop .loop in let b = at-place .place in let z = at-place2 .place2 in let d = at-next-command .next-command in
+    omega (arith, (begun-asks (a .job .now) (a .files .now) (a .area .now) (a .nums .now) (a .log .now) (a .count) (a .k) (a .left) (a .s) (b .result) (z .result) h (b .ensures) (z .ensures) (l .area) (l .nums) (l .log) (l .words) (l .at) (l .u) (l .inv) _ _ (d .result) (d .ensures) _ _ _ (at-n .n .given .1)) .0)
 
 read-file-sub-substituted : (t : ℕ) → read-file-lts.Need-sub-substituted (read-file-cs t) (read-file-at t) read-file.Post read-file-Inv-loop read-file-μ-loop
 read-file-sub-substituted t c =
-    let e = c .before .before .before .before .before .before .before .before .before .before .before .before .before .before .before .before .before .before .before .before .before .before .before .before in let a = e .args in let l = c .before .before .before .before .before .before .before .before .before .before .before .before .loop in let b = c .before .before .before .before .before .before .before .before .before .before .before .before .before .before .before .before .before .place in let z = c .before .before .before .before .before .before .before .before .before .before .before .before .before .before .before .place2 in let d = c .before .before .before .before .before .before .before .next-command in
-    (begun-asks (a .job .now) (a .files .now) (a .area .now) (a .nums .now) (a .log .now) (a .count) (a .k) (a .left) (a .s) (b .result) (z .result) (e .pre .1) (b .ensures) (z .ensures) (l .area) (l .nums) (l .log) (l .words) (l .at) (l .u) (l .inv) _ _ (d .result) (d .ensures) _ _ _ (c .before .before .n .given .1)) .1 .0
+    let at-n = c .before .before in
+    let at-next-command = at-n .before .before .before .before .before in
+    let at-loop = at-next-command .before .before .before .before .before in
+    let at-place2 = at-loop .before .before .before in
+    let at-place = at-place2 .before .before in
+    let start = at-place .before .before .before .before .before .before .before in
+    let a = start .args in let h = start .pre .1 in let l = at-loop .loop in let b = at-place .place in let z = at-place2 .place2 in let d = at-next-command .next-command in
+    (begun-asks (a .job .now) (a .files .now) (a .area .now) (a .nums .now) (a .log .now) (a .count) (a .k) (a .left) (a .s) (b .result) (z .result) h (b .ensures) (z .ensures) (l .area) (l .nums) (l .log) (l .words) (l .at) (l .u) (l .inv) _ _ (d .result) (d .ensures) _ _ _ (at-n .n .given .1)) .1 .0
 
 read-file-add-substituted : (t : ℕ) → read-file-lts.Need-add-substituted (read-file-cs t) (read-file-at t) read-file.Post read-file-Inv-loop read-file-μ-loop
 read-file-add-substituted t c =
-    let e = c .before .before .before .before .before .before .before .before .before .before .before .before .before .before .before .before .before .before .before .before .before .before .before .before .before in let a = e .args in let l = c .before .before .before .before .before .before .before .before .before .before .before .before .before .loop in let b = c .before .before .before .before .before .before .before .before .before .before .before .before .before .before .before .before .before .before .place in let z = c .before .before .before .before .before .before .before .before .before .before .before .before .before .before .before .before .place2 in let d = c .before .before .before .before .before .before .before .before .next-command in
-    omega (arith, (begun-asks (a .job .now) (a .files .now) (a .area .now) (a .nums .now) (a .log .now) (a .count) (a .k) (a .left) (a .s) (b .result) (z .result) (e .pre .1) (b .ensures) (z .ensures) (l .area) (l .nums) (l .log) (l .words) (l .at) (l .u) (l .inv) _ _ (d .result) (d .ensures) _ _ _ (c .before .before .before .n .given .1)) .1 .1)
+    let at-n = c .before .before .before in
+    let at-next-command = at-n .before .before .before .before .before in
+    let at-loop = at-next-command .before .before .before .before .before in
+    let at-place2 = at-loop .before .before .before in
+    let at-place = at-place2 .before .before in
+    let start = at-place .before .before .before .before .before .before .before in
+    let a = start .args in let h = start .pre .1 in let l = at-loop .loop in let b = at-place .place in let z = at-place2 .place2 in let d = at-next-command .next-command in
+    omega (arith, (begun-asks (a .job .now) (a .files .now) (a .area .now) (a .nums .now) (a .log .now) (a .count) (a .k) (a .left) (a .s) (b .result) (z .result) h (b .ensures) (z .ensures) (l .area) (l .nums) (l .log) (l .words) (l .at) (l .u) (l .inv) _ _ (d .result) (d .ensures) _ _ _ (at-n .n .given .1)) .1 .1)
 
 read-file-slice-reshare-prefix-number : (t : ℕ) → read-file-lts.Need-slice-reshare-prefix-number (read-file-cs t) (read-file-at t) read-file.Post read-file-Inv-loop read-file-μ-loop
 read-file-slice-reshare-prefix-number t c =
-    let e = c .before .before .before .before .before .before .before .before .before .before .before .before .before .before .before .before .before .before .before .before .before .before .before .before .before .before .before .before in let a = e .args in let l = c .before .before .before .before .before .before .before .before .before .before .before .before .before .before .before .before .loop in let b = c .before .before .before .before .before .before .before .before .before .before .before .before .before .before .before .before .before .before .before .before .before .place in let z = c .before .before .before .before .before .before .before .before .before .before .before .before .before .before .before .before .before .before .before .place2 in let d = c .before .before .before .before .before .before .before .before .before .before .before .next-command in
-    end-in (a .job .now) (a .files .now) _ (l .nums) _ (a .count) _ (a .k) (a .left) _ (turn-doing (a .job .now) (a .files .now) (a .area .now) (a .nums .now) (a .log .now) (a .count) (a .k) (a .left) (a .s) (b .result) (z .result) (e .pre .1) (b .ensures) (z .ensures) (l .area) (l .nums) (l .log) (l .words) (l .at) (l .u) (l .inv) _ _ (d .result) (d .ensures) _ _ _ (c .before .before .before .before .before .before .n .given .1) (d .kept .1 .1 .1 .1 .1 .1 .0) _ refl)
+    let at-n = c .before .before .before .before .before .before in
+    let at-next-command = at-n .before .before .before .before .before in
+    let at-loop = at-next-command .before .before .before .before .before in
+    let at-place2 = at-loop .before .before .before in
+    let at-place = at-place2 .before .before in
+    let start = at-place .before .before .before .before .before .before .before in
+    let a = start .args in let h = start .pre .1 in let l = at-loop .loop in let b = at-place .place in let z = at-place2 .place2 in let d = at-next-command .next-command in
+    end-in (a .job .now) (a .files .now) _ (l .nums) _ (a .count) _ (a .k) (a .left) _ (turn-doing (a .job .now) (a .files .now) (a .area .now) (a .nums .now) (a .log .now) (a .count) (a .k) (a .left) (a .s) (b .result) (z .result) h (b .ensures) (z .ensures) (l .area) (l .nums) (l .log) (l .words) (l .at) (l .u) (l .inv) _ _ (d .result) (d .ensures) _ _ _ (at-n .n .given .1) (d .kept .1 .1 .1 .1 .1 .1 .0) _ refl)
 
 read-file-slice-aggregate-number : (t : ℕ) → read-file-lts.Need-slice-aggregate-number (read-file-cs t) (read-file-at t) read-file.Post read-file-Inv-loop read-file-μ-loop
 read-file-slice-aggregate-number t c =
-    let e = c .before .before .before .before .before .before .before .before .before .before .before .before .before .before .before .before .before .before .before .before .before .before .before .before .before .before .before .before .before in let a = e .args in let l = c .before .before .before .before .before .before .before .before .before .before .before .before .before .before .before .before .before .loop in let b = c .before .before .before .before .before .before .before .before .before .before .before .before .before .before .before .before .before .before .before .before .before .before .place in let z = c .before .before .before .before .before .before .before .before .before .before .before .before .before .before .before .before .before .before .before .before .place2 in let d = c .before .before .before .before .before .before .before .before .before .before .before .before .next-command in
-    front-long (a .job .now) (a .files .now) _ (l .nums) _ (a .count) _ (a .k) (a .left) _ (turn-doing (a .job .now) (a .files .now) (a .area .now) (a .nums .now) (a .log .now) (a .count) (a .k) (a .left) (a .s) (b .result) (z .result) (e .pre .1) (b .ensures) (z .ensures) (l .area) (l .nums) (l .log) (l .words) (l .at) (l .u) (l .inv) _ _ (d .result) (d .ensures) _ _ _ (c .before .before .before .before .before .before .before .n .given .1) (d .kept .1 .1 .1 .1 .1 .1 .0) _ refl)
+    let at-n = c .before .before .before .before .before .before .before in
+    let at-next-command = at-n .before .before .before .before .before in
+    let at-loop = at-next-command .before .before .before .before .before in
+    let at-place2 = at-loop .before .before .before in
+    let at-place = at-place2 .before .before in
+    let start = at-place .before .before .before .before .before .before .before in
+    let a = start .args in let h = start .pre .1 in let l = at-loop .loop in let b = at-place .place in let z = at-place2 .place2 in let d = at-next-command .next-command in
+    front-long (a .job .now) (a .files .now) _ (l .nums) _ (a .count) _ (a .k) (a .left) _ (turn-doing (a .job .now) (a .files .now) (a .area .now) (a .nums .now) (a .log .now) (a .count) (a .k) (a .left) (a .s) (b .result) (z .result) h (b .ensures) (z .ensures) (l .area) (l .nums) (l .log) (l .words) (l .at) (l .u) (l .inv) _ _ (d .result) (d .ensures) _ _ _ (at-n .n .given .1) (d .kept .1 .1 .1 .1 .1 .1 .0) _ refl)
 
 read-file-slice-aggregate-pair : (t : ℕ) → read-file-lts.Need-slice-aggregate-pair (read-file-cs t) (read-file-at t) read-file.Post read-file-Inv-loop read-file-μ-loop
-read-file-slice-aggregate-pair t c = sym (c .before .before .before .before .before .before .before .before .before .before .before .before .before .next-command .kept .1 .1 .1 .1 .1 .1 .1 .1 .1 .0 ∙ c .before .before .before .before .before .before .before .before .before .before .before .before .before .before .before .before .before .before .loop .inv .spans)
+read-file-slice-aggregate-pair t c =
+    let at-next-command = c .before .before .before .before .before .before .before .before .before .before .before .before .before in
+    let at-loop = at-next-command .before .before .before .before .before in
+    sym (at-next-command .next-command .kept .1 .1 .1 .1 .1 .1 .1 .1 .1 .0 ∙ at-loop .loop .inv .spans)
 
 read-file-slice-aggregate-load : (t : ℕ) → read-file-lts.Need-slice-aggregate-load (read-file-cs t) (read-file-at t) read-file.Post read-file-Inv-loop read-file-μ-loop
-read-file-slice-aggregate-load t c = sym (c .before .before .before .before .before .before .before .before .before .before .before .before .before .before .before .before .before .before .before .before .next-command .kept .1 .1 .1 .1 .1 .1 .1 .1 .1 .0 ∙ c .before .before .before .before .before .before .before .before .before .before .before .before .before .before .before .before .before .before .before .before .before .before .before .before .before .loop .inv .spans)
+read-file-slice-aggregate-load t c =
+    let at-next-command = c .before .before .before .before .before .before .before .before .before .before .before .before .before .before .before .before .before .before .before .before in
+    let at-loop = at-next-command .before .before .before .before .before in
+    sym (at-next-command .next-command .kept .1 .1 .1 .1 .1 .1 .1 .1 .1 .0 ∙ at-loop .loop .inv .spans)
 
 read-file-load-requires : (t : ℕ) → read-file-lts.Need-load-requires (read-file-cs t) (read-file-at t) read-file.Post read-file-Inv-loop read-file-μ-loop
 read-file-load-requires t c κs =
-    let e = c .before .before .before .before .before .before .before .before .before .before .before .before .before .before .before .before .before .before .before .before .before .before .before .before .before .before .before .before .before .before .before .before .before .before .before .before .before in let a = e .args in let l = c .before .before .before .before .before .before .before .before .before .before .before .before .before .before .before .before .before .before .before .before .before .before .before .before .before .loop in let b = c .before .before .before .before .before .before .before .before .before .before .before .before .before .before .before .before .before .before .before .before .before .before .before .before .before .before .before .before .before .before .place in let z = c .before .before .before .before .before .before .before .before .before .before .before .before .before .before .before .before .before .before .before .before .before .before .before .before .before .before .before .before .place2 in let d = c .before .before .before .before .before .before .before .before .before .before .before .before .before .before .before .before .before .before .before .before .next-command in let p = c .before .before .before .before .before .before .pair in let m = c .before .before .before .before .before .number in
-    (omega (arith, e .pre .0), record { doing = turn-doing (a .job .now) (a .files .now) (a .area .now) (a .nums .now) (a .log .now) (a .count) (a .k) (a .left) (a .s) (b .result) (z .result) (e .pre .1) (b .ensures) (z .ensures) (l .area) (l .nums) (l .log) (l .words) (l .at) (l .u) (l .inv) _ _ (d .result) (d .ensures) _ _ _ (c .before .before .before .before .before .before .before .before .before .before .before .before .before .before .before .n .given .1) (d .kept .1 .1 .1 .1 .1 .1 .0) _ refl; is = named-at _ _ _ (m .result) 2 (p .ensures) (m .ensures .is) (c .before .before .before .before .if1 .taken) })
+    let at-if1 = c .before .before .before .before in
+    let at-number = at-if1 .before in
+    let at-pair = at-number .before in
+    let at-n = at-pair .before .before .before .before .before .before .before .before .before in
+    let at-next-command = at-n .before .before .before .before .before in
+    let at-loop = at-next-command .before .before .before .before .before in
+    let at-place2 = at-loop .before .before .before in
+    let at-place = at-place2 .before .before in
+    let start = at-place .before .before .before .before .before .before .before in
+    let a = start .args in let h = start .pre .1 in let l = at-loop .loop in let b = at-place .place in let z = at-place2 .place2 in let d = at-next-command .next-command in
+    let p = at-pair .pair in let m = at-number .number in
+    (omega (arith, start .pre .0), (record { doing = (turn-doing (a .job .now) (a .files .now) (a .area .now) (a .nums .now) (a .log .now) (a .count) (a .k) (a .left) (a .s) (b .result) (z .result) h (b .ensures) (z .ensures) (l .area) (l .nums) (l .log) (l .words) (l .at) (l .u) (l .inv) _ _ (d .result) (d .ensures) _ _ _ (at-n .n .given .1) (d .kept .1 .1 .1 .1 .1 .1 .0) _ refl); is = named-at _ _ _ (m .result) 2 (p .ensures) (m .ensures .is) (at-if1 .if1 .taken) }))
 
 read-file-same-length-7 : (t : ℕ) → read-file-lts.Need-same-length-7 (read-file-cs t) (read-file-at t) read-file.Post read-file-Inv-loop read-file-μ-loop
-read-file-same-length-7 t c = c .before .before .before .before .before .before .before .before .load .kept .1 .1 .0 ∙ c .before .before .before .before .before .before .before .before .before .before .before .before .before .before .before .before .before .before .before .before .before .before .before .before .before .before .before .before .before .next-command .kept .1 .1 .1 .1 .1 .1 .0 ∙ c .before .before .before .before .before .before .before .before .before .before .before .before .before .before .before .before .before .before .before .before .before .before .before .before .before .before .before .before .before .before .before .before .before .before .loop .inv .area-long
+read-file-same-length-7 t c =
+    let at-load = c .before .before .before .before .before .before .before .before in
+    let at-next-command = at-load .before .before .before .before .before .before .before .before .before .before .before .before .before .before .before .before .before .before .before .before .before in
+    let at-loop = at-next-command .before .before .before .before .before in
+    at-load .load .kept .1 .1 .0 ∙ at-next-command .next-command .kept .1 .1 .1 .1 .1 .1 .0 ∙ at-loop .loop .inv .area-long
 
 read-file-same-length-8 : (t : ℕ) → read-file-lts.Need-same-length-8 (read-file-cs t) (read-file-at t) read-file.Post read-file-Inv-loop read-file-μ-loop
-read-file-same-length-8 t c = c .before .before .before .before .before .before .before .before .load .kept .1 .1 .1 .0 ∙ c .before .before .before .before .before .before .before .before .before .before .before .before .before .before .before .before .before .before .before .before .before .before .before .before .before .before .before .before .before .before .before .before .before .before .loop .inv .nums-long
+read-file-same-length-8 t c =
+    let at-load = c .before .before .before .before .before .before .before .before in
+    let at-loop = at-load .before .before .before .before .before .before .before .before .before .before .before .before .before .before .before .before .before .before .before .before .before .before .before .before .before .before in
+    at-load .load .kept .1 .1 .1 .0 ∙ at-loop .loop .inv .nums-long
 
 read-file-same-length-9 : (t : ℕ) → read-file-lts.Need-same-length-9 (read-file-cs t) (read-file-at t) read-file.Post read-file-Inv-loop read-file-μ-loop
-read-file-same-length-9 t c = c .before .before .before .before .before .before .before .before .load .kept .1 .1 .1 .1 .0 ∙ c .before .before .before .before .before .before .before .before .before .before .before .before .before .before .before .before .before .before .before .before .before .before .before .before .before .before .before .before .before .before .before .before .before .before .loop .inv .log-long
+read-file-same-length-9 t c =
+    let at-load = c .before .before .before .before .before .before .before .before in
+    let at-loop = at-load .before .before .before .before .before .before .before .before .before .before .before .before .before .before .before .before .before .before .before .before .before .before .before .before .before .before in
+    at-load .load .kept .1 .1 .1 .1 .0 ∙ at-loop .loop .inv .log-long
 
 read-file-returns-3 : (t : ℕ) → read-file-lts.Need-returns-3 (read-file-cs t) (read-file-at t) read-file.Post read-file-Inv-loop read-file-μ-loop
 read-file-returns-3 t c =
-    let e = c .before .before .before .before .before .before .before .before .before .before .before .before .before .before .before .before .before .before .before .before .before .before .before .before .before .before .before .before .before .before .before .before .before .before .before .before .before .before .before .before .before .before .before .before .before .before in let a = e .args in let l = c .before .before .before .before .before .before .before .before .before .before .before .before .before .before .before .before .before .before .before .before .before .before .before .before .before .before .before .before .before .before .before .before .before .before .loop in let b = c .before .before .before .before .before .before .before .before .before .before .before .before .before .before .before .before .before .before .before .before .before .before .before .before .before .before .before .before .before .before .before .before .before .before .before .before .before .before .before .place in let z = c .before .before .before .before .before .before .before .before .before .before .before .before .before .before .before .before .before .before .before .before .before .before .before .before .before .before .before .before .before .before .before .before .before .before .before .before .before .place2 in let d = c .before .before .before .before .before .before .before .before .before .before .before .before .before .before .before .before .before .before .before .before .before .before .before .before .before .before .before .before .before .next-command in
-    turn-failed (a .job .now) (a .files .now) (a .area .now) (a .nums .now) (a .log .now) (a .count) (a .k) (a .left) (a .s) (b .result) (z .result) (e .pre .1) (b .ensures) (z .ensures) (l .area) (l .nums) (l .log) (l .words) (l .at) (l .u) (l .inv) _ _ (d .result) (d .ensures) _ _ _ (c .before .before .before .before .before .before .before .before .before .before .before .before .before .before .before .before .before .before .before .before .before .before .before .before .n .given .1) (d .kept .1 .1 .1 .1 .1 .1 .0) _ refl _ _ _ _ (c .before .before .before .before .before .before .before .before .load .ensures) (c .if2 .taken)
+    let at-load = c .before .before .before .before .before .before .before .before in
+    let at-n = at-load .before .before .before .before .before .before .before .before .before .before .before .before .before .before .before .before in
+    let at-next-command = at-n .before .before .before .before .before in
+    let at-loop = at-next-command .before .before .before .before .before in
+    let at-place2 = at-loop .before .before .before in
+    let at-place = at-place2 .before .before in
+    let start = at-place .before .before .before .before .before .before .before in
+    let a = start .args in let h = start .pre .1 in let l = at-loop .loop in let b = at-place .place in let z = at-place2 .place2 in let d = at-next-command .next-command in
+    turn-failed (a .job .now) (a .files .now) (a .area .now) (a .nums .now) (a .log .now) (a .count) (a .k) (a .left) (a .s) (b .result) (z .result) h (b .ensures) (z .ensures) (l .area) (l .nums) (l .log) (l .words) (l .at) (l .u) (l .inv) _ _ (d .result) (d .ensures) _ _ _ (at-n .n .given .1) (d .kept .1 .1 .1 .1 .1 .1 .0) _ refl _ _ _ _ (at-load .load .ensures) (c .if2 .taken)
 
 read-file-loop-less : (t : ℕ) → read-file-lts.Need-loop-less (read-file-cs t) (read-file-at t) read-file.Post read-file-Inv-loop read-file-μ-loop
 read-file-loop-less t c =
-    let e = c .before .before .before .before .before .before .before .before .before .before .before .before .before .before .before .before .before .before .before .before .before .before .before .before .before .before .before .before .before .before .before .before .before .before .before .before .before .before .before .before .before .before .before .before .before .before .before in let a = e .args in let l = c .before .before .before .before .before .before .before .before .before .before .before .before .before .before .before .before .before .before .before .before .before .before .before .before .before .before .before .before .before .before .before .before .before .before .before .loop in let b = c .before .before .before .before .before .before .before .before .before .before .before .before .before .before .before .before .before .before .before .before .before .before .before .before .before .before .before .before .before .before .before .before .before .before .before .before .before .before .before .before .place in let z = c .before .before .before .before .before .before .before .before .before .before .before .before .before .before .before .before .before .before .before .before .before .before .before .before .before .before .before .before .before .before .before .before .before .before .before .before .before .before .place2 in let d = c .before .before .before .before .before .before .before .before .before .before .before .before .before .before .before .before .before .before .before .before .before .before .before .before .before .before .before .before .before .before .next-command in
-    turn-less (a .job .now) (a .files .now) (a .area .now) (a .nums .now) (a .log .now) (a .count) (a .k) (a .left) (a .s) (b .result) (z .result) (e .pre .1) (b .ensures) (z .ensures) (l .area) (l .nums) (l .log) (l .words) (l .at) (l .u) (l .inv) _ _ (d .result) (d .ensures) _ _ _ (c .before .before .before .before .before .before .before .before .before .before .before .before .before .before .before .before .before .before .before .before .before .before .before .before .before .n .given .1)
+    let at-n = c .before .before .before .before .before .before .before .before .before .before .before .before .before .before .before .before .before .before .before .before .before .before .before .before .before in
+    let at-next-command = at-n .before .before .before .before .before in
+    let at-loop = at-next-command .before .before .before .before .before in
+    let at-place2 = at-loop .before .before .before in
+    let at-place = at-place2 .before .before in
+    let start = at-place .before .before .before .before .before .before .before in
+    let a = start .args in let h = start .pre .1 in let l = at-loop .loop in let b = at-place .place in let z = at-place2 .place2 in let d = at-next-command .next-command in
+    turn-less (a .job .now) (a .files .now) (a .area .now) (a .nums .now) (a .log .now) (a .count) (a .k) (a .left) (a .s) (b .result) (z .result) h (b .ensures) (z .ensures) (l .area) (l .nums) (l .log) (l .words) (l .at) (l .u) (l .inv) _ _ (d .result) (d .ensures) _ _ _ (at-n .n .given .1)
 
 read-file-loop-again : (t : ℕ) → read-file-lts.Need-loop-again (read-file-cs t) (read-file-at t) read-file.Post read-file-Inv-loop read-file-μ-loop
 read-file-loop-again t c =
-    let e = c .before .before .before .before .before .before .before .before .before .before .before .before .before .before .before .before .before .before .before .before .before .before .before .before .before .before .before .before .before .before .before .before .before .before .before .before .before .before .before .before .before .before .before .before .before .before .before in let a = e .args in let l = c .before .before .before .before .before .before .before .before .before .before .before .before .before .before .before .before .before .before .before .before .before .before .before .before .before .before .before .before .before .before .before .before .before .before .before .loop in let b = c .before .before .before .before .before .before .before .before .before .before .before .before .before .before .before .before .before .before .before .before .before .before .before .before .before .before .before .before .before .before .before .before .before .before .before .before .before .before .before .before .place in let z = c .before .before .before .before .before .before .before .before .before .before .before .before .before .before .before .before .before .before .before .before .before .before .before .before .before .before .before .before .before .before .before .before .before .before .before .before .before .before .place2 in let d = c .before .before .before .before .before .before .before .before .before .before .before .before .before .before .before .before .before .before .before .before .before .before .before .before .before .before .before .before .before .before .next-command in
-    turn-again (a .job .now) (a .files .now) (a .area .now) (a .nums .now) (a .log .now) (a .count) (a .k) (a .left) (a .s) (b .result) (z .result) (e .pre .1) (b .ensures) (z .ensures) (l .area) (l .nums) (l .log) (l .words) (l .at) (l .u) (l .inv) _ _ (d .result) (d .ensures) _ _ _ (c .before .before .before .before .before .before .before .before .before .before .before .before .before .before .before .before .before .before .before .before .before .before .before .before .before .n .given .1) (d .kept .1 .1 .1 .1 .1 .1 .0) _ refl _ _ _ _ (c .before .before .before .before .before .before .before .before .before .load .ensures) (c .before .if2 .left) (d .kept .1 .1 .1 .1 .1 .1 .1 .1 .1 .0) (c .before .before .before .before .before .before .before .before .before .load .kept .1 .1 .0) (c .before .before .before .before .before .before .before .before .before .load .kept .1 .1 .1 .0) (c .before .before .before .before .before .before .before .before .before .load .kept .1 .1 .1 .1 .0)
+    let at-if2 = c .before in
+    let at-load = at-if2 .before .before .before .before .before .before .before .before in
+    let at-n = at-load .before .before .before .before .before .before .before .before .before .before .before .before .before .before .before .before in
+    let at-next-command = at-n .before .before .before .before .before in
+    let at-loop = at-next-command .before .before .before .before .before in
+    let at-place2 = at-loop .before .before .before in
+    let at-place = at-place2 .before .before in
+    let start = at-place .before .before .before .before .before .before .before in
+    let a = start .args in let h = start .pre .1 in let l = at-loop .loop in let b = at-place .place in let z = at-place2 .place2 in let d = at-next-command .next-command in
+    turn-again (a .job .now) (a .files .now) (a .area .now) (a .nums .now) (a .log .now) (a .count) (a .k) (a .left) (a .s) (b .result) (z .result) h (b .ensures) (z .ensures) (l .area) (l .nums) (l .log) (l .words) (l .at) (l .u) (l .inv) _ _ (d .result) (d .ensures) _ _ _ (at-n .n .given .1) (d .kept .1 .1 .1 .1 .1 .1 .0) _ refl _ _ _ _ (at-load .load .ensures) (at-if2 .if2 .left) (d .kept .1 .1 .1 .1 .1 .1 .1 .1 .1 .0) (at-load .load .kept .1 .1 .0) (at-load .load .kept .1 .1 .1 .0) (at-load .load .kept .1 .1 .1 .1 .0)
 
 read-file-slice-reshare-prefix-counted : (t : ℕ) → read-file-lts.Need-slice-reshare-prefix-counted (read-file-cs t) (read-file-at t) read-file.Post read-file-Inv-loop read-file-μ-loop
 read-file-slice-reshare-prefix-counted t c =
-    let e = c .before .before .before .before .before .before .before .before .before .before .before .before .before .before .before .before .before .before .before .before .before .before .before .before .before .before .before .before .before .before .before .before .before in let a = e .args in let l = c .before .before .before .before .before .before .before .before .before .before .before .before .before .before .before .before .before .before .before .before .before .loop in let b = c .before .before .before .before .before .before .before .before .before .before .before .before .before .before .before .before .before .before .before .before .before .before .before .before .before .before .place in let z = c .before .before .before .before .before .before .before .before .before .before .before .before .before .before .before .before .before .before .before .before .before .before .before .before .place2 in let d = c .before .before .before .before .before .before .before .before .before .before .before .before .before .before .before .before .next-command in
-    end-in (a .job .now) (a .files .now) _ (l .nums) _ (a .count) _ (a .k) (a .left) _ (turn-doing (a .job .now) (a .files .now) (a .area .now) (a .nums .now) (a .log .now) (a .count) (a .k) (a .left) (a .s) (b .result) (z .result) (e .pre .1) (b .ensures) (z .ensures) (l .area) (l .nums) (l .log) (l .words) (l .at) (l .u) (l .inv) _ _ (d .result) (d .ensures) _ _ _ (c .before .before .before .before .before .before .before .before .before .before .before .n .given .1) (d .kept .1 .1 .1 .1 .1 .1 .0) _ refl)
+    let at-n = c .before .before .before .before .before .before .before .before .before .before .before in
+    let at-next-command = at-n .before .before .before .before .before in
+    let at-loop = at-next-command .before .before .before .before .before in
+    let at-place2 = at-loop .before .before .before in
+    let at-place = at-place2 .before .before in
+    let start = at-place .before .before .before .before .before .before .before in
+    let a = start .args in let h = start .pre .1 in let l = at-loop .loop in let b = at-place .place in let z = at-place2 .place2 in let d = at-next-command .next-command in
+    end-in (a .job .now) (a .files .now) _ (l .nums) _ (a .count) _ (a .k) (a .left) _ (turn-doing (a .job .now) (a .files .now) (a .area .now) (a .nums .now) (a .log .now) (a .count) (a .k) (a .left) (a .s) (b .result) (z .result) h (b .ensures) (z .ensures) (l .area) (l .nums) (l .log) (l .words) (l .at) (l .u) (l .inv) _ _ (d .result) (d .ensures) _ _ _ (at-n .n .given .1) (d .kept .1 .1 .1 .1 .1 .1 .0) _ refl)
 
 read-file-slice-aggregate-counted : (t : ℕ) → read-file-lts.Need-slice-aggregate-counted (read-file-cs t) (read-file-at t) read-file.Post read-file-Inv-loop read-file-μ-loop
 read-file-slice-aggregate-counted t c =
-    let e = c .before .before .before .before .before .before .before .before .before .before .before .before .before .before .before .before .before .before .before .before .before .before .before .before .before .before .before .before .before .before .before .before .before .before in let a = e .args in let l = c .before .before .before .before .before .before .before .before .before .before .before .before .before .before .before .before .before .before .before .before .before .before .loop in let b = c .before .before .before .before .before .before .before .before .before .before .before .before .before .before .before .before .before .before .before .before .before .before .before .before .before .before .before .place in let z = c .before .before .before .before .before .before .before .before .before .before .before .before .before .before .before .before .before .before .before .before .before .before .before .before .before .place2 in let d = c .before .before .before .before .before .before .before .before .before .before .before .before .before .before .before .before .before .next-command in
-    front-long (a .job .now) (a .files .now) _ (l .nums) _ (a .count) _ (a .k) (a .left) _ (turn-doing (a .job .now) (a .files .now) (a .area .now) (a .nums .now) (a .log .now) (a .count) (a .k) (a .left) (a .s) (b .result) (z .result) (e .pre .1) (b .ensures) (z .ensures) (l .area) (l .nums) (l .log) (l .words) (l .at) (l .u) (l .inv) _ _ (d .result) (d .ensures) _ _ _ (c .before .before .before .before .before .before .before .before .before .before .before .before .n .given .1) (d .kept .1 .1 .1 .1 .1 .1 .0) _ refl)
+    let at-n = c .before .before .before .before .before .before .before .before .before .before .before .before in
+    let at-next-command = at-n .before .before .before .before .before in
+    let at-loop = at-next-command .before .before .before .before .before in
+    let at-place2 = at-loop .before .before .before in
+    let at-place = at-place2 .before .before in
+    let start = at-place .before .before .before .before .before .before .before in
+    let a = start .args in let h = start .pre .1 in let l = at-loop .loop in let b = at-place .place in let z = at-place2 .place2 in let d = at-next-command .next-command in
+    front-long (a .job .now) (a .files .now) _ (l .nums) _ (a .count) _ (a .k) (a .left) _ (turn-doing (a .job .now) (a .files .now) (a .area .now) (a .nums .now) (a .log .now) (a .count) (a .k) (a .left) (a .s) (b .result) (z .result) h (b .ensures) (z .ensures) (l .area) (l .nums) (l .log) (l .words) (l .at) (l .u) (l .inv) _ _ (d .result) (d .ensures) _ _ _ (at-n .n .given .1) (d .kept .1 .1 .1 .1 .1 .1 .0) _ refl)
 
 read-file-slice-aggregate-counted-2 : (t : ℕ) → read-file-lts.Need-slice-aggregate-counted-2 (read-file-cs t) (read-file-at t) read-file.Post read-file-Inv-loop read-file-μ-loop
-read-file-slice-aggregate-counted-2 t c = sym (c .before .before .before .before .before .before .before .before .before .before .before .before .before .before .before .before .before .before .next-command .kept .1 .1 .1 .1 .1 .1 .1 .1 .1 .0 ∙ c .before .before .before .before .before .before .before .before .before .before .before .before .before .before .before .before .before .before .before .before .before .before .before .loop .inv .spans)
+read-file-slice-aggregate-counted-2 t c =
+    let at-next-command = c .before .before .before .before .before .before .before .before .before .before .before .before .before .before .before .before .before .before in
+    let at-loop = at-next-command .before .before .before .before .before in
+    sym (at-next-command .next-command .kept .1 .1 .1 .1 .1 .1 .1 .1 .1 .0 ∙ at-loop .loop .inv .spans)
 
 read-file-counted-requires : (t : ℕ) → read-file-lts.Need-counted-requires (read-file-cs t) (read-file-at t) read-file.Post read-file-Inv-loop read-file-μ-loop
 read-file-counted-requires t c κs =
-    let e = c .before .before .before .before .before .before .before .before .before .before .before .before .before .before .before .before .before .before .before .before .before .before .before .before .before .before .before .before .before .before .before .before .before .before .before in let a = e .args in let l = c .before .before .before .before .before .before .before .before .before .before .before .before .before .before .before .before .before .before .before .before .before .before .before .loop in let b = c .before .before .before .before .before .before .before .before .before .before .before .before .before .before .before .before .before .before .before .before .before .before .before .before .before .before .before .before .place in let z = c .before .before .before .before .before .before .before .before .before .before .before .before .before .before .before .before .before .before .before .before .before .before .before .before .before .before .place2 in let d = c .before .before .before .before .before .before .before .before .before .before .before .before .before .before .before .before .before .before .next-command in
-    lists (a .job .now) (a .files .now) _ (l .nums) _ (a .count) _ (a .k) (a .left) _ (turn-doing (a .job .now) (a .files .now) (a .area .now) (a .nums .now) (a .log .now) (a .count) (a .k) (a .left) (a .s) (b .result) (z .result) (e .pre .1) (b .ensures) (z .ensures) (l .area) (l .nums) (l .log) (l .words) (l .at) (l .u) (l .inv) _ _ (d .result) (d .ensures) _ _ _ (c .before .before .before .before .before .before .before .before .before .before .before .before .before .n .given .1) (d .kept .1 .1 .1 .1 .1 .1 .0) _ refl)
+    let at-n = c .before .before .before .before .before .before .before .before .before .before .before .before .before in
+    let at-next-command = at-n .before .before .before .before .before in
+    let at-loop = at-next-command .before .before .before .before .before in
+    let at-place2 = at-loop .before .before .before in
+    let at-place = at-place2 .before .before in
+    let start = at-place .before .before .before .before .before .before .before in
+    let a = start .args in let h = start .pre .1 in let l = at-loop .loop in let b = at-place .place in let z = at-place2 .place2 in let d = at-next-command .next-command in
+    lists (a .job .now) (a .files .now) _ (l .nums) _ (a .count) _ (a .k) (a .left) _ (turn-doing (a .job .now) (a .files .now) (a .area .now) (a .nums .now) (a .log .now) (a .count) (a .k) (a .left) (a .s) (b .result) (z .result) h (b .ensures) (z .ensures) (l .area) (l .nums) (l .log) (l .words) (l .at) (l .u) (l .inv) _ _ (d .result) (d .ensures) _ _ _ (at-n .n .given .1) (d .kept .1 .1 .1 .1 .1 .1 .0) _ refl)
 
 read-file-same-length-10 : (t : ℕ) → read-file-lts.Need-same-length-10 (read-file-cs t) (read-file-at t) read-file.Post read-file-Inv-loop read-file-μ-loop
-read-file-same-length-10 t c = c .before .before .before .before .before .before .before .before .before .before .before .before .before .before .before .before .before .before .before .before .before .next-command .kept .1 .1 .1 .1 .1 .1 .0 ∙ c .before .before .before .before .before .before .before .before .before .before .before .before .before .before .before .before .before .before .before .before .before .before .before .before .before .before .loop .inv .area-long
+read-file-same-length-10 t c =
+    let at-next-command = c .before .before .before .before .before .before .before .before .before .before .before .before .before .before .before .before .before .before .before .before .before in
+    let at-loop = at-next-command .before .before .before .before .before in
+    at-next-command .next-command .kept .1 .1 .1 .1 .1 .1 .0 ∙ at-loop .loop .inv .area-long
 
 read-file-same-length-11 : (t : ℕ) → read-file-lts.Need-same-length-11 (read-file-cs t) (read-file-at t) read-file.Post read-file-Inv-loop read-file-μ-loop
-read-file-same-length-11 t c = c .before .before .before .before .before .before .before .before .before .before .before .before .before .before .before .before .before .before .before .before .before .before .before .before .before .before .loop .inv .nums-long
+read-file-same-length-11 t c =
+    let at-loop = c .before .before .before .before .before .before .before .before .before .before .before .before .before .before .before .before .before .before .before .before .before .before .before .before .before .before in
+    at-loop .loop .inv .nums-long
 
 read-file-same-length-12 : (t : ℕ) → read-file-lts.Need-same-length-12 (read-file-cs t) (read-file-at t) read-file.Post read-file-Inv-loop read-file-μ-loop
-read-file-same-length-12 t c = c .before .before .before .before .before .before .before .before .before .before .before .before .before .before .before .before .before .before .before .before .before .before .before .before .before .before .loop .inv .log-long
+read-file-same-length-12 t c =
+    let at-loop = c .before .before .before .before .before .before .before .before .before .before .before .before .before .before .before .before .before .before .before .before .before .before .before .before .before .before in
+    at-loop .loop .inv .log-long
 
 read-file-returns-4 : (t : ℕ) → read-file-lts.Need-returns-4 (read-file-cs t) (read-file-at t) read-file.Post read-file-Inv-loop read-file-μ-loop
 read-file-returns-4 t c =
-    let e = c .before .before .before .before .before .before .before .before .before .before .before .before .before .before .before .before .before .before .before .before .before .before .before .before .before .before .before .before .before .before .before .before .before .before .before .before .before .before in let a = e .args in let l = c .before .before .before .before .before .before .before .before .before .before .before .before .before .before .before .before .before .before .before .before .before .before .before .before .before .before .loop in let b = c .before .before .before .before .before .before .before .before .before .before .before .before .before .before .before .before .before .before .before .before .before .before .before .before .before .before .before .before .before .before .before .place in let z = c .before .before .before .before .before .before .before .before .before .before .before .before .before .before .before .before .before .before .before .before .before .before .before .before .before .before .before .before .before .place2 in let d = c .before .before .before .before .before .before .before .before .before .before .before .before .before .before .before .before .before .before .before .before .before .next-command in let p = c .before .before .before .before .before .before .before .pair in let m = c .before .before .before .before .before .before .number in let x = c .before .before .counted in
-    turn-failed (a .job .now) (a .files .now) (a .area .now) (a .nums .now) (a .log .now) (a .count) (a .k) (a .left) (a .s) (b .result) (z .result) (e .pre .1) (b .ensures) (z .ensures) (l .area) (l .nums) (l .log) (l .words) (l .at) (l .u) (l .inv) _ _ (d .result) (d .ensures) _ _ _ (c .before .before .before .before .before .before .before .before .before .before .before .before .before .before .before .before .n .given .1) (d .kept .1 .1 .1 .1 .1 .1 .0) _ refl _ _ _ _ (past (a .job .now) (a .files .now) _ (l .nums) _ (a .count) _ (a .k) (a .left) _ (turn-doing (a .job .now) (a .files .now) (a .area .now) (a .nums .now) (a .log .now) (a .count) (a .k) (a .left) (a .s) (b .result) (z .result) (e .pre .1) (b .ensures) (z .ensures) (l .area) (l .nums) (l .log) (l .words) (l .at) (l .u) (l .inv) _ _ (d .result) (d .ensures) _ _ _ (c .before .before .before .before .before .before .before .before .before .before .before .before .before .before .before .before .n .given .1) (d .kept .1 .1 .1 .1 .1 .1 .0) _ refl) (m .result) (named-at _ _ _ (m .result) (m .result) (p .ensures) (m .ensures .is) refl) (x .result) (x .ensures) (search (c .enum-told3 .given)) _) (λ q. absurd (omega (arith, q)))
+    let at-counted = c .before .before in
+    let at-number = at-counted .before .before .before .before in
+    let at-pair = at-number .before in
+    let at-n = at-pair .before .before .before .before .before .before .before .before .before in
+    let at-next-command = at-n .before .before .before .before .before in
+    let at-loop = at-next-command .before .before .before .before .before in
+    let at-place2 = at-loop .before .before .before in
+    let at-place = at-place2 .before .before in
+    let start = at-place .before .before .before .before .before .before .before in
+    let a = start .args in let h = start .pre .1 in let l = at-loop .loop in let b = at-place .place in let z = at-place2 .place2 in let d = at-next-command .next-command in
+    let p = at-pair .pair in let m = at-number .number in let x = at-counted .counted in
+    turn-failed (a .job .now) (a .files .now) (a .area .now) (a .nums .now) (a .log .now) (a .count) (a .k) (a .left) (a .s) (b .result) (z .result) h (b .ensures) (z .ensures) (l .area) (l .nums) (l .log) (l .words) (l .at) (l .u) (l .inv) _ _ (d .result) (d .ensures) _ _ _ (at-n .n .given .1) (d .kept .1 .1 .1 .1 .1 .1 .0) _ refl _ _ _ _ (past (a .job .now) (a .files .now) _ (l .nums) _ (a .count) _ (a .k) (a .left) _ (turn-doing (a .job .now) (a .files .now) (a .area .now) (a .nums .now) (a .log .now) (a .count) (a .k) (a .left) (a .s) (b .result) (z .result) h (b .ensures) (z .ensures) (l .area) (l .nums) (l .log) (l .words) (l .at) (l .u) (l .inv) _ _ (d .result) (d .ensures) _ _ _ (at-n .n .given .1) (d .kept .1 .1 .1 .1 .1 .1 .0) _ refl) (m .result) (named-at _ _ _ (m .result) (m .result) (p .ensures) (m .ensures .is) refl) (x .result) (x .ensures) (search (c .enum-told3 .given)) _) (λ q. absurd (omega (arith, q)))
 
-read-file-slice-aggregate-plain : (t : ℕ) → read-file-lts.Need-slice-aggregate-plain (read-file-cs t) (read-file-at t) read-file.Post read-file-Inv-loop read-file-μ-loop
-read-file-slice-aggregate-plain t c = sym (c .before .before .before .before .before .before .before .before .before .before .before .before .before .before .before .before .before .before .before .before .before .before .before .before .before .before .before .next-command .kept .1 .1 .1 .1 .1 .1 .1 .1 .1 .0 ∙ c .before .before .before .before .before .before .before .before .before .before .before .before .before .before .before .before .before .before .before .before .before .before .before .before .before .before .before .before .before .before .before .before .loop .inv .spans)
+read-file-slice-reshare-prefix-puts : (t : ℕ) → read-file-lts.Need-slice-reshare-prefix-puts (read-file-cs t) (read-file-at t) read-file.Post read-file-Inv-loop read-file-μ-loop
+read-file-slice-reshare-prefix-puts t c =
+    let at-n = c .before .before .before .before .before .before .before .before .before .before .before .before .before .before .before .before .before .before .before in
+    let at-next-command = at-n .before .before .before .before .before in
+    let at-loop = at-next-command .before .before .before .before .before in
+    let at-place2 = at-loop .before .before .before in
+    let at-place = at-place2 .before .before in
+    let start = at-place .before .before .before .before .before .before .before in
+    let a = start .args in let h = start .pre .1 in let l = at-loop .loop in let b = at-place .place in let z = at-place2 .place2 in let d = at-next-command .next-command in
+    end-in (a .job .now) (a .files .now) _ (l .nums) _ (a .count) _ (a .k) (a .left) _ (turn-doing (a .job .now) (a .files .now) (a .area .now) (a .nums .now) (a .log .now) (a .count) (a .k) (a .left) (a .s) (b .result) (z .result) h (b .ensures) (z .ensures) (l .area) (l .nums) (l .log) (l .words) (l .at) (l .u) (l .inv) _ _ (d .result) (d .ensures) _ _ _ (at-n .n .given .1) (d .kept .1 .1 .1 .1 .1 .1 .0) _ refl)
 
-read-file-plain-requires : (t : ℕ) → read-file-lts.Need-plain-requires (read-file-cs t) (read-file-at t) read-file.Post read-file-Inv-loop read-file-μ-loop
-read-file-plain-requires t c κs =
-    let e = c .before .before .before .before .before .before .before .before .before .before .before .before .before .before .before .before .before .before .before .before .before .before .before .before .before .before .before .before .before .before .before .before .before .before .before .before .before .before .before .before .before .before .before .before in let a = e .args in let l = c .before .before .before .before .before .before .before .before .before .before .before .before .before .before .before .before .before .before .before .before .before .before .before .before .before .before .before .before .before .before .before .before .loop in let b = c .before .before .before .before .before .before .before .before .before .before .before .before .before .before .before .before .before .before .before .before .before .before .before .before .before .before .before .before .before .before .before .before .before .before .before .before .before .place in let z = c .before .before .before .before .before .before .before .before .before .before .before .before .before .before .before .before .before .before .before .before .before .before .before .before .before .before .before .before .before .before .before .before .before .before .before .place2 in let d = c .before .before .before .before .before .before .before .before .before .before .before .before .before .before .before .before .before .before .before .before .before .before .before .before .before .before .before .next-command in let p = c .before .before .before .before .before .before .before .before .before .before .before .before .before .pair in let m = c .before .before .before .before .before .before .before .before .before .before .before .before .number in let x = c .before .before .before .before .before .before .before .before .counted in
-    asks (a .job .now) (a .files .now) _ (l .nums) _ (a .count) _ (a .k) (a .left) _ (turn-doing (a .job .now) (a .files .now) (a .area .now) (a .nums .now) (a .log .now) (a .count) (a .k) (a .left) (a .s) (b .result) (z .result) (e .pre .1) (b .ensures) (z .ensures) (l .area) (l .nums) (l .log) (l .words) (l .at) (l .u) (l .inv) _ _ (d .result) (d .ensures) _ _ _ (c .before .before .before .before .before .before .before .before .before .before .before .before .before .before .before .before .before .before .before .before .before .before .n .given .1) (d .kept .1 .1 .1 .1 .1 .1 .0) _ refl) (m .result) (named-at _ _ _ (m .result) (m .result) (p .ensures) (m .ensures .is) refl) (x .result) (x .ensures) _ (c .before .before .before .before .before .before .t .given .1) (c .before .before .before .before .before .before .before .before .before .before .before .if1 .left) (m .ensures .known)
+read-file-slice-aggregate-puts : (t : ℕ) → read-file-lts.Need-slice-aggregate-puts (read-file-cs t) (read-file-at t) read-file.Post read-file-Inv-loop read-file-μ-loop
+read-file-slice-aggregate-puts t c =
+    let at-n = c .before .before .before .before .before .before .before .before .before .before .before .before .before .before .before .before .before .before .before .before in
+    let at-next-command = at-n .before .before .before .before .before in
+    let at-loop = at-next-command .before .before .before .before .before in
+    let at-place2 = at-loop .before .before .before in
+    let at-place = at-place2 .before .before in
+    let start = at-place .before .before .before .before .before .before .before in
+    let a = start .args in let h = start .pre .1 in let l = at-loop .loop in let b = at-place .place in let z = at-place2 .place2 in let d = at-next-command .next-command in
+    front-long (a .job .now) (a .files .now) _ (l .nums) _ (a .count) _ (a .k) (a .left) _ (turn-doing (a .job .now) (a .files .now) (a .area .now) (a .nums .now) (a .log .now) (a .count) (a .k) (a .left) (a .s) (b .result) (z .result) h (b .ensures) (z .ensures) (l .area) (l .nums) (l .log) (l .words) (l .at) (l .u) (l .inv) _ _ (d .result) (d .ensures) _ _ _ (at-n .n .given .1) (d .kept .1 .1 .1 .1 .1 .1 .0) _ refl)
 
-read-file-same-length-13 : (t : ℕ) → read-file-lts.Need-same-length-13 (read-file-cs t) (read-file-at t) read-file.Post read-file-Inv-loop read-file-μ-loop
-read-file-same-length-13 t c = c .before .before .before .before .before .before .before .before .plain .kept .1 .0 ∙ c .before .before .before .before .before .before .before .before .before .before .before .before .before .before .before .before .before .before .before .before .before .before .before .before .before .before .before .before .before .before .before .before .before .before .before .before .next-command .kept .1 .1 .1 .1 .1 .1 .0 ∙ c .before .before .before .before .before .before .before .before .before .before .before .before .before .before .before .before .before .before .before .before .before .before .before .before .before .before .before .before .before .before .before .before .before .before .before .before .before .before .before .before .before .loop .inv .area-long
-
-read-file-same-length-14 : (t : ℕ) → read-file-lts.Need-same-length-14 (read-file-cs t) (read-file-at t) read-file.Post read-file-Inv-loop read-file-μ-loop
-read-file-same-length-14 t c = c .before .before .before .before .before .before .before .before .plain .kept .1 .1 .0 ∙ c .before .before .before .before .before .before .before .before .before .before .before .before .before .before .before .before .before .before .before .before .before .before .before .before .before .before .before .before .before .before .before .before .before .before .before .before .before .before .before .before .before .loop .inv .nums-long
-
-read-file-same-length-15 : (t : ℕ) → read-file-lts.Need-same-length-15 (read-file-cs t) (read-file-at t) read-file.Post read-file-Inv-loop read-file-μ-loop
-read-file-same-length-15 t c = c .before .before .before .before .before .before .before .before .plain .kept .1 .1 .1 .0 ∙ c .before .before .before .before .before .before .before .before .before .before .before .before .before .before .before .before .before .before .before .before .before .before .before .before .before .before .before .before .before .before .before .before .before .before .before .before .before .before .before .before .before .loop .inv .log-long
-
-read-file-returns-5 : (t : ℕ) → read-file-lts.Need-returns-5 (read-file-cs t) (read-file-at t) read-file.Post read-file-Inv-loop read-file-μ-loop
-read-file-returns-5 t c =
-    let e = c .before .before .before .before .before .before .before .before .before .before .before .before .before .before .before .before .before .before .before .before .before .before .before .before .before .before .before .before .before .before .before .before .before .before .before .before .before .before .before .before .before .before .before .before .before .before .before .before .before .before .before .before .before in let a = e .args in let l = c .before .before .before .before .before .before .before .before .before .before .before .before .before .before .before .before .before .before .before .before .before .before .before .before .before .before .before .before .before .before .before .before .before .before .before .before .before .before .before .before .before .loop in let b = c .before .before .before .before .before .before .before .before .before .before .before .before .before .before .before .before .before .before .before .before .before .before .before .before .before .before .before .before .before .before .before .before .before .before .before .before .before .before .before .before .before .before .before .before .before .before .place in let z = c .before .before .before .before .before .before .before .before .before .before .before .before .before .before .before .before .before .before .before .before .before .before .before .before .before .before .before .before .before .before .before .before .before .before .before .before .before .before .before .before .before .before .before .before .place2 in let d = c .before .before .before .before .before .before .before .before .before .before .before .before .before .before .before .before .before .before .before .before .before .before .before .before .before .before .before .before .before .before .before .before .before .before .before .before .next-command in let p = c .before .before .before .before .before .before .before .before .before .before .before .before .before .before .before .before .before .before .before .before .before .before .pair in let m = c .before .before .before .before .before .before .before .before .before .before .before .before .before .before .before .before .before .before .before .before .before .number in let x = c .before .before .before .before .before .before .before .before .before .before .before .before .before .before .before .before .before .counted in
-    turn-failed (a .job .now) (a .files .now) (a .area .now) (a .nums .now) (a .log .now) (a .count) (a .k) (a .left) (a .s) (b .result) (z .result) (e .pre .1) (b .ensures) (z .ensures) (l .area) (l .nums) (l .log) (l .words) (l .at) (l .u) (l .inv) _ _ (d .result) (d .ensures) _ _ _ (c .before .before .before .before .before .before .before .before .before .before .before .before .before .before .before .before .before .before .before .before .before .before .before .before .before .before .before .before .before .before .before .n .given .1) (d .kept .1 .1 .1 .1 .1 .1 .0) _ refl _ _ _ _ (does (a .job .now) (a .files .now) _ (l .nums) _ (a .count) _ (a .k) (a .left) _ (turn-doing (a .job .now) (a .files .now) (a .area .now) (a .nums .now) (a .log .now) (a .count) (a .k) (a .left) (a .s) (b .result) (z .result) (e .pre .1) (b .ensures) (z .ensures) (l .area) (l .nums) (l .log) (l .words) (l .at) (l .u) (l .inv) _ _ (d .result) (d .ensures) _ _ _ (c .before .before .before .before .before .before .before .before .before .before .before .before .before .before .before .before .before .before .before .before .before .before .before .before .before .before .before .before .before .before .before .n .given .1) (d .kept .1 .1 .1 .1 .1 .1 .0) _ refl) (m .result) (named-at _ _ _ (m .result) (m .result) (p .ensures) (m .ensures .is) refl) (x .result) (x .ensures) _ (c .before .before .before .before .before .before .before .before .before .before .before .before .before .before .before .t .given .1) (c .before .before .before .before .before .before .before .before .before .before .before .before .before .before .before .before .before .before .before .before .if1 .left) _ _ _ _ _ (c .before .before .before .before .before .before .before .before .plain .ensures)) (c .if3 .taken)
+read-file-slice-aggregate-puts-2 : (t : ℕ) → read-file-lts.Need-slice-aggregate-puts-2 (read-file-cs t) (read-file-at t) read-file.Post read-file-Inv-loop read-file-μ-loop
+read-file-slice-aggregate-puts-2 t c =
+    let at-next-command = c .before .before .before .before .before .before .before .before .before .before .before .before .before .before .before .before .before .before .before .before .before .before .before .before .before .before .before in
+    let at-loop = at-next-command .before .before .before .before .before in
+    sym (at-next-command .next-command .kept .1 .1 .1 .1 .1 .1 .1 .1 .1 .0 ∙ at-loop .loop .inv .spans)
 
 read-file-loop-less-2 : (t : ℕ) → read-file-lts.Need-loop-less-2 (read-file-cs t) (read-file-at t) read-file.Post read-file-Inv-loop read-file-μ-loop
 read-file-loop-less-2 t c =
-    let e = c .before .before .before .before .before .before .before .before .before .before .before .before .before .before .before .before .before .before .before .before .before .before .before .before .before .before .before .before .before .before .before .before .before .before .before .before .before .before .before .before .before .before .before .before .before .before .before .before .before .before .before .before .before .before in let a = e .args in let l = c .before .before .before .before .before .before .before .before .before .before .before .before .before .before .before .before .before .before .before .before .before .before .before .before .before .before .before .before .before .before .before .before .before .before .before .before .before .before .before .before .before .before .loop in let b = c .before .before .before .before .before .before .before .before .before .before .before .before .before .before .before .before .before .before .before .before .before .before .before .before .before .before .before .before .before .before .before .before .before .before .before .before .before .before .before .before .before .before .before .before .before .before .before .place in let z = c .before .before .before .before .before .before .before .before .before .before .before .before .before .before .before .before .before .before .before .before .before .before .before .before .before .before .before .before .before .before .before .before .before .before .before .before .before .before .before .before .before .before .before .before .before .place2 in let d = c .before .before .before .before .before .before .before .before .before .before .before .before .before .before .before .before .before .before .before .before .before .before .before .before .before .before .before .before .before .before .before .before .before .before .before .before .before .next-command in
-    turn-less (a .job .now) (a .files .now) (a .area .now) (a .nums .now) (a .log .now) (a .count) (a .k) (a .left) (a .s) (b .result) (z .result) (e .pre .1) (b .ensures) (z .ensures) (l .area) (l .nums) (l .log) (l .words) (l .at) (l .u) (l .inv) _ _ (d .result) (d .ensures) _ _ _ (c .before .before .before .before .before .before .before .before .before .before .before .before .before .before .before .before .before .before .before .before .before .before .before .before .before .before .before .before .before .before .before .before .n .given .1)
+    let at-n = c .before .before .before .before .before .before .before .before .before .before .before .before .before .before .before .before .before .before .before .before .before .before .before .before .before .before in
+    let at-next-command = at-n .before .before .before .before .before in
+    let at-loop = at-next-command .before .before .before .before .before in
+    let at-place2 = at-loop .before .before .before in
+    let at-place = at-place2 .before .before in
+    let start = at-place .before .before .before .before .before .before .before in
+    let a = start .args in let h = start .pre .1 in let l = at-loop .loop in let b = at-place .place in let z = at-place2 .place2 in let d = at-next-command .next-command in
+    turn-less (a .job .now) (a .files .now) (a .area .now) (a .nums .now) (a .log .now) (a .count) (a .k) (a .left) (a .s) (b .result) (z .result) h (b .ensures) (z .ensures) (l .area) (l .nums) (l .log) (l .words) (l .at) (l .u) (l .inv) _ _ (d .result) (d .ensures) _ _ _ (at-n .n .given .1)
 
 read-file-loop-again-2 : (t : ℕ) → read-file-lts.Need-loop-again-2 (read-file-cs t) (read-file-at t) read-file.Post read-file-Inv-loop read-file-μ-loop
 read-file-loop-again-2 t c =
-    let e = c .before .before .before .before .before .before .before .before .before .before .before .before .before .before .before .before .before .before .before .before .before .before .before .before .before .before .before .before .before .before .before .before .before .before .before .before .before .before .before .before .before .before .before .before .before .before .before .before .before .before .before .before .before .before in let a = e .args in let l = c .before .before .before .before .before .before .before .before .before .before .before .before .before .before .before .before .before .before .before .before .before .before .before .before .before .before .before .before .before .before .before .before .before .before .before .before .before .before .before .before .before .before .loop in let b = c .before .before .before .before .before .before .before .before .before .before .before .before .before .before .before .before .before .before .before .before .before .before .before .before .before .before .before .before .before .before .before .before .before .before .before .before .before .before .before .before .before .before .before .before .before .before .before .place in let z = c .before .before .before .before .before .before .before .before .before .before .before .before .before .before .before .before .before .before .before .before .before .before .before .before .before .before .before .before .before .before .before .before .before .before .before .before .before .before .before .before .before .before .before .before .before .place2 in let d = c .before .before .before .before .before .before .before .before .before .before .before .before .before .before .before .before .before .before .before .before .before .before .before .before .before .before .before .before .before .before .before .before .before .before .before .before .before .next-command in let p = c .before .before .before .before .before .before .before .before .before .before .before .before .before .before .before .before .before .before .before .before .before .before .before .pair in let m = c .before .before .before .before .before .before .before .before .before .before .before .before .before .before .before .before .before .before .before .before .before .before .number in let x = c .before .before .before .before .before .before .before .before .before .before .before .before .before .before .before .before .before .before .counted in
-    turn-again (a .job .now) (a .files .now) (a .area .now) (a .nums .now) (a .log .now) (a .count) (a .k) (a .left) (a .s) (b .result) (z .result) (e .pre .1) (b .ensures) (z .ensures) (l .area) (l .nums) (l .log) (l .words) (l .at) (l .u) (l .inv) _ _ (d .result) (d .ensures) _ _ _ (c .before .before .before .before .before .before .before .before .before .before .before .before .before .before .before .before .before .before .before .before .before .before .before .before .before .before .before .before .before .before .before .before .n .given .1) (d .kept .1 .1 .1 .1 .1 .1 .0) _ refl _ _ _ _ (does (a .job .now) (a .files .now) _ (l .nums) _ (a .count) _ (a .k) (a .left) _ (turn-doing (a .job .now) (a .files .now) (a .area .now) (a .nums .now) (a .log .now) (a .count) (a .k) (a .left) (a .s) (b .result) (z .result) (e .pre .1) (b .ensures) (z .ensures) (l .area) (l .nums) (l .log) (l .words) (l .at) (l .u) (l .inv) _ _ (d .result) (d .ensures) _ _ _ (c .before .before .before .before .before .before .before .before .before .before .before .before .before .before .before .before .before .before .before .before .before .before .before .before .before .before .before .before .before .before .before .before .n .given .1) (d .kept .1 .1 .1 .1 .1 .1 .0) _ refl) (m .result) (named-at _ _ _ (m .result) (m .result) (p .ensures) (m .ensures .is) refl) (x .result) (x .ensures) _ (c .before .before .before .before .before .before .before .before .before .before .before .before .before .before .before .before .t .given .1) (c .before .before .before .before .before .before .before .before .before .before .before .before .before .before .before .before .before .before .before .before .before .if1 .left) _ _ _ _ _ (c .before .before .before .before .before .before .before .before .before .plain .ensures)) (c .before .if3 .left) (d .kept .1 .1 .1 .1 .1 .1 .1 .1 .1 .0) (c .before .before .before .before .before .before .before .before .before .plain .kept .1 .0) (c .before .before .before .before .before .before .before .before .before .plain .kept .1 .1 .0) (c .before .before .before .before .before .before .before .before .before .plain .kept .1 .1 .1 .0)
+    let at-puts = c .before .before .before in
+    let at-if3 = at-puts .before .before .before .before in
+    let at-t = at-if3 .before .before .before in
+    let at-counted = at-t .before .before in
+    let at-if1 = at-counted .before .before .before in
+    let at-number = at-if1 .before in
+    let at-pair = at-number .before in
+    let at-n = at-pair .before .before .before .before .before .before .before .before .before in
+    let at-next-command = at-n .before .before .before .before .before in
+    let at-loop = at-next-command .before .before .before .before .before in
+    let at-place2 = at-loop .before .before .before in
+    let at-place = at-place2 .before .before in
+    let start = at-place .before .before .before .before .before .before .before in
+    let a = start .args in let h = start .pre .1 in let l = at-loop .loop in let b = at-place .place in let z = at-place2 .place2 in let d = at-next-command .next-command in
+    let p = at-pair .pair in let m = at-number .number in let x = at-counted .counted in
+    turn-again (a .job .now) (a .files .now) (a .area .now) (a .nums .now) (a .log .now) (a .count) (a .k) (a .left) (a .s) (b .result) (z .result) h (b .ensures) (z .ensures) (l .area) (l .nums) (l .log) (l .words) (l .at) (l .u) (l .inv) _ _ (d .result) (d .ensures) _ _ _ (at-n .n .given .1) (d .kept .1 .1 .1 .1 .1 .1 .0) _ refl _ _ _ _ (does (a .job .now) (a .files .now) _ (l .nums) _ (a .count) _ (a .k) (a .left) _ (turn-doing (a .job .now) (a .files .now) (a .area .now) (a .nums .now) (a .log .now) (a .count) (a .k) (a .left) (a .s) (b .result) (z .result) h (b .ensures) (z .ensures) (l .area) (l .nums) (l .log) (l .words) (l .at) (l .u) (l .inv) _ _ (d .result) (d .ensures) _ _ _ (at-n .n .given .1) (d .kept .1 .1 .1 .1 .1 .1 .0) _ refl) (m .result) (named-at _ _ _ (m .result) (m .result) (p .ensures) (m .ensures .is) refl) (x .result) (x .ensures) _ (at-t .t .given .1) (at-if1 .if1 .left) _ _ _ _ _ (said _ _ _ _ _ _ _ (at-if3 .if3 .taken) (asks (a .job .now) (a .files .now) _ (l .nums) _ (a .count) _ (a .k) (a .left) _ (turn-doing (a .job .now) (a .files .now) (a .area .now) (a .nums .now) (a .log .now) (a .count) (a .k) (a .left) (a .s) (b .result) (z .result) h (b .ensures) (z .ensures) (l .area) (l .nums) (l .log) (l .words) (l .at) (l .u) (l .inv) _ _ (d .result) (d .ensures) _ _ _ (at-n .n .given .1) (d .kept .1 .1 .1 .1 .1 .1 .0) _ refl) (m .result) (named-at _ _ _ (m .result) (m .result) (p .ensures) (m .ensures .is) refl) (x .result) (x .ensures) _ (at-t .t .given .1) (at-if1 .if1 .left) (m .ensures .known)) _ _ _ (at-puts .puts .ensures))) refl (d .kept .1 .1 .1 .1 .1 .1 .1 .1 .1 .0) refl refl (at-puts .puts .kept .1 .1 .0)
+
+read-file-slice-aggregate-set-scope : (t : ℕ) → read-file-lts.Need-slice-aggregate-set-scope (read-file-cs t) (read-file-at t) read-file.Post read-file-Inv-loop read-file-μ-loop
+read-file-slice-aggregate-set-scope t c =
+    let at-next-command = c .before .before .before .before .before .before .before .before .before .before .before .before .before .before .before .before .before .before .before .before .before .before .before .before .before .before .before .before in
+    let at-loop = at-next-command .before .before .before .before .before in
+    sym (at-next-command .next-command .kept .1 .1 .1 .1 .1 .1 .1 .1 .1 .0 ∙ at-loop .loop .inv .spans)
+
+read-file-set-scope-requires : (t : ℕ) → read-file-lts.Need-set-scope-requires (read-file-cs t) (read-file-at t) read-file.Post read-file-Inv-loop read-file-μ-loop
+read-file-set-scope-requires t c κs =
+    let at-t = c .before .before .before .before .before .before .before in
+    let at-counted = at-t .before .before in
+    let at-if1 = at-counted .before .before .before in
+    let at-number = at-if1 .before in
+    let at-pair = at-number .before in
+    let at-n = at-pair .before .before .before .before .before .before .before .before .before in
+    let at-next-command = at-n .before .before .before .before .before in
+    let at-loop = at-next-command .before .before .before .before .before in
+    let at-place2 = at-loop .before .before .before in
+    let at-place = at-place2 .before .before in
+    let start = at-place .before .before .before .before .before .before .before in
+    let a = start .args in let h = start .pre .1 in let l = at-loop .loop in let b = at-place .place in let z = at-place2 .place2 in let d = at-next-command .next-command in
+    let p = at-pair .pair in let m = at-number .number in let x = at-counted .counted in
+    scope-asks _ _ _ _ _ _ _ (asks (a .job .now) (a .files .now) _ (l .nums) _ (a .count) _ (a .k) (a .left) _ (turn-doing (a .job .now) (a .files .now) (a .area .now) (a .nums .now) (a .log .now) (a .count) (a .k) (a .left) (a .s) (b .result) (z .result) h (b .ensures) (z .ensures) (l .area) (l .nums) (l .log) (l .words) (l .at) (l .u) (l .inv) _ _ (d .result) (d .ensures) _ _ _ (at-n .n .given .1) (d .kept .1 .1 .1 .1 .1 .1 .0) _ refl) (m .result) (named-at _ _ _ (m .result) (m .result) (p .ensures) (m .ensures .is) refl) (x .result) (x .ensures) _ (at-t .t .given .1) (at-if1 .if1 .left) (m .ensures .known))
+
+read-file-same-length-13 : (t : ℕ) → read-file-lts.Need-same-length-13 (read-file-cs t) (read-file-at t) read-file.Post read-file-Inv-loop read-file-μ-loop
+read-file-same-length-13 t c =
+    let at-set-scope = c .before .before .before .before .before .before .before .before in
+    let at-next-command = at-set-scope .before .before .before .before .before .before .before .before .before .before .before .before .before .before .before .before .before .before .before .before .before .before .before .before .before .before .before .before .before in
+    let at-loop = at-next-command .before .before .before .before .before in
+    at-set-scope .set-scope .kept .1 .0 ∙ at-next-command .next-command .kept .1 .1 .1 .1 .1 .1 .0 ∙ at-loop .loop .inv .area-long
+
+read-file-same-length-14 : (t : ℕ) → read-file-lts.Need-same-length-14 (read-file-cs t) (read-file-at t) read-file.Post read-file-Inv-loop read-file-μ-loop
+read-file-same-length-14 t c =
+    let at-loop = c .before .before .before .before .before .before .before .before .before .before .before .before .before .before .before .before .before .before .before .before .before .before .before .before .before .before .before .before .before .before .before .before .before .before .before .before .before .before .before .before .before .before in
+    at-loop .loop .inv .nums-long
+
+read-file-same-length-15 : (t : ℕ) → read-file-lts.Need-same-length-15 (read-file-cs t) (read-file-at t) read-file.Post read-file-Inv-loop read-file-μ-loop
+read-file-same-length-15 t c =
+    let at-loop = c .before .before .before .before .before .before .before .before .before .before .before .before .before .before .before .before .before .before .before .before .before .before .before .before .before .before .before .before .before .before .before .before .before .before .before .before .before .before .before .before .before .before in
+    at-loop .loop .inv .log-long
+
+read-file-returns-5 : (t : ℕ) → read-file-lts.Need-returns-5 (read-file-cs t) (read-file-at t) read-file.Post read-file-Inv-loop read-file-μ-loop
+read-file-returns-5 t c =
+    let at-in-scope = c .before .before .before .before in
+    let at-set-scope = at-in-scope .before .before .before .before in
+    let at-if4 = at-set-scope .before .before .before .before in
+    let at-t = at-if4 .before .before .before .before in
+    let at-counted = at-t .before .before in
+    let at-if1 = at-counted .before .before .before in
+    let at-number = at-if1 .before in
+    let at-pair = at-number .before in
+    let at-n = at-pair .before .before .before .before .before .before .before .before .before in
+    let at-next-command = at-n .before .before .before .before .before in
+    let at-loop = at-next-command .before .before .before .before .before in
+    let at-place2 = at-loop .before .before .before in
+    let at-place = at-place2 .before .before in
+    let start = at-place .before .before .before .before .before .before .before in
+    let a = start .args in let h = start .pre .1 in let l = at-loop .loop in let b = at-place .place in let z = at-place2 .place2 in let d = at-next-command .next-command in
+    let p = at-pair .pair in let m = at-number .number in let x = at-counted .counted in
+    turn-failed (a .job .now) (a .files .now) (a .area .now) (a .nums .now) (a .log .now) (a .count) (a .k) (a .left) (a .s) (b .result) (z .result) h (b .ensures) (z .ensures) (l .area) (l .nums) (l .log) (l .words) (l .at) (l .u) (l .inv) _ _ (d .result) (d .ensures) _ _ _ (at-n .n .given .1) (d .kept .1 .1 .1 .1 .1 .1 .0) _ refl _ _ _ _ (does (a .job .now) (a .files .now) _ (l .nums) _ (a .count) _ (a .k) (a .left) _ (turn-doing (a .job .now) (a .files .now) (a .area .now) (a .nums .now) (a .log .now) (a .count) (a .k) (a .left) (a .s) (b .result) (z .result) h (b .ensures) (z .ensures) (l .area) (l .nums) (l .log) (l .words) (l .at) (l .u) (l .inv) _ _ (d .result) (d .ensures) _ _ _ (at-n .n .given .1) (d .kept .1 .1 .1 .1 .1 .1 .0) _ refl) (m .result) (named-at _ _ _ (m .result) (m .result) (p .ensures) (m .ensures .is) refl) (x .result) (x .ensures) _ (at-t .t .given .1) (at-if1 .if1 .left) _ _ _ _ _ (placed-ran _ _ (at-set-scope .set-scope .result) (at-in-scope .in-scope .ensures) _ _ _ _ _ _ _ _ (scoped _ _ _ _ _ _ _ (at-if4 .if4 .taken) (asks (a .job .now) (a .files .now) _ (l .nums) _ (a .count) _ (a .k) (a .left) _ (turn-doing (a .job .now) (a .files .now) (a .area .now) (a .nums .now) (a .log .now) (a .count) (a .k) (a .left) (a .s) (b .result) (z .result) h (b .ensures) (z .ensures) (l .area) (l .nums) (l .log) (l .words) (l .at) (l .u) (l .inv) _ _ (d .result) (d .ensures) _ _ _ (at-n .n .given .1) (d .kept .1 .1 .1 .1 .1 .1 .0) _ refl) (m .result) (named-at _ _ _ (m .result) (m .result) (p .ensures) (m .ensures .is) refl) (x .result) (x .ensures) _ (at-t .t .given .1) (at-if1 .if1 .left) (m .ensures .known)) _ _ _ (at-set-scope .set-scope .kept .1 .0) (at-set-scope .set-scope .ensures _ refl)))) (c .if5 .taken)
+
+read-file-loop-less-3 : (t : ℕ) → read-file-lts.Need-loop-less-3 (read-file-cs t) (read-file-at t) read-file.Post read-file-Inv-loop read-file-μ-loop
+read-file-loop-less-3 t c =
+    let at-n = c .before .before .before .before .before .before .before .before .before .before .before .before .before .before .before .before .before .before .before .before .before .before .before .before .before .before .before .before .before .before .before .before in
+    let at-next-command = at-n .before .before .before .before .before in
+    let at-loop = at-next-command .before .before .before .before .before in
+    let at-place2 = at-loop .before .before .before in
+    let at-place = at-place2 .before .before in
+    let start = at-place .before .before .before .before .before .before .before in
+    let a = start .args in let h = start .pre .1 in let l = at-loop .loop in let b = at-place .place in let z = at-place2 .place2 in let d = at-next-command .next-command in
+    turn-less (a .job .now) (a .files .now) (a .area .now) (a .nums .now) (a .log .now) (a .count) (a .k) (a .left) (a .s) (b .result) (z .result) h (b .ensures) (z .ensures) (l .area) (l .nums) (l .log) (l .words) (l .at) (l .u) (l .inv) _ _ (d .result) (d .ensures) _ _ _ (at-n .n .given .1)
+
+read-file-loop-again-3 : (t : ℕ) → read-file-lts.Need-loop-again-3 (read-file-cs t) (read-file-at t) read-file.Post read-file-Inv-loop read-file-μ-loop
+read-file-loop-again-3 t c =
+    let at-in-scope = c .before .before .before .before in
+    let at-set-scope = at-in-scope .before .before .before .before in
+    let at-if4 = at-set-scope .before .before .before .before in
+    let at-t = at-if4 .before .before .before .before in
+    let at-counted = at-t .before .before in
+    let at-if1 = at-counted .before .before .before in
+    let at-number = at-if1 .before in
+    let at-pair = at-number .before in
+    let at-n = at-pair .before .before .before .before .before .before .before .before .before in
+    let at-next-command = at-n .before .before .before .before .before in
+    let at-loop = at-next-command .before .before .before .before .before in
+    let at-place2 = at-loop .before .before .before in
+    let at-place = at-place2 .before .before in
+    let start = at-place .before .before .before .before .before .before .before in
+    let a = start .args in let h = start .pre .1 in let l = at-loop .loop in let b = at-place .place in let z = at-place2 .place2 in let d = at-next-command .next-command in
+    let p = at-pair .pair in let m = at-number .number in let x = at-counted .counted in
+    turn-again (a .job .now) (a .files .now) (a .area .now) (a .nums .now) (a .log .now) (a .count) (a .k) (a .left) (a .s) (b .result) (z .result) h (b .ensures) (z .ensures) (l .area) (l .nums) (l .log) (l .words) (l .at) (l .u) (l .inv) _ _ (d .result) (d .ensures) _ _ _ (at-n .n .given .1) (d .kept .1 .1 .1 .1 .1 .1 .0) _ refl _ _ _ _ (does (a .job .now) (a .files .now) _ (l .nums) _ (a .count) _ (a .k) (a .left) _ (turn-doing (a .job .now) (a .files .now) (a .area .now) (a .nums .now) (a .log .now) (a .count) (a .k) (a .left) (a .s) (b .result) (z .result) h (b .ensures) (z .ensures) (l .area) (l .nums) (l .log) (l .words) (l .at) (l .u) (l .inv) _ _ (d .result) (d .ensures) _ _ _ (at-n .n .given .1) (d .kept .1 .1 .1 .1 .1 .1 .0) _ refl) (m .result) (named-at _ _ _ (m .result) (m .result) (p .ensures) (m .ensures .is) refl) (x .result) (x .ensures) _ (at-t .t .given .1) (at-if1 .if1 .left) _ _ _ _ _ (placed-ran _ _ (at-set-scope .set-scope .result) (at-in-scope .in-scope .ensures) _ _ _ _ _ _ _ _ (scoped _ _ _ _ _ _ _ (at-if4 .if4 .taken) (asks (a .job .now) (a .files .now) _ (l .nums) _ (a .count) _ (a .k) (a .left) _ (turn-doing (a .job .now) (a .files .now) (a .area .now) (a .nums .now) (a .log .now) (a .count) (a .k) (a .left) (a .s) (b .result) (z .result) h (b .ensures) (z .ensures) (l .area) (l .nums) (l .log) (l .words) (l .at) (l .u) (l .inv) _ _ (d .result) (d .ensures) _ _ _ (at-n .n .given .1) (d .kept .1 .1 .1 .1 .1 .1 .0) _ refl) (m .result) (named-at _ _ _ (m .result) (m .result) (p .ensures) (m .ensures .is) refl) (x .result) (x .ensures) _ (at-t .t .given .1) (at-if1 .if1 .left) (m .ensures .known)) _ _ _ (at-set-scope .set-scope .kept .1 .0) (at-set-scope .set-scope .ensures _ refl)))) (c .if5 .left) (d .kept .1 .1 .1 .1 .1 .1 .1 .1 .1 .0) (at-set-scope .set-scope .kept .1 .0) refl refl
+
+read-file-slice-reshare-prefix-act : (t : ℕ) → read-file-lts.Need-slice-reshare-prefix-act (read-file-cs t) (read-file-at t) read-file.Post read-file-Inv-loop read-file-μ-loop
+read-file-slice-reshare-prefix-act t c =
+    let at-n = c .before .before .before .before .before .before .before .before .before .before .before .before .before .before .before .before .before .before .before .before .before in
+    let at-next-command = at-n .before .before .before .before .before in
+    let at-loop = at-next-command .before .before .before .before .before in
+    let at-place2 = at-loop .before .before .before in
+    let at-place = at-place2 .before .before in
+    let start = at-place .before .before .before .before .before .before .before in
+    let a = start .args in let h = start .pre .1 in let l = at-loop .loop in let b = at-place .place in let z = at-place2 .place2 in let d = at-next-command .next-command in
+    end-in (a .job .now) (a .files .now) _ (l .nums) _ (a .count) _ (a .k) (a .left) _ (turn-doing (a .job .now) (a .files .now) (a .area .now) (a .nums .now) (a .log .now) (a .count) (a .k) (a .left) (a .s) (b .result) (z .result) h (b .ensures) (z .ensures) (l .area) (l .nums) (l .log) (l .words) (l .at) (l .u) (l .inv) _ _ (d .result) (d .ensures) _ _ _ (at-n .n .given .1) (d .kept .1 .1 .1 .1 .1 .1 .0) _ refl)
+
+read-file-slice-aggregate-act : (t : ℕ) → read-file-lts.Need-slice-aggregate-act (read-file-cs t) (read-file-at t) read-file.Post read-file-Inv-loop read-file-μ-loop
+read-file-slice-aggregate-act t c =
+    let at-n = c .before .before .before .before .before .before .before .before .before .before .before .before .before .before .before .before .before .before .before .before .before .before in
+    let at-next-command = at-n .before .before .before .before .before in
+    let at-loop = at-next-command .before .before .before .before .before in
+    let at-place2 = at-loop .before .before .before in
+    let at-place = at-place2 .before .before in
+    let start = at-place .before .before .before .before .before .before .before in
+    let a = start .args in let h = start .pre .1 in let l = at-loop .loop in let b = at-place .place in let z = at-place2 .place2 in let d = at-next-command .next-command in
+    front-long (a .job .now) (a .files .now) _ (l .nums) _ (a .count) _ (a .k) (a .left) _ (turn-doing (a .job .now) (a .files .now) (a .area .now) (a .nums .now) (a .log .now) (a .count) (a .k) (a .left) (a .s) (b .result) (z .result) h (b .ensures) (z .ensures) (l .area) (l .nums) (l .log) (l .words) (l .at) (l .u) (l .inv) _ _ (d .result) (d .ensures) _ _ _ (at-n .n .given .1) (d .kept .1 .1 .1 .1 .1 .1 .0) _ refl)
+
+read-file-slice-aggregate-act-2 : (t : ℕ) → read-file-lts.Need-slice-aggregate-act-2 (read-file-cs t) (read-file-at t) read-file.Post read-file-Inv-loop read-file-μ-loop
+read-file-slice-aggregate-act-2 t c =
+    let at-next-command = c .before .before .before .before .before .before .before .before .before .before .before .before .before .before .before .before .before .before .before .before .before .before .before .before .before .before .before .before .before in
+    let at-loop = at-next-command .before .before .before .before .before in
+    sym (at-next-command .next-command .kept .1 .1 .1 .1 .1 .1 .1 .1 .1 .0 ∙ at-loop .loop .inv .spans)
+
+read-file-act-requires : (t : ℕ) → read-file-lts.Need-act-requires (read-file-cs t) (read-file-at t) read-file.Post read-file-Inv-loop read-file-μ-loop
+read-file-act-requires t c κs =
+    let at-brief-of = c .before .before .before in
+    let at-if4 = at-brief-of .before in
+    let at-if3 = at-if4 .before in
+    let at-t = at-if3 .before .before .before in
+    let at-counted = at-t .before .before in
+    let at-if1 = at-counted .before .before .before in
+    let at-number = at-if1 .before in
+    let at-pair = at-number .before in
+    let at-n = at-pair .before .before .before .before .before .before .before .before .before in
+    let at-next-command = at-n .before .before .before .before .before in
+    let at-loop = at-next-command .before .before .before .before .before in
+    let at-place2 = at-loop .before .before .before in
+    let at-place = at-place2 .before .before in
+    let start = at-place .before .before .before .before .before .before .before in
+    let a = start .args in let h = start .pre .1 in let l = at-loop .loop in let b = at-place .place in let z = at-place2 .place2 in let d = at-next-command .next-command in
+    let p = at-pair .pair in let m = at-number .number in let x = at-counted .counted in
+    (acting _ _ _ _ _ _ _ (asks (a .job .now) (a .files .now) _ (l .nums) _ (a .count) _ (a .k) (a .left) _ (turn-doing (a .job .now) (a .files .now) (a .area .now) (a .nums .now) (a .log .now) (a .count) (a .k) (a .left) (a .s) (b .result) (z .result) h (b .ensures) (z .ensures) (l .area) (l .nums) (l .log) (l .words) (l .at) (l .u) (l .inv) _ _ (d .result) (d .ensures) _ _ _ (at-n .n .given .1) (d .kept .1 .1 .1 .1 .1 .1 .0) _ refl) (m .result) (named-at _ _ _ (m .result) (m .result) (p .ensures) (m .ensures .is) refl) (x .result) (x .ensures) _ (at-t .t .given .1) (at-if1 .if1 .left) (m .ensures .known)) (at-brief-of .brief-of .result) (at-brief-of .brief-of .ensures) (at-if3 .if3 .left) (at-if4 .if4 .left))
+
+read-file-same-length-16 : (t : ℕ) → read-file-lts.Need-same-length-16 (read-file-cs t) (read-file-at t) read-file.Post read-file-Inv-loop read-file-μ-loop
+read-file-same-length-16 t c =
+    let at-next-command = c .before .before .before .before .before .before .before .before .before .before .before .before .before .before .before .before .before .before .before .before .before .before .before .before .before .before .before .before .before .before .before .before .before .before in
+    let at-loop = at-next-command .before .before .before .before .before in
+    at-next-command .next-command .kept .1 .1 .1 .1 .1 .1 .0 ∙ at-loop .loop .inv .area-long
+
+read-file-same-length-17 : (t : ℕ) → read-file-lts.Need-same-length-17 (read-file-cs t) (read-file-at t) read-file.Post read-file-Inv-loop read-file-μ-loop
+read-file-same-length-17 t c =
+    let at-act = c .before .before .before .before in
+    let at-loop = at-act .before .before .before .before .before .before .before .before .before .before .before .before .before .before .before .before .before .before .before .before .before .before .before .before .before .before .before .before .before .before .before .before .before .before .before in
+    at-act .act .kept .1 .1 .0 ∙ at-loop .loop .inv .nums-long
+
+read-file-same-length-18 : (t : ℕ) → read-file-lts.Need-same-length-18 (read-file-cs t) (read-file-at t) read-file.Post read-file-Inv-loop read-file-μ-loop
+read-file-same-length-18 t c =
+    let at-loop = c .before .before .before .before .before .before .before .before .before .before .before .before .before .before .before .before .before .before .before .before .before .before .before .before .before .before .before .before .before .before .before .before .before .before .before .before .before .before .before in
+    at-loop .loop .inv .log-long
+
+read-file-returns-6 : (t : ℕ) → read-file-lts.Need-returns-6 (read-file-cs t) (read-file-at t) read-file.Post read-file-Inv-loop read-file-μ-loop
+read-file-returns-6 t c =
+    let at-refused = c .before in
+    let at-act = at-refused .before .before .before in
+    let at-brief-of = at-act .before .before .before .before in
+    let at-if4 = at-brief-of .before in
+    let at-if3 = at-if4 .before in
+    let at-t = at-if3 .before .before .before in
+    let at-counted = at-t .before .before in
+    let at-if1 = at-counted .before .before .before in
+    let at-number = at-if1 .before in
+    let at-pair = at-number .before in
+    let at-n = at-pair .before .before .before .before .before .before .before .before .before in
+    let at-next-command = at-n .before .before .before .before .before in
+    let at-loop = at-next-command .before .before .before .before .before in
+    let at-place2 = at-loop .before .before .before in
+    let at-place = at-place2 .before .before in
+    let start = at-place .before .before .before .before .before .before .before in
+    let a = start .args in let h = start .pre .1 in let l = at-loop .loop in let b = at-place .place in let z = at-place2 .place2 in let d = at-next-command .next-command in
+    let p = at-pair .pair in let m = at-number .number in let x = at-counted .counted in
+    turn-failed (a .job .now) (a .files .now) (a .area .now) (a .nums .now) (a .log .now) (a .count) (a .k) (a .left) (a .s) (b .result) (z .result) h (b .ensures) (z .ensures) (l .area) (l .nums) (l .log) (l .words) (l .at) (l .u) (l .inv) _ _ (d .result) (d .ensures) _ _ _ (at-n .n .given .1) (d .kept .1 .1 .1 .1 .1 .1 .0) _ refl _ _ _ _ (does (a .job .now) (a .files .now) _ (l .nums) _ (a .count) _ (a .k) (a .left) _ (turn-doing (a .job .now) (a .files .now) (a .area .now) (a .nums .now) (a .log .now) (a .count) (a .k) (a .left) (a .s) (b .result) (z .result) h (b .ensures) (z .ensures) (l .area) (l .nums) (l .log) (l .words) (l .at) (l .u) (l .inv) _ _ (d .result) (d .ensures) _ _ _ (at-n .n .given .1) (d .kept .1 .1 .1 .1 .1 .1 .0) _ refl) (m .result) (named-at _ _ _ (m .result) (m .result) (p .ensures) (m .ensures .is) refl) (x .result) (x .ensures) _ (at-t .t .given .1) (at-if1 .if1 .left) _ _ _ _ _ (deed-refused _ _ _ _ _ _ _ _ (at-act .act .result) (acts-of _ _ _ _ _ _ _ (asks (a .job .now) (a .files .now) _ (l .nums) _ (a .count) _ (a .k) (a .left) _ (turn-doing (a .job .now) (a .files .now) (a .area .now) (a .nums .now) (a .log .now) (a .count) (a .k) (a .left) (a .s) (b .result) (z .result) h (b .ensures) (z .ensures) (l .area) (l .nums) (l .log) (l .words) (l .at) (l .u) (l .inv) _ _ (d .result) (d .ensures) _ _ _ (at-n .n .given .1) (d .kept .1 .1 .1 .1 .1 .1 .0) _ refl) (m .result) (named-at _ _ _ (m .result) (m .result) (p .ensures) (m .ensures .is) refl) (x .result) (x .ensures) _ (at-t .t .given .1) (at-if1 .if1 .left) (m .ensures .known)) (at-brief-of .brief-of .result) (at-brief-of .brief-of .ensures) (at-if3 .if3 .left) (at-if4 .if4 .left) _ _ (at-act .act .ensures)) (l .log) (told _ _ _ (at-refused .refused .ensures) (c .if6 .taken)))) (λ q. absurd (omega (arith, q)))
+
+read-file-rows-with-requires : (t : ℕ) → read-file-lts.Need-rows-with-requires (read-file-cs t) (read-file-at t) read-file.Post read-file-Inv-loop read-file-μ-loop
+read-file-rows-with-requires t c κs =
+    let at-loop = c .before .before .before .before .before .before .before .before .before .before .before .before .before .before .before .before .before .before .before .before .before .before .before .before .before .before .before .before .before .before .before .before .before .before .before .before .before .before .before in
+    let l = at-loop .loop in
+    omega (arith, l .inv .held .rows, l .inv .held .commands)
+
+read-file-warnings-with-requires : (t : ℕ) → read-file-lts.Need-warnings-with-requires (read-file-cs t) (read-file-at t) read-file.Post read-file-Inv-loop read-file-μ-loop
+read-file-warnings-with-requires t c κs =
+    let at-if6 = c .before in
+    let at-refused = at-if6 .before in
+    (told _ _ _ (at-refused .refused .ensures) (at-if6 .if6 .left))
+
+read-file-loop-less-4 : (t : ℕ) → read-file-lts.Need-loop-less-4 (read-file-cs t) (read-file-at t) read-file.Post read-file-Inv-loop read-file-μ-loop
+read-file-loop-less-4 t c =
+    let at-n = c .before .before .before .before .before .before .before .before .before .before .before .before .before .before .before .before .before .before .before .before .before .before .before .before .before .before .before .before .before .before .before .before .before .before .before in
+    let at-next-command = at-n .before .before .before .before .before in
+    let at-loop = at-next-command .before .before .before .before .before in
+    let at-place2 = at-loop .before .before .before in
+    let at-place = at-place2 .before .before in
+    let start = at-place .before .before .before .before .before .before .before in
+    let a = start .args in let h = start .pre .1 in let l = at-loop .loop in let b = at-place .place in let z = at-place2 .place2 in let d = at-next-command .next-command in
+    turn-less (a .job .now) (a .files .now) (a .area .now) (a .nums .now) (a .log .now) (a .count) (a .k) (a .left) (a .s) (b .result) (z .result) h (b .ensures) (z .ensures) (l .area) (l .nums) (l .log) (l .words) (l .at) (l .u) (l .inv) _ _ (d .result) (d .ensures) _ _ _ (at-n .n .given .1)
+
+read-file-loop-again-4 : (t : ℕ) → read-file-lts.Need-loop-again-4 (read-file-cs t) (read-file-at t) read-file.Post read-file-Inv-loop read-file-μ-loop
+read-file-loop-again-4 t c =
+    let at-no-record = c .before in
+    let at-warnings-with = at-no-record .before .before .before in
+    let at-rows-with = at-warnings-with .before in
+    let at-if6 = at-rows-with .before in
+    let at-refused = at-if6 .before in
+    let at-act = at-refused .before .before .before in
+    let at-brief-of = at-act .before .before .before .before in
+    let at-if4 = at-brief-of .before in
+    let at-if3 = at-if4 .before in
+    let at-t = at-if3 .before .before .before in
+    let at-counted = at-t .before .before in
+    let at-if1 = at-counted .before .before .before in
+    let at-number = at-if1 .before in
+    let at-pair = at-number .before in
+    let at-n = at-pair .before .before .before .before .before .before .before .before .before in
+    let at-next-command = at-n .before .before .before .before .before in
+    let at-loop = at-next-command .before .before .before .before .before in
+    let at-place2 = at-loop .before .before .before in
+    let at-place = at-place2 .before .before in
+    let start = at-place .before .before .before .before .before .before .before in
+    let a = start .args in let h = start .pre .1 in let l = at-loop .loop in let b = at-place .place in let z = at-place2 .place2 in let d = at-next-command .next-command in
+    let p = at-pair .pair in let m = at-number .number in let x = at-counted .counted in
+    turn-again (a .job .now) (a .files .now) (a .area .now) (a .nums .now) (a .log .now) (a .count) (a .k) (a .left) (a .s) (b .result) (z .result) h (b .ensures) (z .ensures) (l .area) (l .nums) (l .log) (l .words) (l .at) (l .u) (l .inv) _ _ (d .result) (d .ensures) _ _ _ (at-n .n .given .1) (d .kept .1 .1 .1 .1 .1 .1 .0) _ refl _ _ _ _ (does (a .job .now) (a .files .now) _ (l .nums) _ (a .count) _ (a .k) (a .left) _ (turn-doing (a .job .now) (a .files .now) (a .area .now) (a .nums .now) (a .log .now) (a .count) (a .k) (a .left) (a .s) (b .result) (z .result) h (b .ensures) (z .ensures) (l .area) (l .nums) (l .log) (l .words) (l .at) (l .u) (l .inv) _ _ (d .result) (d .ensures) _ _ _ (at-n .n .given .1) (d .kept .1 .1 .1 .1 .1 .1 .0) _ refl) (m .result) (named-at _ _ _ (m .result) (m .result) (p .ensures) (m .ensures .is) refl) (x .result) (x .ensures) _ (at-t .t .given .1) (at-if1 .if1 .left) _ _ _ _ _ (deed-left _ _ _ _ _ _ _ _ (at-act .act .result) (acts-of _ _ _ _ _ _ _ (asks (a .job .now) (a .files .now) _ (l .nums) _ (a .count) _ (a .k) (a .left) _ (turn-doing (a .job .now) (a .files .now) (a .area .now) (a .nums .now) (a .log .now) (a .count) (a .k) (a .left) (a .s) (b .result) (z .result) h (b .ensures) (z .ensures) (l .area) (l .nums) (l .log) (l .words) (l .at) (l .u) (l .inv) _ _ (d .result) (d .ensures) _ _ _ (at-n .n .given .1) (d .kept .1 .1 .1 .1 .1 .1 .0) _ refl) (m .result) (named-at _ _ _ (m .result) (m .result) (p .ensures) (m .ensures .is) refl) (x .result) (x .ensures) _ (at-t .t .given .1) (at-if1 .if1 .left) (m .ensures .known)) (at-brief-of .brief-of .result) (at-brief-of .brief-of .ensures) (at-if3 .if3 .left) (at-if4 .if4 .left) _ _ (at-act .act .ensures)) (l .log) (told _ _ _ (at-refused .refused .ensures) (at-if6 .if6 .left)) (at-rows-with .rows-with .result) (at-warnings-with .warnings-with .result) (at-rows-with .rows-with .ensures) (at-warnings-with .warnings-with .ensures) (told _ _ _ (at-no-record .no-record .ensures) (c .if7 .taken)))) refl (d .kept .1 .1 .1 .1 .1 .1 .1 .1 .1 .0) refl (at-act .act .kept .1 .1 .0) refl
+
+read-file-done-requires : (t : ℕ) → read-file-lts.Need-done-requires (read-file-cs t) (read-file-at t) read-file.Post read-file-Inv-loop read-file-μ-loop
+read-file-done-requires t c κs =
+    let at-warnings-with = c .before .before .before .before in
+    let at-rows-with = at-warnings-with .before in
+    let at-if6 = at-rows-with .before in
+    let at-refused = at-if6 .before in
+    let at-act = at-refused .before .before .before in
+    let at-brief-of = at-act .before .before .before .before in
+    let at-if4 = at-brief-of .before in
+    let at-if3 = at-if4 .before in
+    let at-t = at-if3 .before .before .before in
+    let at-counted = at-t .before .before in
+    let at-if1 = at-counted .before .before .before in
+    let at-number = at-if1 .before in
+    let at-pair = at-number .before in
+    let at-n = at-pair .before .before .before .before .before .before .before .before .before in
+    let at-next-command = at-n .before .before .before .before .before in
+    let at-loop = at-next-command .before .before .before .before .before in
+    let at-place2 = at-loop .before .before .before in
+    let at-place = at-place2 .before .before in
+    let start = at-place .before .before .before .before .before .before .before in
+    let a = start .args in let h = start .pre .1 in let l = at-loop .loop in let b = at-place .place in let z = at-place2 .place2 in let d = at-next-command .next-command in
+    let p = at-pair .pair in let m = at-number .number in let x = at-counted .counted in
+    deed-fits _ _ _ _ _ _ _ _ (at-act .act .result) (acts-of _ _ _ _ _ _ _ (asks (a .job .now) (a .files .now) _ (l .nums) _ (a .count) _ (a .k) (a .left) _ (turn-doing (a .job .now) (a .files .now) (a .area .now) (a .nums .now) (a .log .now) (a .count) (a .k) (a .left) (a .s) (b .result) (z .result) h (b .ensures) (z .ensures) (l .area) (l .nums) (l .log) (l .words) (l .at) (l .u) (l .inv) _ _ (d .result) (d .ensures) _ _ _ (at-n .n .given .1) (d .kept .1 .1 .1 .1 .1 .1 .0) _ refl) (m .result) (named-at _ _ _ (m .result) (m .result) (p .ensures) (m .ensures .is) refl) (x .result) (x .ensures) _ (at-t .t .given .1) (at-if1 .if1 .left) (m .ensures .known)) (at-brief-of .brief-of .result) (at-brief-of .brief-of .ensures) (at-if3 .if3 .left) (at-if4 .if4 .left) _ _ (at-act .act .ensures)) (l .log) (told _ _ _ (at-refused .refused .ensures) (at-if6 .if6 .left)) (at-rows-with .rows-with .result) (at-warnings-with .warnings-with .result) (at-rows-with .rows-with .ensures) (at-warnings-with .warnings-with .ensures)
+
+read-file-loop-less-5 : (t : ℕ) → read-file-lts.Need-loop-less-5 (read-file-cs t) (read-file-at t) read-file.Post read-file-Inv-loop read-file-μ-loop
+read-file-loop-less-5 t c =
+    let at-n = c .before .before .before .before .before .before .before .before .before .before .before .before .before .before .before .before .before .before .before .before .before .before .before .before .before .before .before .before .before .before .before .before .before .before .before .before in
+    let at-next-command = at-n .before .before .before .before .before in
+    let at-loop = at-next-command .before .before .before .before .before in
+    let at-place2 = at-loop .before .before .before in
+    let at-place = at-place2 .before .before in
+    let start = at-place .before .before .before .before .before .before .before in
+    let a = start .args in let h = start .pre .1 in let l = at-loop .loop in let b = at-place .place in let z = at-place2 .place2 in let d = at-next-command .next-command in
+    turn-less (a .job .now) (a .files .now) (a .area .now) (a .nums .now) (a .log .now) (a .count) (a .k) (a .left) (a .s) (b .result) (z .result) h (b .ensures) (z .ensures) (l .area) (l .nums) (l .log) (l .words) (l .at) (l .u) (l .inv) _ _ (d .result) (d .ensures) _ _ _ (at-n .n .given .1)
+
+read-file-loop-again-5 : (t : ℕ) → read-file-lts.Need-loop-again-5 (read-file-cs t) (read-file-at t) read-file.Post read-file-Inv-loop read-file-μ-loop
+read-file-loop-again-5 t c =
+    let at-warnings-with = c .before .before .before .before .before in
+    let at-rows-with = at-warnings-with .before in
+    let at-if6 = at-rows-with .before in
+    let at-refused = at-if6 .before in
+    let at-act = at-refused .before .before .before in
+    let at-brief-of = at-act .before .before .before .before in
+    let at-if4 = at-brief-of .before in
+    let at-if3 = at-if4 .before in
+    let at-t = at-if3 .before .before .before in
+    let at-counted = at-t .before .before in
+    let at-if1 = at-counted .before .before .before in
+    let at-number = at-if1 .before in
+    let at-pair = at-number .before in
+    let at-n = at-pair .before .before .before .before .before .before .before .before .before in
+    let at-next-command = at-n .before .before .before .before .before in
+    let at-loop = at-next-command .before .before .before .before .before in
+    let at-place2 = at-loop .before .before .before in
+    let at-place = at-place2 .before .before in
+    let start = at-place .before .before .before .before .before .before .before in
+    let a = start .args in let h = start .pre .1 in let l = at-loop .loop in let b = at-place .place in let z = at-place2 .place2 in let d = at-next-command .next-command in
+    let p = at-pair .pair in let m = at-number .number in let x = at-counted .counted in
+    turn-again (a .job .now) (a .files .now) (a .area .now) (a .nums .now) (a .log .now) (a .count) (a .k) (a .left) (a .s) (b .result) (z .result) h (b .ensures) (z .ensures) (l .area) (l .nums) (l .log) (l .words) (l .at) (l .u) (l .inv) _ _ (d .result) (d .ensures) _ _ _ (at-n .n .given .1) (d .kept .1 .1 .1 .1 .1 .1 .0) _ refl _ _ _ _ (does (a .job .now) (a .files .now) _ (l .nums) _ (a .count) _ (a .k) (a .left) _ (turn-doing (a .job .now) (a .files .now) (a .area .now) (a .nums .now) (a .log .now) (a .count) (a .k) (a .left) (a .s) (b .result) (z .result) h (b .ensures) (z .ensures) (l .area) (l .nums) (l .log) (l .words) (l .at) (l .u) (l .inv) _ _ (d .result) (d .ensures) _ _ _ (at-n .n .given .1) (d .kept .1 .1 .1 .1 .1 .1 .0) _ refl) (m .result) (named-at _ _ _ (m .result) (m .result) (p .ensures) (m .ensures .is) refl) (x .result) (x .ensures) _ (at-t .t .given .1) (at-if1 .if1 .left) _ _ _ _ _ (deed-done _ _ _ _ _ _ _ _ (at-act .act .result) (acts-of _ _ _ _ _ _ _ (asks (a .job .now) (a .files .now) _ (l .nums) _ (a .count) _ (a .k) (a .left) _ (turn-doing (a .job .now) (a .files .now) (a .area .now) (a .nums .now) (a .log .now) (a .count) (a .k) (a .left) (a .s) (b .result) (z .result) h (b .ensures) (z .ensures) (l .area) (l .nums) (l .log) (l .words) (l .at) (l .u) (l .inv) _ _ (d .result) (d .ensures) _ _ _ (at-n .n .given .1) (d .kept .1 .1 .1 .1 .1 .1 .0) _ refl) (m .result) (named-at _ _ _ (m .result) (m .result) (p .ensures) (m .ensures .is) refl) (x .result) (x .ensures) _ (at-t .t .given .1) (at-if1 .if1 .left) (m .ensures .known)) (at-brief-of .brief-of .result) (at-brief-of .brief-of .ensures) (at-if3 .if3 .left) (at-if4 .if4 .left) _ _ (at-act .act .ensures)) (l .log) (told _ _ _ (at-refused .refused .ensures) (at-if6 .if6 .left)) (at-rows-with .rows-with .result) (at-warnings-with .warnings-with .result) (at-rows-with .rows-with .ensures) (at-warnings-with .warnings-with .ensures) _ (c .done .ensures))) refl (d .kept .1 .1 .1 .1 .1 .1 .1 .1 .1 .0) refl (at-act .act .kept .1 .1 .0) refl
 
 pub +load+read-file-spec : {M : Type 1} → statement M
 +load+read-file-spec = close μ-load μ-read-file (λ t. load-lts.spec (load-cs t)
@@ -289,6 +801,7 @@ pub +load+read-file-spec : {M : Type 1} → statement M
     load.Post
     (load-returns t)
     (load-before-load-requires t)
+    (λ c κs. search needs)  -- load-in-scope-requires
     (λ c. search needs)  -- load-same-length
     (λ c. search needs)  -- load-same-length-2
     (load-returns-2 t)
@@ -298,7 +811,7 @@ pub +load+read-file-spec : {M : Type 1} → statement M
     (λ c. search needs)  -- load-same-length-4
     (λ c. search needs)  -- load-same-length-5
     (load-returns-3 t)
-    (λ c κs. search needs)  -- load-restored-requires
+    (λ c κs. search needs)  -- load-back-requires
     (load-same-length-6 t)
     (λ c. search needs)  -- load-same-length-7
     (λ c. search needs)  -- load-same-length-8
@@ -358,11 +871,36 @@ pub +load+read-file-spec : {M : Type 1} → statement M
     (read-file-same-length-11 t)
     (read-file-same-length-12 t)
     (read-file-returns-4 t)
-    (read-file-slice-aggregate-plain t)
-    (read-file-plain-requires t)
+    (read-file-slice-reshare-prefix-puts t)
+    (read-file-slice-aggregate-puts t)
+    (read-file-slice-aggregate-puts-2 t)
+    (λ c κs. search needs)  -- read-file-puts-requires
+    (read-file-loop-less-2 t)
+    (read-file-loop-again-2 t)
+    (read-file-slice-aggregate-set-scope t)
+    (read-file-set-scope-requires t)
+    (λ c κs. search needs)  -- read-file-in-scope-requires
     (read-file-same-length-13 t)
     (read-file-same-length-14 t)
     (read-file-same-length-15 t)
     (read-file-returns-5 t)
-    (read-file-loop-less-2 t)
-    (read-file-loop-again-2 t)
+    (read-file-loop-less-3 t)
+    (read-file-loop-again-3 t)
+    (λ c κs. search needs)  -- read-file-brief-of-requires
+    (read-file-slice-reshare-prefix-act t)
+    (read-file-slice-aggregate-act t)
+    (read-file-slice-aggregate-act-2 t)
+    (read-file-act-requires t)
+    (λ c κs. search needs)  -- read-file-refused-requires
+    (read-file-same-length-16 t)
+    (read-file-same-length-17 t)
+    (read-file-same-length-18 t)
+    (read-file-returns-6 t)
+    (read-file-rows-with-requires t)
+    (read-file-warnings-with-requires t)
+    (λ c κs. search needs)  -- read-file-no-record-requires
+    (read-file-loop-less-4 t)
+    (read-file-loop-again-4 t)
+    (read-file-done-requires t)
+    (read-file-loop-less-5 t)
+    (read-file-loop-again-5 t)

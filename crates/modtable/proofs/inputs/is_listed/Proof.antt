@@ -1,7 +1,5 @@
 -- `modtable::inputs::is_listed` meets its contract: whether the name is one of those left. Assumes nothing.
-use Prim.Native.Nat.{_+_, _≤_, _-_}
-use mathlib.Core.Path.{_≡_}
-use lib.ListN.{length, drop}
+use Prim.Native.Nat.{_-_}
 use Rattle.jobindex.specs.Index.{rows}
 use Rattle.design.specs.Lists.{isIn}
 use Rattle.modtable.specs.Table.{inputIn}

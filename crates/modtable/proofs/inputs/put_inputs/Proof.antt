@@ -1,7 +1,6 @@
 -- `modtable::inputs::put_inputs` meets its contract: the ports stored so far, and those behind the cursor, are all. Assumes nothing.
-use Prim.Native.Nat.{_+_, _≤_, _-_}
-use mathlib.Core.Path.{_≡_}
-use lib.ListN.{length, drop}
+use Prim.Native.Nat.{_-_}
+use lib.ListN.{length}
 use Rattle.ports.specs.Cursors.{inputsFrom}
 use Rattle.modtable.proofs.Listed.{InputsOn, inputs}
 use Rattle.modtable.proofs.inputs.put_inputs.Statement.{statement}

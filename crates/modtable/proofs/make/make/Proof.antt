@@ -1,8 +1,6 @@
 -- `modtable::make::make` meets its contract: the modules before k are stored. Assumes nothing.
-use Prim.Native.Nat.{_+_, _≤_, _-_}
-use mathlib.Core.Path.{_≡_}
-use lib.ListN.{length, drop}
-use Rattle.modtable.proofs.Modules.{Made, made-next, mades}
+use Prim.Native.Nat.{_-_}
+use Rattle.modtable.proofs.Modules.{Made, mades}
 use Rattle.modtable.proofs.make.make.Statement.{statement}
 use Rattle.modtable.proofs.make.make.Tie as tie
 

@@ -1,7 +1,6 @@
 -- `modtable::make::put_names` meets its contract: the names stored so far, and those behind the cursor, are all. Assumes nothing.
-use Prim.Native.Nat.{_+_, _≤_, _-_}
-use mathlib.Core.Path.{_≡_}
-use lib.ListN.{length, drop}
+use Prim.Native.Nat.{_-_}
+use lib.ListN.{length}
 use Rattle.ports.specs.Cursors.{candidatesFrom}
 use Rattle.modtable.proofs.Names.{NamesOn, names}
 use Rattle.modtable.proofs.make.put_names.Statement.{statement}

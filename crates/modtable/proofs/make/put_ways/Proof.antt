@@ -1,7 +1,5 @@
 -- `modtable::make::put_ways` meets its contract: the instances stored so far, and those of the lines left, are all. Assumes nothing.
-use Prim.Native.Nat.{_+_, _≤_, _-_}
-use mathlib.Core.Path.{_≡_}
-use lib.ListN.{length, drop}
+use Prim.Native.Nat.{_-_}
 use Rattle.modtable.proofs.Ways.{WaysOn, ways}
 use Rattle.modtable.proofs.make.put_ways.Statement.{statement}
 use Rattle.modtable.proofs.make.put_ways.Tie as tie

@@ -1,8 +1,8 @@
 use native.Mathlib.Omega.{arith}
 use Rattle.out.specs.Emit.{_▸_, emit, Copies, copies-next, copies-done}
-use Prim.Native.Nat.{_+_, _≤_, _-_}
+use Prim.Native.Nat.{_≤_, _-_}
 use mathlib.Core.Path.{_≡_, refl}
-use lib.ListN.{length, drop, length-set}
+use lib.ListN.{length, length-set}
 use borrow.Author.Needs.{needs}
 use Rattle.out.proofs.emit.copy.Statement.{statement}
 use Rattle.out.proofs.emit.copy.Tie as tie

@@ -1,16 +1,10 @@
 use borrow.Author.Needs.{needs}
 use Prim.Native.Nat.{_≤_, _-_}
-use native.Mathlib.Omega.{arith}
-use native.Mathlib.Numerals.{add-one}
 use mathlib.Core.Path.{_≡_, refl}
-use lib.ListN.{length, drop, getD}
-use lib.Seq.{drop-cons, drop-length}
+use lib.ListN.{length, drop}
 use Rattle.out.specs.Emit.{_▸_, emit, emit-next, emit-done}
 use Rattle.out.proofs.emit.put_slow.Statement.{statement}
 use Rattle.out.proofs.emit.put_slow.Tie as tie
-use Rattle.out.proofs.emit.put_slow.Reads as reads
-use Rattle.out.proofs.emit.put_slow.Lts as lts
-use Rattle.out.proofs.emit.byte.Reads as byte-reads
 
 -- what is still to be written, written from here, is the answer
 abbrev Inv-loop : tie.InvT-loop

@@ -4,9 +4,9 @@ use Rattle.out.specs.Emit.{_▸_, emit}
 use Rattle.out.specs.Fill.{fill}
 use mathlib.Core.List.{map}
 use Rattle.out.specs.Items.{parts, joined, Joins, joins-start, joins-next, joins-done}
-use Prim.Native.Nat.{_+_, _≤_, _-_}
+use Prim.Native.Nat.{_≤_, _-_}
 use mathlib.Core.Path.{_≡_}
-use lib.ListN.{length, drop}
+use lib.ListN.{length}
 use borrow.Author.Needs.{needs}
 use Rattle.out.proofs.items.joins.Statement.{statement}
 use Rattle.out.proofs.items.joins.Tie as tie

@@ -3,9 +3,9 @@ use mathlib.Core.Path.{refl}
 use Rattle.out.specs.Emit.{_▸_, emit}
 use Rattle.out.specs.Fill.{fill}
 use Rattle.out.specs.Items.{parts, each, Each, each-next, each-done}
-use Prim.Native.Nat.{_+_, _≤_, _-_}
+use Prim.Native.Nat.{_≤_, _-_}
 use mathlib.Core.Path.{_≡_}
-use lib.ListN.{length, drop}
+use lib.ListN.{length}
 use borrow.Author.Needs.{needs}
 use Rattle.out.proofs.items.lines.Statement.{statement}
 use Rattle.out.proofs.items.lines.Tie as tie

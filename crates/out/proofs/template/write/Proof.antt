@@ -1,9 +1,9 @@
 use Rattle.out.specs.Emit.{_▸_, emit}
 use Rattle.out.specs.Fill.{fill, arg}
 use Rattle.out.specs.Marks.{Fills, fills-start, fills-turn, fills-less, fills-done}
-use Prim.Native.Nat.{_+_, _≤_, _-_}
+use Prim.Native.Nat.{_-_}
 use mathlib.Core.Path.{_≡_}
-use lib.ListN.{length, drop}
+use lib.ListN.{length}
 use borrow.Author.Needs.{needs}
 use Rattle.out.proofs.template.write.Statement.{statement}
 use Rattle.out.proofs.template.write.Tie as tie

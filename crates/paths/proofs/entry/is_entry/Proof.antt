@@ -1,7 +1,6 @@
 -- `paths::entry::is_entry` meets its contract: whether what is left of the element and the tail are what is left of the entry. Assumes nothing.
-use Prim.Native.Nat.{_+_, _≤_, _-_}
-use mathlib.Core.Path.{_≡_}
-use lib.ListN.{length, drop}
+use Prim.Native.Nat.{_+_, _-_}
+use lib.ListN.{length}
 use mathlib.Core.List.{_++_}
 use Rattle.text.specs.Compare.{same}
 use Rattle.names.specs.Name.{nameOf}

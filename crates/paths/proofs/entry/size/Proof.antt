@@ -1,7 +1,6 @@
 -- `paths::entry::size` meets its contract: the bytes counted and those left are all. Assumes nothing.
-use Prim.Native.Nat.{_+_, _≤_, _-_}
-use mathlib.Core.Path.{_≡_}
-use lib.ListN.{length, drop}
+use Prim.Native.Nat.{_+_, _-_}
+use lib.ListN.{length}
 use mathlib.Core.List.{_++_}
 use Rattle.names.specs.Name.{nameOf}
 use Rattle.paths.proofs.Entries.{Counts, counts}

@@ -3,9 +3,8 @@ use mathlib.Core.Bool.{Bool}
 use Rattle.joblines.specs.Sections.{portsIn}
 use Rattle.jobindex.specs.Index.{section}
 use Rattle.ports.specs.Headers.{othersBy}
-use Prim.Native.Nat.{_+_, _≤_, _-_}
+use Prim.Native.Nat.{_-_}
 use mathlib.Core.Path.{_≡_}
-use lib.ListN.{length, drop}
 use Rattle.ports.proofs.Turns.{nextTurns}
 use Rattle.ports.proofs.header.next_other.Statement.{statement}
 use Rattle.ports.proofs.header.next_other.Tie as tie

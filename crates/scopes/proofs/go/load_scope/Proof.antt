@@ -6,13 +6,13 @@ use Rattle.scopes.proofs.go.load_scope.Tie as tie
 
 go-requires : tie.Need-go-requires
 go-requires c κs =
-    let a = c .before .before .before .before .before .before .before .before .before .before .before .before .before .before in
-    load-aims (a .args .files .now) (a .args .area .now) (a .args .words .now) (a .args .n) (a .args .s) (a .pre) _ (c .before .before .before .before .before .before .before .before .before .span .ensures) _ (c .before .before .before .before .before .before .option .ensures) _ (search (c .before .before .before .known-told .given)) _ (c .before .entered .ensures)
+    let a = c .before .before .before .before .before .before .before .before .before .before .before .before .before in
+    load-aims (a .args .files .now) (a .args .area .now) (a .args .words .now) (a .args .n) (a .args .p) (a .pre) _ (c .before .before .before .before .before .before .before .before .before .span .ensures) _ (c .before .before .before .before .before .before .option .ensures) _ (search (c .before .before .before .known-told .given)) _ (c .before .entered .ensures)
 
 returns-2 : tie.Need-returns-2
 returns-2 c =
-    let a = c .before .before .before .before .before .before .before .before .before .before .before .before .before .before .before .before .before in
-    load-moves (a .args .files .now) (a .args .area .now) (a .args .words .now) (a .args .n) (a .args .s) (a .pre) _ (c .before .before .before .before .before .before .before .before .before .before .before .before .span .ensures) _ (c .before .before .before .before .before .before .before .before .before .option .ensures) _ (search (c .before .before .before .before .before .before .known-told .given)) _ (c .before .before .before .before .entered .ensures) _ _ (c .before .before .go .ensures)
+    let a = c .before .before .before .before .before .before .before .before .before .before .before .before .before .before .before .before in
+    load-moves (a .args .files .now) (a .args .area .now) (a .args .words .now) (a .args .n) (a .args .p) (a .pre) _ (c .before .before .before .before .before .before .before .before .before .before .before .before .span .ensures) _ (c .before .before .before .before .before .before .before .before .before .option .ensures) _ (search (c .before .before .before .before .before .before .known-told .given)) _ (c .before .before .before .before .entered .ensures) _ _ (c .before .before .go .ensures)
 
 pub load-scope-spec : {M : Type 1} → statement M
 load-scope-spec =

@@ -1,8 +1,6 @@
 -- `supplies::nets::created` meets its contract: what is put and what is left are the created nets. Assumes nothing.
 use Prim.Native.Nat.{_+_, _≤_, _-_}
 use native.Mathlib.Omega.{arith}
-use mathlib.Core.Path.{_≡_}
-use lib.ListN.{length, drop}
 use borrow.Author.Needs.{needs}
 use mathlib.Core.List.{_++_}
 use Rattle.supplies.proofs.Tables.{Created, created-start, created-row, created-room, created-stores, created-step, created-done}

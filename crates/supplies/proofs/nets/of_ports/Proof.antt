@@ -1,7 +1,5 @@
 -- `supplies::nets::of_ports` meets its contract: what is there and what is left come to the answer. Assumes nothing.
 use Prim.Native.Nat.{_+_, _≤_, _-_}
-use mathlib.Core.Path.{_≡_}
-use lib.ListN.{length, drop}
 use borrow.Author.Needs.{needs}
 use native.Mathlib.Omega.{arith}
 use mathlib.Core.List.{_++_}

@@ -1,6 +1,6 @@
 -- `supplies::write::package_text` meets its contract. Assumes nothing.
 use borrow.Author.Needs.{needs}
-use Rattle.out.specs.Emit.{Wrote, wrote, _then_, kept}
+use Rattle.out.specs.Emit.{wrote, _then_, kept}
 use Rattle.supplies.proofs.write.package_text.Statement.{statement}
 use Rattle.supplies.proofs.write.package_text.Tie as tie
 

@@ -1,7 +1,7 @@
 -- `switches::write::put_controlled` meets its contract: what is left of the control ports is written behind what was. Assumes nothing.
-use Prim.Native.Nat.{_+_, _≤_, _-_}
+use Prim.Native.Nat.{_+_, _-_}
 use mathlib.Core.Path.{_≡_}
-use lib.ListN.{length, drop}
+use lib.ListN.{length}
 use borrow.Author.Needs.{needs}
 use mathlib.Core.List.{_++_, map}
 use Rattle.out.specs.Emit.{emit, _▸_}

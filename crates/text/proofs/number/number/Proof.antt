@@ -1,7 +1,6 @@
 use Rattle.text.specs.Numbers.{numberOf}
-use Prim.Native.Nat.{_+_, _≤_, _-_}
-use mathlib.Core.Path.{_≡_}
-use lib.ListN.{length, drop}
+use Prim.Native.Nat.{_≤_, _-_}
+use lib.ListN.{length}
 use Rattle.text.proofs.Digits.{digits, Left}
 use Rattle.text.proofs.number.number.Statement.{statement}
 use Rattle.text.proofs.number.number.Tie as tie

@@ -1,4 +1,4 @@
-use Rattle.text.specs.Scan.{upTo, is, before}
+use Rattle.text.specs.Scan.{upTo}
 use Prim.Native.Nat.{_+_, _≤_, _-_}
 use mathlib.Core.Path.{_≡_}
 use lib.ListN.{length, drop}
