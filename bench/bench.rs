@@ -92,7 +92,14 @@ struct Result {
     bytes: usize,
     ours: Times,
     clear: Times,
+    lines: Times,
     theirs: Times,
+}
+
+/// The same job with a top that is not listed: all of its lines are read, and then it is refused by 7.
+fn unlisted(bytes: &[u8]) -> Vec<u8> {
+    let rest = bytes.iter().position(|b| *b == b'\n').expect("a line");
+    [b"top=unlisted__top", &bytes[rest..]].concat()
 }
 
 /// Compares the texts of a job, then times both; none where the job is refused.
@@ -136,20 +143,28 @@ fn time(m: &mut Memory, name: &str, bytes: &[u8], rounds: usize) -> Option<Resul
         },
     );
     // an empty job is refused at once, and all that is lent is cleared
-    let (clear, _) = both(
+    let read = unlisted(bytes);
+    assert!(m.call(&read).number == 7, "{name}: the lines are not read");
+    let mut other = Memory::new();
+    for k in 0..4 {
+        other.texts[k].resize(m.texts[k].len(), 0);
+    }
+    let (clear, lines) = both(
         rounds,
         &mut || {
             black_box(m.call(black_box(b"")));
         },
-        &mut || {},
+        &mut || {
+            black_box(other.call(black_box(&read)));
+        },
     );
-    Some(Result { bytes: bytes.len(), ours, clear, theirs })
+    Some(Result { bytes: bytes.len(), ours, clear, lines, theirs })
 }
 
 fn family(m: &mut Memory, f: jobs::Family, rounds: usize) {
     println!("\n### {}\n", f.title);
-    println!("| {} | job bytes | ours µs | of it clearing | the Rust µs | ratio | ratio without clearing | ours for one of the {} more, µs | spread ours, the Rust |", f.grows, f.grows);
-    println!("|---|---|---|---|---|---|---|---|---|");
+    println!("| {} | job bytes | ours µs | of it clearing | of it the job's lines | the Rust µs | ratio | ratio without these two | ours for one of the {} more, µs | spread ours, the Rust |", f.grows, f.grows);
+    println!("|---|---|---|---|---|---|---|---|---|---|");
     let mut last: Option<(usize, f64)> = None;
     for (n, (name, bytes)) in f.jobs {
         let Some(r) = time(m, &name, &bytes, rounds) else {
@@ -158,16 +173,17 @@ fn family(m: &mut Memory, f: jobs::Family, rounds: usize) {
         };
         let (ours, theirs, clear) = (r.ours.median(), r.theirs.median(), r.clear.median());
         let net = ours - clear;
+        let lines = r.lines.median() - clear;
         let more = match last {
             Some((k, before)) => format!("{:.2}", (net - before) / (n - k) as f64),
             None => "".into(),
         };
         last = Some((n, net));
         println!(
-            "| {n} | {} | {ours:.1} | {clear:.1} | {theirs:.1} | {:.2} | {:.2} | {more} | {:.0} %, {:.0} % |",
+            "| {n} | {} | {ours:.1} | {clear:.1} | {lines:.1} | {theirs:.1} | {:.2} | {:.2} | {more} | {:.0} %, {:.0} % |",
             r.bytes,
             ours / theirs,
-            net / theirs,
+            (net - lines) / theirs,
             100.0 * r.ours.spread(),
             100.0 * r.theirs.spread()
         );
@@ -178,7 +194,7 @@ fn family(m: &mut Memory, f: jobs::Family, rounds: usize) {
 fn generated(m: &mut Memory, count: u64) {
     let classes = [(0, 1024), (1024, 4096), (4096, 16_384), (16_384, 65_537)];
     println!("\n### generated jobs\n");
-    println!("| job bytes | jobs | ours µs, all | the Rust µs, all | ratio | without clearing | largest ratio of one | above 0.5 | above 1 |");
+    println!("| job bytes | jobs | ours µs, all | the Rust µs, all | ratio | without clearing and lines | largest ratio of one | above 0.5 | above 1 |");
     println!("|---|---|---|---|---|---|---|---|---|");
     let mut rows = classes.map(|_| (0usize, 0.0, 0.0, 0.0, 0.0f64, 0usize, 0usize));
     for k in 0..count {
@@ -190,7 +206,7 @@ fn generated(m: &mut Memory, count: u64) {
         row.0 += 1;
         row.1 += ours;
         row.2 += theirs;
-        row.3 += r.clear.median();
+        row.3 += r.lines.median();
         row.4 = row.4.max(ours / theirs);
         row.5 += (ours / theirs > 0.5) as usize;
         row.6 += (ours / theirs > 1.0) as usize;
