@@ -1,8 +1,9 @@
 -- A span as two slices, and what is written part by part: laws as the needs ask them. Assumes nothing.
-use Prim.Native.Nat.{ℕ, _+_, _-_}
+use Prim.Native.Nat.{ℕ, _+_, _-_, _≤_}
+use native.Mathlib.Omega.{arith}
 use mathlib.Core.Path.{_≡_}
 use mathlib.Core.Bool.{Bool, true, false}
-use mathlib.Core.List.{_++_}
+use mathlib.Core.List.{_++_, append-nil}
 use lib.ListN.{length, take, drop, length-drop}
 use borrow.Author.Needs.{needs}
 use borrow.Author.Tests.{eq-eqb}
@@ -45,6 +46,14 @@ pub put-two : (f : ℕ → Bytes) (t a : Bytes) (s : Span) (o o₁ o₂ : Out) (
     → p ≡ take (s .len) (drop (s .at) t) → q ≡ take k (drop j a) → j ≡ s .at - length t → k ≡ s .len - i → i ≡ length t - s .at → o₂ ≡ emit o (flat f (bytes (t ++ a) s))
 put-two f t a s o o₁ o₂ p q i j k h g d e x y z = rw (span-two, ← z, ← y, ← x, ← d, ← e) (flat-two f o o₁ o₂ p q h g)
 
+-- the same where there is nothing to write, and where all of it lies in the first
+pub put-nothing : (f : ℕ → Bytes) (mem : Bytes) (s : Span) (o : Out) → s .len ≡ 0 → o ≡ emit o (flat f (bytes mem s))
+unfolding bytes flat emit
+put-nothing f mem s o h = rw h
+
+pub put-first : (f : ℕ → Bytes) (t a : Bytes) (s : Span) (o o₁ : Out) (p : Bytes) (i : ℕ) → o₁ ≡ emit o (flat f p) → p ≡ take (s .len) (drop (s .at) t) → i ≡ length t - s .at → s .len ≤ i → o₁ ≡ emit o (flat f (bytes (t ++ a) s))
+put-first f t a s o o₁ p i g d z h = let e : s .len - (length t - s .at) ≡ 0 = omega arith in rw (span-two, e, append-nil, ← d) g
+
 module _ (f : ℕ → Bytes) (mem : Bytes) (o o₂ : Out) where
   pub put-entry : (n : Name) (form : ℕ) (w : Span) → o₂ ≡ emit o (flat f (nameOf mem n)) → n ≡ named (0 ⋯ 0) false w form → o₂ ≡ emit o (flat f (entryOf form (bytes mem w)))
   unfolding nameOf bytes
@@ -64,4 +73,4 @@ module _ (f : ℕ → Bytes) (mem : Bytes) (o o₂ : Out) where
   unfolding nameOf
   put-all n o₁ h g = flat-two f o o₁ o₂ (bytes mem (n .scope)) (slash (n .sep) ++ entryOf (n .form) (bytes mem (n .word))) h g
 
-pub ruleset written = (needs, put-plain, put-two, put-entry, put-word, put-sep, put-bare, put-all)
+pub ruleset written = (needs, put-plain, put-two, put-nothing, put-first, put-entry, put-word, put-sep, put-bare, put-all)

@@ -15,8 +15,8 @@ use spans::span::first;
 // entry where it is 2.
 pub struct Name {
     pub scope: Span,
-    pub sep: bool,
     pub word: Span,
+    pub sep: bool,
     pub form: u8,
 }
 

@@ -43,7 +43,7 @@ fn put_slice(out: &mut [u8], at: usize, m: u8, p: &[u8]) -> usize
 }
 
 // Writes a string in one of the modes of `becomes`: what lies in the files, then what lies in the area.
-fn put_span(out: &mut [u8], at: usize, m: u8, files: &[u8], area: &[u8], s: Span) -> usize
+fn put_across(out: &mut [u8], at: usize, m: u8, files: &[u8], area: &[u8], s: Span) -> usize
     ensures { λ r. ⌜ now (out .exit) ▸ r ≡ emit (now (out .entry) ▸ at) (Bytewise·flat (Bytewise·becomes m) (bytes (now (files .entry) ++ now (area .entry)) s)) ⌝ }
 {
     let p = part(files, s.at, s.len);
@@ -52,6 +52,19 @@ fn put_span(out: &mut [u8], at: usize, m: u8, files: &[u8], area: &[u8], s: Span
     let j = minus(s.at, files.len());
     let q = part(area, j, k);
     put_slice(out, o, m, q)
+}
+
+// Writes a string in one of the modes of `becomes`; most lie wholly in the files.
+fn put_span(out: &mut [u8], at: usize, m: u8, files: &[u8], area: &[u8], s: Span) -> usize
+    ensures { λ r. ⌜ now (out .exit) ▸ r ≡ emit (now (out .entry) ▸ at) (Bytewise·flat (Bytewise·becomes m) (bytes (now (files .entry) ++ now (area .entry)) s)) ⌝ }
+{
+    if s.len == 0 {
+        return at;
+    }
+    if s.len <= minus(files.len(), s.at) {
+        return put_slice(out, at, m, part(files, s.at, s.len));
+    }
+    put_across(out, at, m, files, area, s)
 }
 
 // Writes a word or an entry in one of the modes of `becomes`.

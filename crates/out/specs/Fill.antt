@@ -5,7 +5,7 @@ use mathlib.Core.Path.{_≡_, refl}
 use mathlib.Core.Bool.{Bool, true, false, cond, _&&_, _||_}
 use mathlib.Core.List.{[], _∷_, _++_}
 use lib.Dec.{eqb, leb, ltb}
-use lib.ListN.{getD}
+use lib.ListN.{getD, drop}
 use Rattle.text.specs.Ascii.{Bytes, ascii, byte}
 use Rattle.text.specs.Classes.{within}
 use Rattle.text.specs.Scan.{before}
@@ -94,6 +94,10 @@ missing-argument = refl
 
 abbrev pub isBrace : ℕ → Bool
 isBrace b = eqb b (byte "{") || eqb b (byte "}")
+
+-- where r says so, none of the n bytes of t from i on is a brace
+pub record Plain (t : Bytes) (i n : ℕ) (r : Bool) : Type 0 where
+  pub passed : r ≡ true → before isBrace (drop i t) ≡ n + before isBrace (drop (i + n) t)
 
 -- what the mark at the head of a text adds, and how many bytes it has
 unfoldable pub markText : (ℕ → Bytes) → Bytes → Bytes

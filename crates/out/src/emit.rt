@@ -1,8 +1,9 @@
 // A byte, and a piece of text.
 ghost use mathlib.Core.Path.{_≡_};
-ghost use Prim.Native.Nat.{_-_, _≤_};
-ghost use lib.ListN.{length};
+ghost use Prim.Native.Nat.{_+_, _-_, _≤_};
+ghost use lib.ListN.{length, drop};
 ghost use Rattle.out.specs.Emit.{_▸_, emit, emit1};
+use text::part::rest;
 
 // Writes one byte at the place at.
 pub fn byte(out: &mut [u8], at: usize, b: u8) -> usize
@@ -29,8 +30,8 @@ pub fn put_slow(out: &mut [u8], at: usize, piece: &[u8]) -> usize
     o
 }
 
-// The same where there is room: a plain copy.
-fn copy(out: &mut [u8], at: usize, piece: &[u8]) -> usize
+// The same where there is room, byte by byte.
+fn copy_each(out: &mut [u8], at: usize, piece: &[u8]) -> usize
     requires { ⌜ length (now piece) ≤ length (now out) - at ⌝ }
     ensures { λ r. ⌜ now (out .exit) ▸ r ≡ emit (now (out .entry) ▸ at) (now (piece .entry)) ⌝ }
 {
@@ -42,6 +43,44 @@ fn copy(out: &mut [u8], at: usize, piece: &[u8]) -> usize
         i += 1;
     }
     o
+}
+
+// Writes at o the eight bytes of piece from i on: all are read first, so that they become one load and one store.
+fn copy_eight(out: &mut [u8], o: usize, piece: &[u8], i: usize)
+    requires { ⌜ (i + 8 ≤ length (now piece)) × (o + 8 ≤ length (now out)) ⌝ }
+    ensures { λ _. ⌜ emit (now (out .exit) ▸ (o + 8)) (drop (i + 8) (now (piece .entry))) ≡ emit (now (out .entry) ▸ o) (drop i (now (piece .entry))) ⌝ }
+{
+    let a = piece[i];
+    let b = piece[i + 1];
+    let c = piece[i + 2];
+    let d = piece[i + 3];
+    let e = piece[i + 4];
+    let f = piece[i + 5];
+    let g = piece[i + 6];
+    let h = piece[i + 7];
+    out[o] = a;
+    out[o + 1] = b;
+    out[o + 2] = c;
+    out[o + 3] = d;
+    out[o + 4] = e;
+    out[o + 5] = f;
+    out[o + 6] = g;
+    out[o + 7] = h;
+}
+
+// Writes piece at the place at, where there is room: eight bytes at a time, then the rest.
+fn copy(out: &mut [u8], at: usize, piece: &[u8]) -> usize
+    requires { ⌜ length (now piece) ≤ length (now out) - at ⌝ }
+    ensures { λ r. ⌜ now (out .exit) ▸ r ≡ emit (now (out .entry) ▸ at) (now (piece .entry)) ⌝ }
+{
+    let mut o = at;
+    let mut i = 0;
+    while 8 <= piece.len() - i {
+        copy_eight(out, o, piece, i);
+        o += 8;
+        i += 8;
+    }
+    copy_each(out, o, rest(piece, i))
 }
 
 // How many of n places are behind at.

@@ -6,7 +6,7 @@ ghost use Prim.Native.Nat.{_+_, _≤_, _<_};
 ghost use lib.ListN.{length, drop};
 ghost use Rattle.text.specs.Scan.{Ends, before};
 ghost use Rattle.out.specs.Emit.{_▸_, emit};
-ghost use Rattle.out.specs.Fill.{pick, arg, isTemplate, isBrace, markText, markSize, fill as Fill·fill};
+ghost use Rattle.out.specs.Fill.{pick, arg, isTemplate, isBrace, Plain, markText, markSize, fill as Fill·fill};
 use super::bytewise::dotted;
 use super::bytewise::mangle;
 use super::bytewise::sv_str;
@@ -71,8 +71,23 @@ fn is_brace(b: u8) -> bool
     (b == b'{') | (b == b'}')
 }
 
-// Where the run of plain bytes that begins at `at` ends.
-pub fn run_end(t: &[u8], at: usize) -> usize
+// Whether eight bytes of t from i on all stand before the braces in ASCII: then none is a brace.
+fn eight_plain(t: &[u8], i: usize) -> bool
+    requires { ⌜ i + 8 ≤ length (now t) ⌝ }
+    ensures { λ r. ⌜ Plain (now (t .entry)) i 8 r ⌝ }
+{
+    (t[i] < b'{')
+        & (t[i + 1] < b'{')
+        & (t[i + 2] < b'{')
+        & (t[i + 3] < b'{')
+        & (t[i + 4] < b'{')
+        & (t[i + 5] < b'{')
+        & (t[i + 6] < b'{')
+        & (t[i + 7] < b'{')
+}
+
+// Where the run of plain bytes that begins at `at` ends, byte by byte.
+fn run_end_each(t: &[u8], at: usize) -> usize
     requires { ⌜ at ≤ length (now t) ⌝ }
     ensures { λ r. ⌜ Ends (at + before isBrace (drop at (now (t .entry)))) (length (now (t .entry))) r ⌝ }
 {
@@ -84,6 +99,21 @@ pub fn run_end(t: &[u8], at: usize) -> usize
         i += 1;
     }
     i
+}
+
+// Where the run of plain bytes that begins at `at` ends.
+pub fn run_end(t: &[u8], at: usize) -> usize
+    requires { ⌜ at ≤ length (now t) ⌝ }
+    ensures { λ r. ⌜ Ends (at + before isBrace (drop at (now (t .entry)))) (length (now (t .entry))) r ⌝ }
+{
+    let mut i = at;
+    while 8 <= t.len() - i {
+        if !eight_plain(t, i) {
+            return run_end_each(t, i);
+        }
+        i += 8;
+    }
+    run_end_each(t, i)
 }
 
 // What the mark at i adds: nothing at the end.

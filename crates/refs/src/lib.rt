@@ -19,12 +19,12 @@ use text::part::part;
 // on.
 pub struct Ref {
     pub name: Name,
-    pub cut: bool,
-    pub upto: usize,
-    pub sep: bool,
     pub last: Name,
+    pub upto: usize,
     pub at: usize,
     pub len: usize,
+    pub cut: bool,
+    pub sep: bool,
 }
 
 // No name.

@@ -8,12 +8,12 @@ pub put-span-spec : {M : Type 1} → statement M
 put-span-spec =
     tie.close
     (tie.spec
+    (λ c. search written)  -- returns
+    (λ c κs. search needs)  -- minus-requires
     (λ c κs. search needs)  -- part-requires
     (λ c κs. search needs)  -- put-slice-requires
-    (λ c κs. search needs)  -- minus-requires
-    (λ c κs. search needs)  -- minus-requires-2
-    (λ c κs. search needs)  -- minus-requires-3
-    (λ c κs. search needs)  -- part-requires-2
-    (λ c κs. search needs)  -- put-slice-requires-2
     (λ c. search needs)  -- same-length
-    (λ c. search written))  -- returns
+    (λ c. search written)  -- returns-2
+    (λ c κs. search needs)  -- put-across-requires
+    (λ c. search needs)  -- same-length-2
+    (λ c. search needs))  -- returns-3

@@ -1,8 +1,10 @@
+-- `out::emit::copy` meets its contract. Assumes nothing.
 use native.Mathlib.Omega.{arith}
-use Rattle.out.specs.Emit.{_▸_, emit, Copies, copies-next, copies-done}
+use Rattle.out.specs.Emit.{_▸_, emit, Copies}
+use Rattle.out.proofs.Eights.{eights}
 use Prim.Native.Nat.{_≤_, _-_}
 use mathlib.Core.Path.{_≡_, refl}
-use lib.ListN.{length, length-set}
+use lib.ListN.{length}
 use borrow.Author.Needs.{needs}
 use Rattle.out.proofs.emit.copy.Statement.{statement}
 use Rattle.out.proofs.emit.copy.Tie as tie
@@ -20,11 +22,13 @@ copy-spec =
     Inv-loop
     μ-loop
     (λ c. (search needs, refl, record { keeps = refl; place = omega arith; room = search needs }))  -- loop-holds
-    (λ c. search needs)  -- shared-slice-read-out
-    (λ c. search needs)  -- slice-write-out
+    (λ c. search needs)  -- sub-loop
+    (λ c κs. (search needs, search eights))  -- copy-eight-requires
     (λ c. search needs)  -- add-o
     (λ c. search needs)  -- add-i
     (λ c. search needs)  -- loop-less
-    (λ c. search (needs, copies-next, length-set))  -- loop-again
+    (λ c. search eights)  -- loop-again
+    (λ c κs. search needs)  -- rest-requires
+    (λ c κs. search eights)  -- copy-each-requires
     (λ c. search needs)  -- same-length
-    (λ c. search copies-done))  -- returns
+    (λ c. search eights))  -- returns

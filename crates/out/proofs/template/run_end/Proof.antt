@@ -1,9 +1,10 @@
+-- `out::template::run_end` meets its contract. Assumes nothing.
 use Rattle.text.specs.Scan.{before}
 use Rattle.out.specs.Fill.{isBrace}
 use Prim.Native.Nat.{_+_, _≤_, _-_}
 use mathlib.Core.Path.{_≡_}
 use lib.ListN.{length, drop}
-use Rattle.text.specs.Scans.{scans}
+use Rattle.out.proofs.Plains.{plains}
 use Rattle.out.proofs.template.run_end.Statement.{statement}
 use Rattle.out.proofs.template.run_end.Tie as tie
 
@@ -19,11 +20,13 @@ run-end-spec =
     (tie.spec
     Inv-loop
     μ-loop
-    (λ c. search scans)  -- loop-holds
-    (λ c. search scans)  -- shared-slice-read-is-brace
-    (λ c κs. search scans)  -- is-brace-requires
-    (λ c. search scans)  -- returns
-    (λ c. search scans)  -- add-i
-    (λ c. search scans)  -- loop-less
-    (λ c. search scans)  -- loop-again
-    (λ c. search scans))  -- returns-2
+    (λ c. search plains)  -- loop-holds
+    (λ c. search plains)  -- sub-loop
+    (λ c κs. search plains)  -- eight-plain-requires
+    (λ c κs. search plains)  -- run-end-each-requires
+    (λ c. search plains)  -- returns
+    (λ c. search plains)  -- add-i
+    (λ c. search plains)  -- loop-less
+    (λ c. search plains)  -- loop-again
+    (λ c κs. search plains)  -- run-end-each-requires-2
+    (λ c. search plains))  -- returns-2
