@@ -86,7 +86,7 @@ fn find_lf(s: &[u8]) -> usize
 }
 
 // The LF of the line that begins at `at`; `end` where there is none before it.
-fn line_end(job: &[u8], at: usize, end: usize) -> usize
+pub fn line_end(job: &[u8], at: usize, end: usize) -> usize
     ensures { λ r. ⌜ Cut (now (job .entry)) at end r ⌝ }
 {
     if end <= at {

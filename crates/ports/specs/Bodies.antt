@@ -4,7 +4,8 @@ use Prim.Native.Nat.{ℕ}
 use mathlib.Core.Path.{_≡_, refl, ap}
 use mathlib.Core.Bool.{Bool, true, false, cond, not, _&&_}
 use mathlib.Core.List.{List, [], _∷_, _++_, map, flatMap}
-use Rattle.text.specs.Ascii.{Bytes}
+use lib.Dec.{eqb}
+use Rattle.text.specs.Ascii.{Bytes, byte}
 use Rattle.fields.specs.Fields.{Dir, Kind}
 use Rattle.joblines.specs.Job.{Decl}
 use Rattle.joblines.specs.Sections.{declsIn}
@@ -34,6 +35,12 @@ abbrev pub pickIs : Pick → Kind → Bool → Bool
 pickIs pick.Output k d = bodyOut k
 pickIs pick.Other k d = bodyOther k
 pickIs pick.Signal k d = isSignal k && not d
+
+-- no spelling of a kind that is asked for begins with b
+abbrev pub isOff : Pick → ℕ → Bool
+isOff pick.Output b = not (eqb b (byte "o"))
+isOff pick.Other b = not (eqb b (byte "i")) && not (eqb b (byte "r"))
+isOff pick.Signal b = not (eqb b (byte "n")) && not (eqb b (byte "d"))
 
 unfoldable pub picked : Pick → List Decl → List Bytes
 picked p [] = []

@@ -1,12 +1,13 @@
 // The names of declarations: lines from `at` up to `end`.
 ghost use mathlib.Core.Path.{_≡_};
 ghost use mathlib.Core.Bool.{not};
+ghost use lib.ListN.{drop, getD};
 ghost use Rattle.fields.specs.Meant.{dimsIs, kindIs};
 ghost use Rattle.joblines.specs.Sections.{declsIn};
 ghost use Rattle.jobindex.specs.Index.{section};
 ghost use Rattle.design.specs.Lists.{isIn};
 ghost use Rattle.design.specs.Ports.{isSignal};
-ghost use Rattle.ports.specs.Bodies.{bodyOut, bodyOther, pickIs, picked, BodySeen};
+ghost use Rattle.ports.specs.Bodies.{bodyOut, bodyOther, isOff, pickIs, picked, BodySeen};
 use super::NameAt;
 use fields::Dims;
 use fields::Kind;
@@ -94,12 +95,38 @@ fn picks(pick: Pick, kind: Kind, dims: Dims) -> bool
     }
 }
 
+// Whether no declaration whose value begins with b is of the kind asked for.
+fn is_off(pick: Pick, b: u8) -> bool
+    ensures { λ r. ⌜ r ≡ isOff pick b ⌝ }
+{
+    match pick {
+        Pick::Output => b != b'o',
+        Pick::Other => (b != b'i') & (b != b'r'),
+        Pick::Signal => (b != b'n') & (b != b'd'),
+    }
+}
+
+// The first byte of the value of a declaration line that begins at i.
+fn value_byte(job: &[u8], i: usize) -> u8
+    ensures { λ r. ⌜ r ≡ getD (drop i (now (job .entry))) 5 0 ⌝ }
+{
+    text::part::peek(text::part::rest(job, i), 5)
+}
+
 // The next name of the kind.
 pub fn next_of(job: &[u8], at: usize, end: usize, pick: Pick) -> NameAt
     ensures { λ r. ⌜ BodySeen (now (job .entry)) at end pick r ⌝ }
 {
     let mut i = at;
     loop {
+        if is_off(pick, value_byte(job, i)) {
+            let e = lines::line_end(job, i, end);
+            if end <= e {
+                return NameAt::End;
+            }
+            i = e + 1;
+            continue;
+        }
         let r = lines::next_decl(job, i, end);
         let DeclAt::Decl {
             kind,
