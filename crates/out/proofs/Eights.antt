@@ -1,12 +1,12 @@
--- A copy of eight bytes at a time: what is left to write gives the same before and after. Assumes nothing.
+-- Copies, byte by byte and eight bytes at a time: what is left to write gives the same before and after. Assumes nothing.
 use Prim.Native.Nat.{ℕ, _+_, _-_, _<_, _≤_}
 use native.Mathlib.Omega.{arith}
 use mathlib.Core.Path.{_≡_, refl, _∙_}
-use lib.ListN.{length, set, getD, drop, length-set, length-drop}
+use lib.ListN.{length, set, getD, drop, length-set}
 use borrow.Author.Needs.{needs}
 use borrow.Author.Tests.{lt-ltb}
 use Rattle.text.specs.Ascii.{Bytes}
-use Rattle.out.specs.Emit.{Out, _▸_, emit, emit1, emit-next, Copies}
+use Rattle.out.specs.Emit.{Out, _▸_, emit, emit1, emit-next, emit-done}
 
 -- one byte stored where there is room
 store-one : (p out : Bytes) (o i : ℕ) → i < length p → o < length out → emit (set out o (getD p i 0) ▸ (o + 1)) (drop (i + 1) p) ≡ emit (out ▸ o) (drop i p)
@@ -42,20 +42,28 @@ module _ (p out : Bytes) (o i : ℕ) where
       (stored-on p out o i 4 _ (omega arith) (omega arith) (stored-on p out o i 3 _ (omega arith) (omega arith) (stored-on p out o i 2 _ (omega arith) (omega arith)
       (stored-on p out o i 1 _ (omega arith) (omega arith) (stored-one p out o i (omega arith) (omega arith)))))))) .keeps
 
--- ---- the loop
+-- ---- the loops: what p has from i on is written at o, where there is room for it; w is the answer
+pub record Left (w : Out) (p out : Bytes) (o i : ℕ) : Type 0 where
+  pub keeps : emit (out ▸ o) (drop i p) ≡ w
+  pub room : length p - i ≤ length out - o
 
-module _ (w : Out) (p out : Bytes) (at o i : ℕ) (c : Copies w p out at o i) where
-  pub copies-room : 8 ≤ length p - i → o + 8 ≤ length out
-  copies-room h = omega (arith, c .place, c .room)
+module _ (w : Out) (p out : Bytes) (o i : ℕ) (c : Left w p out o i) where
+  pub left-there : i < length p → o < length out
+  left-there h = omega (arith, c .room)
 
-  pub copies-eight : (out′ : Bytes) → 8 ≤ length p - i → length out′ ≡ length out → emit (out′ ▸ (o + 8)) (drop (i + 8) p) ≡ emit (out ▸ o) (drop i p) → Copies w p out′ at (o + 8) (i + 8)
-  copies-eight out′ h l e = record { keeps = e ∙ c .keeps; place = omega (arith, c .place); room = rw l (c .room) }
+  pub left-next : i < length p → Left w p (set out o (getD p i 0)) (o + 1) (i + 1)
+  left-next h = record { keeps = store-one p out o i h (left-there h) ∙ c .keeps; room = rw length-set (omega (arith, c .room)) }
 
-  module _ (q : Bytes) (e : q ≡ drop i p) where
-    pub copies-rest : length q ≤ length out - o
-    copies-rest = let l : length q ≡ length p - i = rw (e, length-drop) in omega (arith, c .place, c .room)
+  pub left-done : length p ≤ i → out ▸ o ≡ w
+  left-done h = emit-done (out ▸ o) w p i h (c .keeps)
 
-    pub copies-end : (z : Out) → z ≡ emit (out ▸ o) q → z ≡ w
-    copies-end z f = rw e at f ∙ c .keeps
+  pub left-room : 8 ≤ length p - i → o + 8 ≤ length out
+  left-room h = omega (arith, c .room)
 
-pub ruleset eights = (needs, stored-eight, copies-room, copies-eight, copies-rest, copies-end)
+  pub left-eight : (out′ : Bytes) → 8 ≤ length p - i → length out′ ≡ length out → emit (out′ ▸ (o + 8)) (drop (i + 8) p) ≡ emit (out ▸ o) (drop i p) → Left w p out′ (o + 8) (i + 8)
+  left-eight out′ h l e = record { keeps = e ∙ c .keeps; room = rw l (omega (arith, c .room)) }
+
+  pub left-end : (z : Out) → z ≡ emit (out ▸ o) (drop i p) → z ≡ w
+  left-end z f = f ∙ c .keeps
+
+pub ruleset lefts = (needs, stored-eight, left-there, left-next, left-done, left-room, left-eight, left-end)

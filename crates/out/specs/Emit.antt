@@ -9,8 +9,6 @@ use lib.ListN.{length, set, getD, drop, drop-of-length-le, length-set}
 use lib.Seq.{drop-cons}
 use native.Mathlib.Numerals.{add-one}
 use lib.Dec.{ltb}
-use native.Mathlib.Omega.{arith}
-use borrow.Author.Tests.{lt-ltb}
 
 -- a lent buffer's bytes, and the place to write next
 pub record Out : Type 0 where
@@ -44,28 +42,6 @@ emit-next o o′ t p i h e k = rw (e, add-one) (rw (drop-cons p i 0) at k)
 pub emit-done : (o t : Out) (p : Bytes) (i : ℕ) → length p ≤ i → emit o (drop i p) ≡ t → o ≡ t
 unfolding emit
 emit-done o t p i h k = rw (drop-of-length-le p {i = i} h) at k
-
--- the same for a loop that stores where there is room
-pub record Copies (w : Out) (p out : Bytes) (at o i : ℕ) : Type 0 where
-  pub keeps : emit (out ▸ o) (drop i p) ≡ w
-  pub place : o ≡ at + i
-  pub room : length p ≤ length out - at
-
-emit1-fits : (out : Bytes) (o b : ℕ) → o < length out → set out o b ▸ (o + 1) ≡ emit1 (out ▸ o) b
-unfolding emit1
-emit1-fits out o b h = simp (lt-ltb o (length out) h)
-
-pub copies-next : (w : Out) (p out : Bytes) (at o i : ℕ) → Copies w p out at o i → i < length p → Copies w p (set out o (getD p i 0)) at (o + 1) (i + 1)
-copies-next w p out at o i c h =
-    let l : o < length out = omega (arith, c .place, c .room) in
-    record {
-      keeps = emit-next (out ▸ o) (set out o (getD p i 0) ▸ (o + 1)) w p i h (emit1-fits out o (getD p i 0) l) (c .keeps);
-      place = omega (arith, c .place);
-      room = rw length-set (c .room);
-    }
-
-pub copies-done : (w : Out) (p out : Bytes) (at o i : ℕ) → Copies w p out at o i → length p ≤ i → out ▸ o ≡ w
-copies-done w p out at o i c h = emit-done (out ▸ o) w p i h (c .keeps)
 
 -- `_++_` for templates: it does not compute, so that a goal keeps a template's pieces apart
 infixl 65 _⊕_

@@ -3,7 +3,6 @@ ghost use mathlib.Core.Path.{_≡_};
 ghost use Prim.Native.Nat.{_+_, _-_, _≤_};
 ghost use lib.ListN.{length, drop};
 ghost use Rattle.out.specs.Emit.{_▸_, emit, emit1};
-use text::part::rest;
 
 // Writes one byte at the place at.
 pub fn byte(out: &mut [u8], at: usize, b: u8) -> usize
@@ -30,13 +29,13 @@ pub fn put_slow(out: &mut [u8], at: usize, piece: &[u8]) -> usize
     o
 }
 
-// The same where there is room, byte by byte.
-fn copy_each(out: &mut [u8], at: usize, piece: &[u8]) -> usize
-    requires { ⌜ length (now piece) ≤ length (now out) - at ⌝ }
-    ensures { λ r. ⌜ now (out .exit) ▸ r ≡ emit (now (out .entry) ▸ at) (now (piece .entry)) ⌝ }
+// Writes at the place at what piece has from `from` on, where there is room, byte by byte.
+fn copy_each(out: &mut [u8], at: usize, piece: &[u8], from: usize) -> usize
+    requires { ⌜ length (now piece) - from ≤ length (now out) - at ⌝ }
+    ensures { λ r. ⌜ now (out .exit) ▸ r ≡ emit (now (out .entry) ▸ at) (drop from (now (piece .entry))) ⌝ }
 {
     let mut o = at;
-    let mut i = 0;
+    let mut i = from;
     while i < piece.len() {
         out[o] = piece[i];
         o += 1;
@@ -80,7 +79,7 @@ fn copy(out: &mut [u8], at: usize, piece: &[u8]) -> usize
         o += 8;
         i += 8;
     }
-    copy_each(out, o, rest(piece, i))
+    copy_each(out, o, piece, i)
 }
 
 // How many of n places are behind at.

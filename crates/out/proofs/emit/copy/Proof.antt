@@ -1,7 +1,6 @@
 -- `out::emit::copy` meets its contract. Assumes nothing.
-use native.Mathlib.Omega.{arith}
-use Rattle.out.specs.Emit.{_▸_, emit, Copies}
-use Rattle.out.proofs.Eights.{eights}
+use Rattle.out.specs.Emit.{_▸_, emit}
+use Rattle.out.proofs.Eights.{Left, lefts}
 use Prim.Native.Nat.{_≤_, _-_}
 use mathlib.Core.Path.{_≡_, refl}
 use lib.ListN.{length}
@@ -10,7 +9,7 @@ use Rattle.out.proofs.emit.copy.Statement.{statement}
 use Rattle.out.proofs.emit.copy.Tie as tie
 
 abbrev Inv-loop : tie.InvT-loop
-Inv-loop out₀ at piece o₀ i₀ out o i = (i ≤ length piece) × (length out ≡ length out₀) × Copies (emit (out₀ ▸ at) piece) piece out at o i
+Inv-loop out₀ at piece o₀ i₀ out o i = (i ≤ length piece) × (length out ≡ length out₀) × Left (emit (out₀ ▸ at) piece) piece out o i
 
 abbrev μ-loop : tie.MeasureT-loop
 μ-loop out₀ at piece o₀ i₀ out o i = length piece - i
@@ -21,14 +20,13 @@ copy-spec =
     (tie.spec
     Inv-loop
     μ-loop
-    (λ c. (search needs, refl, record { keeps = refl; place = omega arith; room = search needs }))  -- loop-holds
+    (λ c. (search needs, refl, record { keeps = refl; room = search needs }))  -- loop-holds
     (λ c. search needs)  -- sub-loop
-    (λ c κs. (search needs, search eights))  -- copy-eight-requires
+    (λ c κs. (search needs, search lefts))  -- copy-eight-requires
     (λ c. search needs)  -- add-o
     (λ c. search needs)  -- add-i
     (λ c. search needs)  -- loop-less
-    (λ c. search eights)  -- loop-again
-    (λ c κs. search needs)  -- rest-requires
-    (λ c κs. search eights)  -- copy-each-requires
+    (λ c. search lefts)  -- loop-again
+    (λ c κs. search lefts)  -- copy-each-requires
     (λ c. search needs)  -- same-length
-    (λ c. search eights))  -- returns
+    (λ c. search lefts))  -- returns
