@@ -12,7 +12,7 @@ cover-port-spec =
     (λ c κs. search slashes)  -- front-requires
     (λ c κs. search slashes)  -- find-instance-requires
     (λ c. search slashes)  -- returns
-    (λ c κs. search slashes)  -- insts-end-requires
+    (λ c κs. search (slashes, c .before .before .before .before .before .before .before .before .before .before .pre, c .before .before .before .front .ensures, c .before .before .find-instance .ensures))  -- insts-end-requires
     (λ c κs. search slashes)  -- whole-requires
     (λ c κs. search (slashes, c .before .before .before .before .before .before .before .before .before .before .before .before .pre, c .before .before .before .before .before .front .ensures, c .before .before .before .before .find-instance .ensures))  -- output-actual-requires
     (λ c κs. search (slashes, c .before .before .before .before .before .before .before .before .before .before .before .before .before .pre))  -- slash-port-requires
