@@ -1,3 +1,4 @@
 pub mod Dispatch
 pub mod Going
+pub mod Lows
 pub mod Whole

@@ -2,9 +2,12 @@
 -- Assumes nothing.
 use Prim.Native.Nat.{ℕ, _+_, _≤_}
 use mathlib.Core.Path.{_≡_}
+use mathlib.Core.Bool.{Bool, true}
 use mathlib.Core.List.{List}
 use lib.ListN.{length, drop}
 use Rattle.text.specs.Ascii.{Bytes}
+use Rattle.text.specs.Classes.{isAscii}
+use Rattle.text.specs.Scan.{all}
 use Rattle.joblines.specs.Job.{no-job}
 use Rattle.joblines.specs.Lines.{due-top}
 use Rattle.joblines.specs.Parse.{Parsed, accepted, refused, lines, listed, parse}
@@ -12,6 +15,10 @@ use Rattle.jobindex.specs.declared.Header.{Header}
 use Rattle.job.specs.declared.Answer.{Answer}
 use Rattle.job.specs.declared.Answer.the-variants as answer
 use Rattle.jobindex.specs.Index.{index-size, jobOf, Indexed}
+
+-- where r says so, the n bytes of s from i on are all below 128
+pub record Low (s : Bytes) (i n : ℕ) (r : Bool) : Type 0 where
+  pub passed : r ≡ true → all isAscii (drop i s) ≡ all isAscii (drop (i + n) s)
 
 -- the reader's answer
 abbrev pub readOf : Bytes → List ℕ → Answer → Parsed

@@ -12,7 +12,7 @@ ghost use Rattle.joblines.specs.Parse.{isNothing};
 ghost use Rattle.job.specs.declared.Answer.the-variants.{Taken, Refused};
 ghost use Rattle.jobindex.specs.Index.{index-size};
 ghost use Rattle.jobsteps.specs.State.{dueOf, jobNow, lineOf, Stands, Asked, Stepped};
-ghost use Rattle.job.specs.Reader.{LinesRead, Listed, JobRead};
+ghost use Rattle.job.specs.Reader.{Low, LinesRead, Listed, JobRead};
 use jobindex::Header;
 use jobindex::Open;
 use jobindex::Span;
@@ -153,11 +153,26 @@ pub fn lines(job: &[u8], index: &mut [u32]) -> Answer
     }
 }
 
-// Whether every byte is below 128.
-pub fn is_ascii(job: &[u8]) -> bool
-    ensures { λ r. ⌜ r ≡ all isAscii (now (job .entry)) ⌝ }
+// Whether eight bytes of the job from i on are all below 128.
+fn eight_low(job: &[u8], i: usize) -> bool
+    requires { ⌜ i + 8 ≤ length (now job) ⌝ }
+    ensures { λ r. ⌜ Low (now (job .entry)) i 8 r ⌝ }
 {
-    let mut i = 0;
+    (job[i] <= 127)
+        & (job[i + 1] <= 127)
+        & (job[i + 2] <= 127)
+        & (job[i + 3] <= 127)
+        & (job[i + 4] <= 127)
+        & (job[i + 5] <= 127)
+        & (job[i + 6] <= 127)
+        & (job[i + 7] <= 127)
+}
+
+// Whether every byte from `at` on is below 128, byte by byte.
+fn each_low(job: &[u8], at: usize) -> bool
+    ensures { λ r. ⌜ r ≡ all isAscii (drop at (now (job .entry))) ⌝ }
+{
+    let mut i = at;
     while i < job.len() {
         if !text::class::is_ascii(job[i]) {
             return false;
@@ -165,6 +180,20 @@ pub fn is_ascii(job: &[u8]) -> bool
         i += 1;
     }
     true
+}
+
+// Whether every byte is below 128: eight at a time, then the rest.
+pub fn is_ascii(job: &[u8]) -> bool
+    ensures { λ r. ⌜ r ≡ all isAscii (now (job .entry)) ⌝ }
+{
+    let mut i = 0;
+    while 8 <= job.len() - i {
+        if !eight_low(job, i) {
+            return each_low(job, i);
+        }
+        i += 8;
+    }
+    each_low(job, i)
 }
 
 // Whether `start` and `top` are listed; their rows are set.

@@ -3,10 +3,9 @@
 use Prim.Native.Nat.{_≤_, _-_}
 use mathlib.Core.Path.{_≡_}
 use lib.ListN.{length, drop}
-use borrow.Author.Needs.{needs}
 use Rattle.text.specs.Classes.{isAscii}
 use Rattle.text.specs.Scan.{all}
-use Rattle.fields.specs.Alls.{all-end, all-stop, all-step}
+use Rattle.job.proofs.Lows.{lows}
 use Rattle.job.proofs.is_ascii.Statement.{statement}
 use Rattle.job.proofs.is_ascii.Tie as tie
 
@@ -22,11 +21,13 @@ is-ascii-spec =
     (tie.spec
     Inv-loop
     μ-loop
-    (λ c. search (needs, all-end, all-stop, all-step))  -- loop-holds
-    (λ c. search (needs, all-end, all-stop, all-step))  -- shared-slice-read-is-ascii
-    (λ c κs. search (needs, all-end, all-stop, all-step))  -- is-ascii-requires
-    (λ c. search (needs, all-end, all-stop, all-step))  -- returns
-    (λ c. search (needs, all-end, all-stop, all-step))  -- add-i
-    (λ c. search (needs, all-end, all-stop, all-step))  -- loop-less
-    (λ c. search (needs, all-end, all-stop, all-step))  -- loop-again
-    (λ c. search (needs, all-end, all-stop, all-step)))  -- returns-2
+    (λ c. search lows)  -- loop-holds
+    (λ c. search lows)  -- sub-loop
+    (λ c κs. search lows)  -- eight-low-requires
+    (λ c κs. search lows)  -- each-low-requires
+    (λ c. search lows)  -- returns
+    (λ c. search lows)  -- add-i
+    (λ c. search lows)  -- loop-less
+    (λ c. search lows)  -- loop-again
+    (λ c κs. search lows)  -- each-low-requires-2
+    (λ c. search lows))  -- returns-2
