@@ -1,11 +1,11 @@
 -- What a word is, and what stands behind it: laws as the needs ask them. Assumes nothing.
 use Prim.Native.Nat.{ℕ, _+_, _-_, _≤_, _<_}
-use mathlib.Core.Path.{_≡_, _∙_}
-use mathlib.Core.Bool.{Bool, true, false, cond, not, _&&_}
-use mathlib.Core.List.{List}
+use mathlib.Core.Path.{_≡_, refl, _∙_}
+use mathlib.Core.Bool.{Bool, true, false, cond, not}
+use mathlib.Core.List.{List, [], _∷_}
 use native.Mathlib.Omega.{arith}
-use lib.Dec.{eqb}
 use borrow.Author.Needs.{needs}
+use borrow.Author.Tests.{ne-eqb}
 use Rattle.text.specs.Ascii.{Bytes, byte}
 use Rattle.text.specs.Classes.{isDigit}
 use Rattle.spans.specs.Span.{bytes, gotOf, pairAt}
@@ -25,16 +25,25 @@ module _ (mem w : Bytes) (p : Got) (e : w ≡ gotOf mem p) where
   unfolding isOption
   no-byte h = rw (e, h)
 
-  module _ (a : ℕ) (t : Span) (h : p ≡ Yes a t) (q : Got) (f : bytes mem t ≡ gotOf mem q) where
-    pub one-byte : q ≡ No → false ≡ isOption w
+  module _ (a : ℕ) (t : Span) (h : p ≡ Yes a t) where
+    pub other-byte : (a ≡ byte "-" → ⊥) → false ≡ isOption w
     unfolding isOption
-    one-byte g = rw (e, h, f, g)
+    other-byte g = rw (e, h) (go (bytes mem t))
+      where
+        go : (v : Bytes) → false ≡ isOption (a ∷ v)
+        go [] = refl
+        go (y ∷ v) = rw (ne-eqb a (byte "-") g)
 
-    pub two-bytes : (b : ℕ) (u : Span) (d : Bool) → q ≡ Yes b u → d ≡ isDigit b → eqb a (byte "-") && not d ≡ isOption w
-    unfolding isOption
-    two-bytes b u d g i = rw (e, h, f, g, i)
+    module _ (m : a ≡ byte "-") (q : Got) (f : bytes mem t ≡ gotOf mem q) where
+      pub one-byte : q ≡ No → false ≡ isOption w
+      unfolding isOption
+      one-byte g = rw (e, h, f, g)
 
-pub ruleset optionals = (needs, no-byte, one-byte, two-bytes)
+      pub two-bytes : (b : ℕ) (u : Span) (d : Bool) → q ≡ Yes b u → d ≡ isDigit b → not d ≡ isOption w
+      unfolding isOption
+      two-bytes b u d g i = rw (e, h, f, g, i, m)
+
+pub ruleset optionals = (needs, no-byte, other-byte, one-byte, two-bytes)
 
 -- ---- what it is
 

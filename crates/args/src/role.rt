@@ -23,15 +23,15 @@ pub enum Role {
 pub fn is_option(files: &[u8], area: &[u8], s: Span) -> bool
     ensures { λ r. ⌜ r ≡ isOption (bytes (now (files .entry) ++ now (area .entry)) s) ⌝ }
 {
-    match first(files, area, s) {
+    let Got::Yes(a, t) = first(files, area, s) else {
+        return false;
+    };
+    if a != b'-' {
+        return false;
+    }
+    match first(files, area, t) {
         Got::No => false,
-        Got::Yes(a, t) => match first(files, area, t) {
-            Got::No => false,
-            Got::Yes(b, _) => {
-                let d = is_digit(b);
-                (a == b'-') & !d
-            }
-        },
+        Got::Yes(b, _) => !is_digit(b),
     }
 }
 
