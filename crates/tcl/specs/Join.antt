@@ -1,9 +1,10 @@
 -- "`\` LF and `\` CR LF become a space first." Assumes nothing.
-use Prim.Native.Nat.{ℕ}
-use mathlib.Core.Bool.{cond, _&&_}
-use mathlib.Core.List.{[], _∷_}
+use Prim.Native.Nat.{ℕ, _+_, _≤_}
+use mathlib.Core.Path.{_≡_}
+use mathlib.Core.Bool.{Bool, true, cond, _&&_}
+use mathlib.Core.List.{[], _∷_, _++_}
 use lib.Dec.{eqb}
-use lib.ListN.{getD}
+use lib.ListN.{length, take, drop, getD}
 use Rattle.text.specs.Ascii.{Bytes, byte}
 use Rattle.tcl.specs.Rewrite.{rewrite}
 
@@ -26,3 +27,12 @@ joined s = joinedBy (joint s) (getD s 0 0) ∷ []
 
 abbrev pub join : Bytes → Bytes
 join s = rewrite joint joined 0 s
+
+-- n bytes from i on
+unfoldable pub run : Bytes → ℕ → ℕ → Bytes
+run s i n = take n (drop i s)
+
+-- where r says so, n bytes stand from i on, and they are written as they are
+pub record Kept (s : Bytes) (i n : ℕ) (r : Bool) : Type 0 where
+  pub there : r ≡ true → i + n ≤ length s
+  pub stays : r ≡ true → join (drop i s) ≡ run s i n ++ join (drop (i + n) s)
