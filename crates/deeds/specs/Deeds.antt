@@ -74,26 +74,6 @@ warningsBy (deed.Table x) k = k
 warningsBy (deed.Switch x e) k = k
 warningsBy (deed.PortState x e) k = k
 
--- the tables stay as they are
-abbrev pub leavesBy : Deed → Bool
-leavesBy deed.Nothing = true
-leavesBy deed.Full = true
-leavesBy (deed.Warning kind name) = true
-leavesBy (deed.Row r) = true
-leavesBy (deed.Variable a b) = false
-leavesBy (deed.Top t) = false
-leavesBy (deed.Domain x) = false
-leavesBy (deed.Supplied i x) = false
-leavesBy (deed.Net x) = false
-leavesBy (deed.Port x) = false
-leavesBy (deed.Isolation x) = false
-leavesBy (deed.Controlled i x) = false
-leavesBy (deed.Retention x) = false
-leavesBy (deed.Shifter x) = false
-leavesBy (deed.Table x) = false
-leavesBy (deed.Switch x e) = false
-leavesBy (deed.PortState x e) = false
-
 -- its row; none of kind 0
 abbrev pub rowBy : ℕ → Deed → Row
 rowBy w deed.Nothing = no-row
@@ -230,25 +210,6 @@ taken-is s (deed.Shifter x) h = refl
 taken-is s (deed.Table x) h = refl
 taken-is s (deed.Switch x e) h = refl
 taken-is s (deed.PortState x e) h = refl
-
-pub left-is : (u : State) (d : Deed) → leavesBy d ≡ true → recordBy u d ≡ u
-left-is u deed.Nothing h = refl
-left-is u deed.Full h = refl
-left-is u (deed.Warning kind name) h = refl
-left-is u (deed.Row r) h = refl
-left-is u (deed.Variable a b) h = absurd (no-true h)
-left-is u (deed.Top t) h = absurd (no-true h)
-left-is u (deed.Domain x) h = absurd (no-true h)
-left-is u (deed.Supplied i x) h = absurd (no-true h)
-left-is u (deed.Net x) h = absurd (no-true h)
-left-is u (deed.Port x) h = absurd (no-true h)
-left-is u (deed.Isolation x) h = absurd (no-true h)
-left-is u (deed.Controlled i x) h = absurd (no-true h)
-left-is u (deed.Retention x) h = absurd (no-true h)
-left-is u (deed.Shifter x) h = absurd (no-true h)
-left-is u (deed.Table x) h = absurd (no-true h)
-left-is u (deed.Switch x e) h = absurd (no-true h)
-left-is u (deed.PortState x e) h = absurd (no-true h)
 
 pub fits-counted : (s : State) (d : Deed) → Fits s d → Fits (countedBy s d) d
 fits-counted s deed.Nothing h = h

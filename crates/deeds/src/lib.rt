@@ -1,11 +1,10 @@
-// A deed carried out: the row that it has, and the state that it leaves.
+// A deed carried out: the row that it has, and each table with the record that it makes or changes.
 ghost use Prim.Native.Nat.{_+_, _*_, _≤_, _<_, _^_};
 ghost use mathlib.Core.Path.{_≡_};
 ghost use mathlib.Core.Bool.{false};
 ghost use lib.ListN.{length, set};
 ghost use Rattle.store.specs.Rows.{Packs};
-ghost use Rattle.made.specs.Made.{Fits};
-ghost use Rattle.deeds.specs.Deeds.{refusedBy, rowsBy, warningsBy, leavesBy, rowBy, deedPut, recordBy};
+ghost use Rattle.deeds.specs.Deeds.{refusedBy, rowsBy, warningsBy, rowBy, deedPut};
 use made::Deed;
 use store::row::Row;
 use store::row::put_row;
@@ -23,7 +22,6 @@ use store::state::Retention;
 use store::state::Retentions;
 use store::state::Shifter;
 use store::state::Shifters;
-use store::state::State;
 use store::state::Switch;
 use store::state::Switches;
 use store::state::Table;
@@ -90,21 +88,8 @@ pub fn warnings_with(d: Deed, warnings: usize) -> usize
     }
 }
 
-// Whether a deed leaves the tables as they are.
-pub fn no_record(d: Deed) -> bool
-    ensures { λ r. ⌜ r ≡ leavesBy d ⌝ }
-{
-    match d {
-        Deed::Nothing => true,
-        Deed::Full => true,
-        Deed::Warning(_, _) => true,
-        Deed::Row(_) => true,
-        _ => false,
-    }
-}
-
 // A record more.
-fn add_domain(s: Domains, x: Domain) -> Domains
+pub fn add_domain(s: Domains, x: Domain) -> Domains
     requires { ⌜ s .n < 32 ⌝ }
     ensures { λ r. ⌜ r ≡ record { n = s .n + 1; all = set (s .all) (s .n) x } ⌝ }
 {
@@ -116,7 +101,7 @@ fn add_domain(s: Domains, x: Domain) -> Domains
 }
 
 // A record more.
-fn add_net(s: Nets, x: Below) -> Nets
+pub fn add_net(s: Nets, x: Below) -> Nets
     requires { ⌜ s .n < 32 ⌝ }
     ensures { λ r. ⌜ r ≡ record { n = s .n + 1; all = set (s .all) (s .n) x } ⌝ }
 {
@@ -128,7 +113,7 @@ fn add_net(s: Nets, x: Below) -> Nets
 }
 
 // A record more.
-fn add_port(s: Ports, x: Port) -> Ports
+pub fn add_port(s: Ports, x: Port) -> Ports
     requires { ⌜ s .n < 32 ⌝ }
     ensures { λ r. ⌜ r ≡ record { n = s .n + 1; all = set (s .all) (s .n) x } ⌝ }
 {
@@ -140,7 +125,7 @@ fn add_port(s: Ports, x: Port) -> Ports
 }
 
 // A record more.
-fn add_isolation(s: Isolations, x: Isolation) -> Isolations
+pub fn add_isolation(s: Isolations, x: Isolation) -> Isolations
     requires { ⌜ s .n < 32 ⌝ }
     ensures { λ r. ⌜ r ≡ record { n = s .n + 1; all = set (s .all) (s .n) x } ⌝ }
 {
@@ -152,7 +137,7 @@ fn add_isolation(s: Isolations, x: Isolation) -> Isolations
 }
 
 // A record more.
-fn add_retention(s: Retentions, x: Retention) -> Retentions
+pub fn add_retention(s: Retentions, x: Retention) -> Retentions
     requires { ⌜ s .n < 32 ⌝ }
     ensures { λ r. ⌜ r ≡ record { n = s .n + 1; all = set (s .all) (s .n) x } ⌝ }
 {
@@ -164,7 +149,7 @@ fn add_retention(s: Retentions, x: Retention) -> Retentions
 }
 
 // A record more.
-fn add_shifter(s: Shifters, x: Shifter) -> Shifters
+pub fn add_shifter(s: Shifters, x: Shifter) -> Shifters
     requires { ⌜ s .n < 32 ⌝ }
     ensures { λ r. ⌜ r ≡ record { n = s .n + 1; all = set (s .all) (s .n) x } ⌝ }
 {
@@ -176,7 +161,7 @@ fn add_shifter(s: Shifters, x: Shifter) -> Shifters
 }
 
 // A record more.
-fn add_table(s: Tables, x: Table) -> Tables
+pub fn add_table(s: Tables, x: Table) -> Tables
     requires { ⌜ s .n < 32 ⌝ }
     ensures { λ r. ⌜ r ≡ record { n = s .n + 1; all = set (s .all) (s .n) x } ⌝ }
 {
@@ -188,7 +173,7 @@ fn add_table(s: Tables, x: Table) -> Tables
 }
 
 // A record more.
-fn add_switch(s: Switches, x: Switch) -> Switches
+pub fn add_switch(s: Switches, x: Switch) -> Switches
     requires { ⌜ s .n < 32 ⌝ }
     ensures { λ r. ⌜ r ≡ record { n = s .n + 1; all = set (s .all) (s .n) x } ⌝ }
 {
@@ -200,7 +185,7 @@ fn add_switch(s: Switches, x: Switch) -> Switches
 }
 
 // A record more.
-fn add_port_state(s: PortStates, x: PortState) -> PortStates
+pub fn add_port_state(s: PortStates, x: PortState) -> PortStates
     requires { ⌜ s .n < 32 ⌝ }
     ensures { λ r. ⌜ r ≡ record { n = s .n + 1; all = set (s .all) (s .n) x } ⌝ }
 {
@@ -212,7 +197,7 @@ fn add_port_state(s: PortStates, x: PortState) -> PortStates
 }
 
 // A variable more: four numbers.
-fn add_variable(s: Variables, name: Stored, value: Stored) -> Variables
+pub fn add_variable(s: Variables, name: Stored, value: Stored) -> Variables
     requires { ⌜ s .n < 64 ⌝ }
     ensures { λ r. ⌜ r ≡ record { n = s .n + 1; all = set (set (set (set (s .all) (4 * s .n) (name .at)) (4 * s .n + 1) (name .len)) (4 * s .n + 2) (value .at)) (4 * s .n + 3) (value .len) } ⌝ }
 {
@@ -227,7 +212,7 @@ fn add_variable(s: Variables, name: Stored, value: Stored) -> Variables
 }
 
 // Domain i anew.
-fn set_domain(s: Domains, i: usize, x: Domain) -> Domains
+pub fn set_domain(s: Domains, i: usize, x: Domain) -> Domains
     requires { ⌜ i < 32 ⌝ }
     ensures { λ r. ⌜ r ≡ record { n = s .n; all = set (s .all) i x } ⌝ }
 {
@@ -237,7 +222,7 @@ fn set_domain(s: Domains, i: usize, x: Domain) -> Domains
 }
 
 // Isolation i anew.
-fn set_isolation(s: Isolations, i: usize, x: Isolation) -> Isolations
+pub fn set_isolation(s: Isolations, i: usize, x: Isolation) -> Isolations
     requires { ⌜ i < 32 ⌝ }
     ensures { λ r. ⌜ r ≡ record { n = s .n; all = set (s .all) i x } ⌝ }
 {
@@ -247,7 +232,7 @@ fn set_isolation(s: Isolations, i: usize, x: Isolation) -> Isolations
 }
 
 // Another design top.
-fn with_top(s: Head, top: Maybe) -> Head
+pub fn with_top(s: Head, top: Maybe) -> Head
     ensures { λ r. ⌜ r ≡ record { scope = s .scope; top = top } ⌝ }
 {
     let scope = s.scope;
@@ -255,35 +240,4 @@ fn with_top(s: Head, top: Maybe) -> Head
         scope: scope,
         top: top,
     }
-}
-
-// The state with the record of a deed.
-pub fn done(s: State, d: Deed) -> State
-    requires { ⌜ Fits s d ⌝ }
-    ensures { λ r. ⌜ r ≡ recordBy s d ⌝ }
-{
-    let mut u = s;
-    match d {
-        Deed::Variable(a, b) => u.variables = add_variable(u.variables, a, b),
-        Deed::Top(t) => u.head = with_top(u.head, t),
-        Deed::Domain(x) => u.domains = add_domain(u.domains, x),
-        Deed::Supplied(i, x) => u.domains = set_domain(u.domains, i, x),
-        Deed::Net(x) => u.nets = add_net(u.nets, x),
-        Deed::Port(x) => u.ports = add_port(u.ports, x),
-        Deed::Isolation(x) => u.isolations = add_isolation(u.isolations, x),
-        Deed::Controlled(i, x) => u.isolations = set_isolation(u.isolations, i, x),
-        Deed::Retention(x) => u.retentions = add_retention(u.retentions, x),
-        Deed::Shifter(x) => u.shifters = add_shifter(u.shifters, x),
-        Deed::Table(x) => u.tables = add_table(u.tables, x),
-        Deed::Switch(x, e) => {
-            u.switches = add_switch(u.switches, x);
-            u.fill.words = e;
-        }
-        Deed::PortState(x, e) => {
-            u.portstates = add_port_state(u.portstates, x);
-            u.fill.words = e;
-        }
-        _ => {}
-    }
-    u
 }

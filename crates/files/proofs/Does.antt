@@ -5,7 +5,7 @@ use mathlib.Core.Path.{_≡_, refl, sym, ap, _∙_}
 use mathlib.Core.Bool.{Bool, true, false, cond}
 use mathlib.Core.List.{List}
 use lib.Dec.{eqb}
-use lib.ListN.{length, take}
+use lib.ListN.{length, take, drop}
 use lib.Seq.{length-take-le}
 use borrow.Author.Tests.{le-leb, lt-leb}
 use Rattle.text.specs.Ascii.{Bytes}
@@ -14,6 +14,7 @@ use Rattle.out.specs.Emit.{_▸_, emit}
 use Rattle.spans.specs.Span.{bytes, pairAt}
 use Rattle.spans.specs.declared.span.Span.{Span}
 use Rattle.tcl.specs.Arguments.{nameOf}
+use Rattle.tcl.specs.Commands.{commands}
 use Rattle.args.specs.View.{wordsFrom}
 use Rattle.model.specs.Names.{commandNamed}
 use Rattle.model.specs.Numbers.{namedBy}
@@ -45,8 +46,9 @@ use Rattle.plain.specs.Counted.{countedIn, out-within, out-past}
 use Rattle.plain.specs.Puts.{saying, log-set, puts-ran}
 use Rattle.plain.specs.Stores.{outOf}
 use Rattle.reader.specs.Command.{command-over, command-plain, counted-held, counted-worded, counted-few, counted-named, words-inside, words-small}
+use Rattle.reader.specs.Turn.{Going}
 use Rattle.reader.specs.Load.{load-before, load-refused, load-deep, load-opening, load-failed, load-done}
-use Rattle.deeds.specs.Deeds.{refusedBy, rowsBy, warningsBy, leavesBy, recordBy, countedBy, refused-is, taken-tag, taken-is, left-is, fits-counted}
+use Rattle.deeds.specs.Deeds.{refusedBy, rowsBy, warningsBy, recordBy, countedBy, refused-is, taken-tag, taken-is, fits-counted}
 use Rattle.files.specs.Loads.{Loads}
 use Rattle.files.proofs.Moved.{scope-ran}
 
@@ -217,14 +219,17 @@ module _ (files area nums words : List ℕ) (n c : ℕ) (s : State) where
       done-as : (u : State) → recordBy (countedBy s d) d ≡ u → outOf (doneBy s d) ≡ record { tag = 0; state = u }
       done-as u e = λ i. record { tag = cond (eqb (taken-tag s d h i) 0) 0 10; state = (taken-is s d h ∙ e) i }
 
-      pub deed-left : leavesBy d ≡ true → Does area nums′ log log (record { tag = 0; state = with-counts s a b })
-      deed-left l = ran-as _ (done-as (with-counts s a b) (left-is (countedBy s d) d l ∙ sym counts-are))
-
       pub deed-fits : Fits (with-counts s a b) d
       deed-fits = rw counts-are (fits-counted s d (g .fits))
 
       pub deed-done : (u : State) → u ≡ recordBy (with-counts s a b) d → Does area nums′ log log (record { tag = 0; state = u })
       deed-done u e = ran-as _ (done-as u (ap (λ (x : State). recordBy x d) (sym counts-are) ∙ sym e))
+
+-- what a deed leaves: its place is in its table, there are fewer commands left, and the state with its record goes on
+pub record Did (job files area₀ nums₀ log₁ : List ℕ) (count k left : ℕ) (s : State) (base len at : ℕ) (area nums log words : List ℕ) (next : ℕ) (v : State) (d : Deed) : Type 0 where
+  pub fits : Fits v d
+  pub less : length (commands (drop next (take len (drop base files)))) < length (commands (drop at (take len (drop base files))))
+  pub again : (u : State) → u ≡ recordBy v d → Going job files area₀ nums₀ log₁ count k left s base len area nums log words next u
 
 -- ---- the number of a command
 pub named-at : (mem : Bytes) (x y : Span) (c d : ℕ) → x ≡ y → commandNamed (bytes mem x) ≡ namedBy c → c ≡ d → commandNamed (bytes mem y) ≡ namedBy d

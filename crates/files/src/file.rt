@@ -6,15 +6,27 @@ ghost use Rattle.files.specs.Loads.{Loads};
 use cmdnames::number;
 use commands::next::Next;
 use commands::next::next_command;
-use deeds::done;
-use deeds::no_record;
+use deeds::add_domain;
+use deeds::add_isolation;
+use deeds::add_net;
+use deeds::add_port;
+use deeds::add_port_state;
+use deeds::add_retention;
+use deeds::add_shifter;
+use deeds::add_switch;
+use deeds::add_table;
+use deeds::add_variable;
 use deeds::refused;
 use deeds::rows_with;
+use deeds::set_domain;
+use deeds::set_isolation;
 use deeds::warnings_with;
+use deeds::with_top;
 use held::begun;
 use lists::Count;
 use loads::back;
 use loads::before_load;
+use made::Deed;
 use made::brief_of;
 use plain::act;
 use plain::counted;
@@ -191,10 +203,28 @@ pub fn read_file(
                 let warnings = warnings_with(d, u.fill.warnings);
                 u.fill.rows = rows;
                 u.fill.warnings = warnings;
-                if no_record(d) {
-                    continue;
+                match d {
+                    Deed::Variable(a, b) => u.variables = add_variable(u.variables, a, b),
+                    Deed::Top(t) => u.head = with_top(u.head, t),
+                    Deed::Domain(x) => u.domains = add_domain(u.domains, x),
+                    Deed::Supplied(i, x) => u.domains = set_domain(u.domains, i, x),
+                    Deed::Net(x) => u.nets = add_net(u.nets, x),
+                    Deed::Port(x) => u.ports = add_port(u.ports, x),
+                    Deed::Isolation(x) => u.isolations = add_isolation(u.isolations, x),
+                    Deed::Controlled(i, x) => u.isolations = set_isolation(u.isolations, i, x),
+                    Deed::Retention(x) => u.retentions = add_retention(u.retentions, x),
+                    Deed::Shifter(x) => u.shifters = add_shifter(u.shifters, x),
+                    Deed::Table(x) => u.tables = add_table(u.tables, x),
+                    Deed::Switch(x, e) => {
+                        u.switches = add_switch(u.switches, x);
+                        u.fill.words = e;
+                    }
+                    Deed::PortState(x, e) => {
+                        u.portstates = add_port_state(u.portstates, x);
+                        u.fill.words = e;
+                    }
+                    _ => {}
                 }
-                u = done(u, d);
             }
         }
     }

@@ -3,8 +3,12 @@
 use lib.ListN.{length, take, drop}
 use Rattle.tcl.specs.Commands.{commands}
 use Rattle.reader.specs.Turn.{Going, going-start, next-asks, turn-none, turn-full, begun-asks, turn-less, turn-doing, turn-failed, turn-again}
-use Rattle.files.proofs.Does.{named-at, end-in, front-long, lists, past, asks, does, placed-ran, said, scoped, acting, acts-of, deed-refused, deed-left, deed-fits, deed-done, told, load-over, load-asks, not-opened, deep, opening, failed, behind, placed-opening, placed-reads, head-back}
+use Rattle.files.proofs.Does.{named-at, end-in, front-long, lists, past, asks, does, placed-ran, said, scoped, acting, acts-of, deed-refused, deed-fits, deed-done, told, Did, with-counts, load-over, load-asks, not-opened, deep, opening, failed, behind, placed-opening, placed-reads, head-back}
 use Rattle.files.proofs.Moved.{scope-asks}
+use Rattle.store.specs.declared.state.State.{State}
+use Rattle.made.specs.declared.Deed.{Deed}
+use Rattle.held.specs.Laws.{begun-at, with-entries}
+use Rattle.deeds.specs.Dones.{variable-fits, variable-done, top-done, domain-fits, domain-done, supplied-fits, supplied-done, net-fits, net-done, port-fits, port-done, isolation-fits, isolation-done, controlled-fits, controlled-done, retention-fits, retention-done, shifter-fits, shifter-done, table-fits, table-done, switch-fits, switch-done, portstate-fits, portstate-done, done-other}
 use native.Mathlib.Omega.{arith}
 use Prim.Native.Nat.{_*_, ℕ, _<_, _+_, _-_}
 use mathlib.Core.Path.{refl, sym, _∙_}
@@ -20,8 +24,19 @@ use Rattle.files.proofs.file.read_file.Kinds as read-file-kinds
 use Rattle.files.proofs.file.+load+read_file.Lts-read_file as read-file-lts
 use Rattle.cmdnames.proofs.number.Reads as number-reads
 use Rattle.commands.proofs.next.next_command.Reads as next-command-reads
-use Rattle.deeds.proofs.done.Reads as done-reads
-use Rattle.deeds.proofs.no_record.Reads as no-record-reads
+use Rattle.deeds.proofs.add_domain.Reads as add-domain-reads
+use Rattle.deeds.proofs.add_isolation.Reads as add-isolation-reads
+use Rattle.deeds.proofs.add_net.Reads as add-net-reads
+use Rattle.deeds.proofs.add_port.Reads as add-port-reads
+use Rattle.deeds.proofs.add_port_state.Reads as add-port-state-reads
+use Rattle.deeds.proofs.add_retention.Reads as add-retention-reads
+use Rattle.deeds.proofs.add_shifter.Reads as add-shifter-reads
+use Rattle.deeds.proofs.add_switch.Reads as add-switch-reads
+use Rattle.deeds.proofs.add_table.Reads as add-table-reads
+use Rattle.deeds.proofs.add_variable.Reads as add-variable-reads
+use Rattle.deeds.proofs.set_domain.Reads as set-domain-reads
+use Rattle.deeds.proofs.set_isolation.Reads as set-isolation-reads
+use Rattle.deeds.proofs.with_top.Reads as with-top-reads
 use Rattle.deeds.proofs.refused.Reads as refused-reads
 use Rattle.deeds.proofs.rows_with.Reads as rows-with-reads
 use Rattle.deeds.proofs.warnings_with.Reads as warnings-with-reads
@@ -64,7 +79,7 @@ load-cs t = (before-load-reads.Asked, before-load-reads.Learnt, in-scope-reads.A
 
 -- what the callees of `read-file` ask and give; a member of the cycle below the measure t
 abbrev read-file-cs : ℕ → read-file-lts.Claims
-read-file-cs t = (place-reads.Asked, place-reads.Learnt, next-command-reads.Asked, next-command-reads.Learnt, begun-reads.Asked, begun-reads.Learnt, pair-reads.Asked, pair-reads.Learnt, number-reads.Asked, number-reads.Learnt, load-below t, load.Post, counted-reads.Asked, counted-reads.Learnt, puts-reads.Asked, puts-reads.Learnt, set-scope-reads.Asked, set-scope-reads.Learnt, in-scope-reads.Asked, in-scope-reads.Learnt, brief-of-reads.Asked, brief-of-reads.Learnt, act-reads.Asked, act-reads.Learnt, refused-reads.Asked, refused-reads.Learnt, rows-with-reads.Asked, rows-with-reads.Learnt, warnings-with-reads.Asked, warnings-with-reads.Learnt, no-record-reads.Asked, no-record-reads.Learnt, done-reads.Asked, done-reads.Learnt)
+read-file-cs t = (place-reads.Asked, place-reads.Learnt, next-command-reads.Asked, next-command-reads.Learnt, begun-reads.Asked, begun-reads.Learnt, pair-reads.Asked, pair-reads.Learnt, number-reads.Asked, number-reads.Learnt, load-below t, load.Post, counted-reads.Asked, counted-reads.Learnt, puts-reads.Asked, puts-reads.Learnt, set-scope-reads.Asked, set-scope-reads.Learnt, in-scope-reads.Asked, in-scope-reads.Learnt, brief-of-reads.Asked, brief-of-reads.Learnt, act-reads.Asked, act-reads.Learnt, refused-reads.Asked, refused-reads.Learnt, rows-with-reads.Asked, rows-with-reads.Learnt, warnings-with-reads.Asked, warnings-with-reads.Learnt, add-variable-reads.Asked, add-variable-reads.Learnt, with-top-reads.Asked, with-top-reads.Learnt, add-domain-reads.Asked, add-domain-reads.Learnt, set-domain-reads.Asked, set-domain-reads.Learnt, add-net-reads.Asked, add-net-reads.Learnt, add-port-reads.Asked, add-port-reads.Learnt, add-isolation-reads.Asked, add-isolation-reads.Learnt, set-isolation-reads.Asked, set-isolation-reads.Learnt, add-retention-reads.Asked, add-retention-reads.Learnt, add-shifter-reads.Asked, add-shifter-reads.Learnt, add-table-reads.Asked, add-table-reads.Learnt, add-switch-reads.Asked, add-switch-reads.Learnt, add-port-state-reads.Asked, add-port-state-reads.Learnt)
 
 abbrev read-file-Inv-loop : read-file-lts.InvT-loop
 read-file-Inv-loop job files area₀ nums₀ log₀ count k left base len vars nv words₀ at₀ u₀ area nums log words at u =
@@ -697,21 +712,58 @@ read-file-warnings-with-requires t c κs =
     let at-refused = at-if6 .before in
     (told _ _ _ (at-refused .refused .ensures) (at-if6 .if6 .left))
 
-read-file-loop-less-4 : (t : ℕ) → read-file-lts.Need-loop-less-4 (read-file-cs t) (read-file-at t) read-file.Post read-file-Inv-loop read-file-μ-loop
-read-file-loop-less-4 t c =
-    let at-n = c .before .before .before .before .before .before .before .before .before .before .before .before .before .before .before .before .before .before .before .before .before .before .before .before .before .before .before .before .before .before .before .before .before .before .before in
+-- the deed, and the state when its rows and warnings are counted
+abbrev read-file-deed : (t : ℕ) → read-file-lts.After-u10 (read-file-cs t) (read-file-at t) read-file.Post read-file-Inv-loop read-file-μ-loop → Deed
+read-file-deed t c = c .before .before .before .before .before .before .before .before .act .result
+
+abbrev read-file-state : (t : ℕ) → read-file-lts.After-u10 (read-file-cs t) (read-file-at t) read-file.Post read-file-Inv-loop read-file-μ-loop → State
+read-file-state t c =
+    let at-warnings-with = c .before .before in
+    let at-rows-with = at-warnings-with .before in
+    let at-if6 = at-rows-with .before in
+    let at-refused = at-if6 .before in
+    let at-act = at-refused .before .before .before in
+    let at-brief-of = at-act .before .before .before .before in
+    let at-if4 = at-brief-of .before in
+    let at-if3 = at-if4 .before in
+    let at-t = at-if3 .before .before .before in
+    let at-counted = at-t .before .before in
+    let at-if1 = at-counted .before .before .before in
+    let at-number = at-if1 .before in
+    let at-pair = at-number .before in
+    let at-n = at-pair .before .before .before .before .before .before .before .before .before in
+    let at-next-command = at-n .before .before .before .before .before in
+    let at-loop = at-next-command .before .before .before .before .before in
+    with-counts (with-entries (begun-at (at-loop .loop .u) (at-n .n .given .0 .1 .1 .0)) (at-t .t .given .0 .0)) (at-rows-with .rows-with .result) (at-warnings-with .warnings-with .result)
+
+abbrev read-file-Did : (t : ℕ) → read-file-lts.After-u10 (read-file-cs t) (read-file-at t) read-file.Post read-file-Inv-loop read-file-μ-loop → Type 0
+read-file-Did t c =
+    let at-warnings-with = c .before .before in
+    let at-rows-with = at-warnings-with .before in
+    let at-if6 = at-rows-with .before in
+    let at-refused = at-if6 .before in
+    let at-act = at-refused .before .before .before in
+    let at-brief-of = at-act .before .before .before .before in
+    let at-if4 = at-brief-of .before in
+    let at-if3 = at-if4 .before in
+    let at-t = at-if3 .before .before .before in
+    let at-counted = at-t .before .before in
+    let at-if1 = at-counted .before .before .before in
+    let at-number = at-if1 .before in
+    let at-pair = at-number .before in
+    let at-n = at-pair .before .before .before .before .before .before .before .before .before in
     let at-next-command = at-n .before .before .before .before .before in
     let at-loop = at-next-command .before .before .before .before .before in
     let at-place2 = at-loop .before .before .before in
     let at-place = at-place2 .before .before in
     let start = at-place .before .before .before .before .before .before .before in
     let a = start .args in let h = start .pre .1 in let l = at-loop .loop in let b = at-place .place in let z = at-place2 .place2 in let d = at-next-command .next-command in
-    turn-less (a .job .now) (a .files .now) (a .area .now) (a .nums .now) (a .log .now) (a .count) (a .k) (a .left) (a .s) (b .result) (z .result) h (b .ensures) (z .ensures) (l .area) (l .nums) (l .log) (l .words) (l .at) (l .u) (l .inv) _ _ (d .result) (d .ensures) _ _ _ (at-n .n .given .1)
+    Did (a .job .now) (a .files .now) (a .area .now) (a .nums .now) (a .log .now) (a .count) (a .k) (a .left) (a .s) (b .result) (z .result) (l .at) (d .last .1 .1 .1 .1 .1 .1 .0) (at-act .act .last .1 .1 .0) (l .log) (d .last .1 .1 .1 .1 .1 .1 .1 .1 .1 .0) (at-n .n .given .0 .1 .0) (read-file-state t c) (read-file-deed t c)
 
-read-file-loop-again-4 : (t : ℕ) → read-file-lts.Need-loop-again-4 (read-file-cs t) (read-file-at t) read-file.Post read-file-Inv-loop read-file-μ-loop
-read-file-loop-again-4 t c =
-    let at-no-record = c .before in
-    let at-warnings-with = at-no-record .before .before .before in
+-- a deed that is not refused: its place is in its table, and with its record the loop goes on
+read-file-did : (t : ℕ) (c : read-file-lts.After-u10 (read-file-cs t) (read-file-at t) read-file.Post read-file-Inv-loop read-file-μ-loop) → read-file-Did t c
+read-file-did t c =
+    let at-warnings-with = c .before .before in
     let at-rows-with = at-warnings-with .before in
     let at-if6 = at-rows-with .before in
     let at-refused = at-if6 .before in
@@ -732,68 +784,11 @@ read-file-loop-again-4 t c =
     let start = at-place .before .before .before .before .before .before .before in
     let a = start .args in let h = start .pre .1 in let l = at-loop .loop in let b = at-place .place in let z = at-place2 .place2 in let d = at-next-command .next-command in
     let p = at-pair .pair in let m = at-number .number in let x = at-counted .counted in
-    turn-again (a .job .now) (a .files .now) (a .area .now) (a .nums .now) (a .log .now) (a .count) (a .k) (a .left) (a .s) (b .result) (z .result) h (b .ensures) (z .ensures) (l .area) (l .nums) (l .log) (l .words) (l .at) (l .u) (l .inv) _ _ (d .result) (d .ensures) _ _ _ (at-n .n .given .1) (d .kept .1 .1 .1 .1 .1 .1 .0) _ refl _ _ _ _ (does (a .job .now) (a .files .now) _ (l .nums) _ (a .count) _ (a .k) (a .left) _ (turn-doing (a .job .now) (a .files .now) (a .area .now) (a .nums .now) (a .log .now) (a .count) (a .k) (a .left) (a .s) (b .result) (z .result) h (b .ensures) (z .ensures) (l .area) (l .nums) (l .log) (l .words) (l .at) (l .u) (l .inv) _ _ (d .result) (d .ensures) _ _ _ (at-n .n .given .1) (d .kept .1 .1 .1 .1 .1 .1 .0) _ refl) (m .result) (named-at _ _ _ (m .result) (m .result) (p .ensures) (m .ensures .is) refl) (x .result) (x .ensures) _ (at-t .t .given .1) (at-if1 .if1 .left) _ _ _ _ _ (deed-left _ _ _ _ _ _ _ _ (at-act .act .result) (acts-of _ _ _ _ _ _ _ (asks (a .job .now) (a .files .now) _ (l .nums) _ (a .count) _ (a .k) (a .left) _ (turn-doing (a .job .now) (a .files .now) (a .area .now) (a .nums .now) (a .log .now) (a .count) (a .k) (a .left) (a .s) (b .result) (z .result) h (b .ensures) (z .ensures) (l .area) (l .nums) (l .log) (l .words) (l .at) (l .u) (l .inv) _ _ (d .result) (d .ensures) _ _ _ (at-n .n .given .1) (d .kept .1 .1 .1 .1 .1 .1 .0) _ refl) (m .result) (named-at _ _ _ (m .result) (m .result) (p .ensures) (m .ensures .is) refl) (x .result) (x .ensures) _ (at-t .t .given .1) (at-if1 .if1 .left) (m .ensures .known)) (at-brief-of .brief-of .result) (at-brief-of .brief-of .ensures) (at-if3 .if3 .left) (at-if4 .if4 .left) _ _ (at-act .act .ensures)) (l .log) (told _ _ _ (at-refused .refused .ensures) (at-if6 .if6 .left)) (at-rows-with .rows-with .result) (at-warnings-with .warnings-with .result) (at-rows-with .rows-with .ensures) (at-warnings-with .warnings-with .ensures) (told _ _ _ (at-no-record .no-record .ensures) (c .if7 .taken)))) refl (d .kept .1 .1 .1 .1 .1 .1 .1 .1 .1 .0) refl (at-act .act .kept .1 .1 .0) refl
-
-read-file-done-requires : (t : ℕ) → read-file-lts.Need-done-requires (read-file-cs t) (read-file-at t) read-file.Post read-file-Inv-loop read-file-μ-loop
-read-file-done-requires t c κs =
-    let at-warnings-with = c .before .before .before .before in
-    let at-rows-with = at-warnings-with .before in
-    let at-if6 = at-rows-with .before in
-    let at-refused = at-if6 .before in
-    let at-act = at-refused .before .before .before in
-    let at-brief-of = at-act .before .before .before .before in
-    let at-if4 = at-brief-of .before in
-    let at-if3 = at-if4 .before in
-    let at-t = at-if3 .before .before .before in
-    let at-counted = at-t .before .before in
-    let at-if1 = at-counted .before .before .before in
-    let at-number = at-if1 .before in
-    let at-pair = at-number .before in
-    let at-n = at-pair .before .before .before .before .before .before .before .before .before in
-    let at-next-command = at-n .before .before .before .before .before in
-    let at-loop = at-next-command .before .before .before .before .before in
-    let at-place2 = at-loop .before .before .before in
-    let at-place = at-place2 .before .before in
-    let start = at-place .before .before .before .before .before .before .before in
-    let a = start .args in let h = start .pre .1 in let l = at-loop .loop in let b = at-place .place in let z = at-place2 .place2 in let d = at-next-command .next-command in
-    let p = at-pair .pair in let m = at-number .number in let x = at-counted .counted in
-    deed-fits _ _ _ _ _ _ _ _ (at-act .act .result) (acts-of _ _ _ _ _ _ _ (asks (a .job .now) (a .files .now) _ (l .nums) _ (a .count) _ (a .k) (a .left) _ (turn-doing (a .job .now) (a .files .now) (a .area .now) (a .nums .now) (a .log .now) (a .count) (a .k) (a .left) (a .s) (b .result) (z .result) h (b .ensures) (z .ensures) (l .area) (l .nums) (l .log) (l .words) (l .at) (l .u) (l .inv) _ _ (d .result) (d .ensures) _ _ _ (at-n .n .given .1) (d .kept .1 .1 .1 .1 .1 .1 .0) _ refl) (m .result) (named-at _ _ _ (m .result) (m .result) (p .ensures) (m .ensures .is) refl) (x .result) (x .ensures) _ (at-t .t .given .1) (at-if1 .if1 .left) (m .ensures .known)) (at-brief-of .brief-of .result) (at-brief-of .brief-of .ensures) (at-if3 .if3 .left) (at-if4 .if4 .left) _ _ (at-act .act .ensures)) (l .log) (told _ _ _ (at-refused .refused .ensures) (at-if6 .if6 .left)) (at-rows-with .rows-with .result) (at-warnings-with .warnings-with .result) (at-rows-with .rows-with .ensures) (at-warnings-with .warnings-with .ensures)
-
-read-file-loop-less-5 : (t : ℕ) → read-file-lts.Need-loop-less-5 (read-file-cs t) (read-file-at t) read-file.Post read-file-Inv-loop read-file-μ-loop
-read-file-loop-less-5 t c =
-    let at-n = c .before .before .before .before .before .before .before .before .before .before .before .before .before .before .before .before .before .before .before .before .before .before .before .before .before .before .before .before .before .before .before .before .before .before .before .before in
-    let at-next-command = at-n .before .before .before .before .before in
-    let at-loop = at-next-command .before .before .before .before .before in
-    let at-place2 = at-loop .before .before .before in
-    let at-place = at-place2 .before .before in
-    let start = at-place .before .before .before .before .before .before .before in
-    let a = start .args in let h = start .pre .1 in let l = at-loop .loop in let b = at-place .place in let z = at-place2 .place2 in let d = at-next-command .next-command in
-    turn-less (a .job .now) (a .files .now) (a .area .now) (a .nums .now) (a .log .now) (a .count) (a .k) (a .left) (a .s) (b .result) (z .result) h (b .ensures) (z .ensures) (l .area) (l .nums) (l .log) (l .words) (l .at) (l .u) (l .inv) _ _ (d .result) (d .ensures) _ _ _ (at-n .n .given .1)
-
-read-file-loop-again-5 : (t : ℕ) → read-file-lts.Need-loop-again-5 (read-file-cs t) (read-file-at t) read-file.Post read-file-Inv-loop read-file-μ-loop
-read-file-loop-again-5 t c =
-    let at-warnings-with = c .before .before .before .before .before in
-    let at-rows-with = at-warnings-with .before in
-    let at-if6 = at-rows-with .before in
-    let at-refused = at-if6 .before in
-    let at-act = at-refused .before .before .before in
-    let at-brief-of = at-act .before .before .before .before in
-    let at-if4 = at-brief-of .before in
-    let at-if3 = at-if4 .before in
-    let at-t = at-if3 .before .before .before in
-    let at-counted = at-t .before .before in
-    let at-if1 = at-counted .before .before .before in
-    let at-number = at-if1 .before in
-    let at-pair = at-number .before in
-    let at-n = at-pair .before .before .before .before .before .before .before .before .before in
-    let at-next-command = at-n .before .before .before .before .before in
-    let at-loop = at-next-command .before .before .before .before .before in
-    let at-place2 = at-loop .before .before .before in
-    let at-place = at-place2 .before .before in
-    let start = at-place .before .before .before .before .before .before .before in
-    let a = start .args in let h = start .pre .1 in let l = at-loop .loop in let b = at-place .place in let z = at-place2 .place2 in let d = at-next-command .next-command in
-    let p = at-pair .pair in let m = at-number .number in let x = at-counted .counted in
-    turn-again (a .job .now) (a .files .now) (a .area .now) (a .nums .now) (a .log .now) (a .count) (a .k) (a .left) (a .s) (b .result) (z .result) h (b .ensures) (z .ensures) (l .area) (l .nums) (l .log) (l .words) (l .at) (l .u) (l .inv) _ _ (d .result) (d .ensures) _ _ _ (at-n .n .given .1) (d .kept .1 .1 .1 .1 .1 .1 .0) _ refl _ _ _ _ (does (a .job .now) (a .files .now) _ (l .nums) _ (a .count) _ (a .k) (a .left) _ (turn-doing (a .job .now) (a .files .now) (a .area .now) (a .nums .now) (a .log .now) (a .count) (a .k) (a .left) (a .s) (b .result) (z .result) h (b .ensures) (z .ensures) (l .area) (l .nums) (l .log) (l .words) (l .at) (l .u) (l .inv) _ _ (d .result) (d .ensures) _ _ _ (at-n .n .given .1) (d .kept .1 .1 .1 .1 .1 .1 .0) _ refl) (m .result) (named-at _ _ _ (m .result) (m .result) (p .ensures) (m .ensures .is) refl) (x .result) (x .ensures) _ (at-t .t .given .1) (at-if1 .if1 .left) _ _ _ _ _ (deed-done _ _ _ _ _ _ _ _ (at-act .act .result) (acts-of _ _ _ _ _ _ _ (asks (a .job .now) (a .files .now) _ (l .nums) _ (a .count) _ (a .k) (a .left) _ (turn-doing (a .job .now) (a .files .now) (a .area .now) (a .nums .now) (a .log .now) (a .count) (a .k) (a .left) (a .s) (b .result) (z .result) h (b .ensures) (z .ensures) (l .area) (l .nums) (l .log) (l .words) (l .at) (l .u) (l .inv) _ _ (d .result) (d .ensures) _ _ _ (at-n .n .given .1) (d .kept .1 .1 .1 .1 .1 .1 .0) _ refl) (m .result) (named-at _ _ _ (m .result) (m .result) (p .ensures) (m .ensures .is) refl) (x .result) (x .ensures) _ (at-t .t .given .1) (at-if1 .if1 .left) (m .ensures .known)) (at-brief-of .brief-of .result) (at-brief-of .brief-of .ensures) (at-if3 .if3 .left) (at-if4 .if4 .left) _ _ (at-act .act .ensures)) (l .log) (told _ _ _ (at-refused .refused .ensures) (at-if6 .if6 .left)) (at-rows-with .rows-with .result) (at-warnings-with .warnings-with .result) (at-rows-with .rows-with .ensures) (at-warnings-with .warnings-with .ensures) _ (c .done .ensures))) refl (d .kept .1 .1 .1 .1 .1 .1 .1 .1 .1 .0) refl (at-act .act .kept .1 .1 .0) refl
+    record {
+      fits = deed-fits _ _ _ _ _ _ _ _ (at-act .act .result) (acts-of _ _ _ _ _ _ _ (asks (a .job .now) (a .files .now) _ (l .nums) _ (a .count) _ (a .k) (a .left) _ (turn-doing (a .job .now) (a .files .now) (a .area .now) (a .nums .now) (a .log .now) (a .count) (a .k) (a .left) (a .s) (b .result) (z .result) h (b .ensures) (z .ensures) (l .area) (l .nums) (l .log) (l .words) (l .at) (l .u) (l .inv) _ _ (d .result) (d .ensures) _ _ _ (at-n .n .given .1) (d .kept .1 .1 .1 .1 .1 .1 .0) _ refl) (m .result) (named-at _ _ _ (m .result) (m .result) (p .ensures) (m .ensures .is) refl) (x .result) (x .ensures) _ (at-t .t .given .1) (at-if1 .if1 .left) (m .ensures .known)) (at-brief-of .brief-of .result) (at-brief-of .brief-of .ensures) (at-if3 .if3 .left) (at-if4 .if4 .left) _ _ (at-act .act .ensures)) (l .log) (told _ _ _ (at-refused .refused .ensures) (at-if6 .if6 .left)) (at-rows-with .rows-with .result) (at-warnings-with .warnings-with .result) (at-rows-with .rows-with .ensures) (at-warnings-with .warnings-with .ensures);
+      less = turn-less (a .job .now) (a .files .now) (a .area .now) (a .nums .now) (a .log .now) (a .count) (a .k) (a .left) (a .s) (b .result) (z .result) h (b .ensures) (z .ensures) (l .area) (l .nums) (l .log) (l .words) (l .at) (l .u) (l .inv) _ _ (d .result) (d .ensures) _ _ _ (at-n .n .given .1);
+      again = λ v e. turn-again (a .job .now) (a .files .now) (a .area .now) (a .nums .now) (a .log .now) (a .count) (a .k) (a .left) (a .s) (b .result) (z .result) h (b .ensures) (z .ensures) (l .area) (l .nums) (l .log) (l .words) (l .at) (l .u) (l .inv) _ _ (d .result) (d .ensures) _ _ _ (at-n .n .given .1) (d .kept .1 .1 .1 .1 .1 .1 .0) _ refl _ _ _ _ (does (a .job .now) (a .files .now) _ (l .nums) _ (a .count) _ (a .k) (a .left) _ (turn-doing (a .job .now) (a .files .now) (a .area .now) (a .nums .now) (a .log .now) (a .count) (a .k) (a .left) (a .s) (b .result) (z .result) h (b .ensures) (z .ensures) (l .area) (l .nums) (l .log) (l .words) (l .at) (l .u) (l .inv) _ _ (d .result) (d .ensures) _ _ _ (at-n .n .given .1) (d .kept .1 .1 .1 .1 .1 .1 .0) _ refl) (m .result) (named-at _ _ _ (m .result) (m .result) (p .ensures) (m .ensures .is) refl) (x .result) (x .ensures) _ (at-t .t .given .1) (at-if1 .if1 .left) _ _ _ _ _ (deed-done _ _ _ _ _ _ _ _ (at-act .act .result) (acts-of _ _ _ _ _ _ _ (asks (a .job .now) (a .files .now) _ (l .nums) _ (a .count) _ (a .k) (a .left) _ (turn-doing (a .job .now) (a .files .now) (a .area .now) (a .nums .now) (a .log .now) (a .count) (a .k) (a .left) (a .s) (b .result) (z .result) h (b .ensures) (z .ensures) (l .area) (l .nums) (l .log) (l .words) (l .at) (l .u) (l .inv) _ _ (d .result) (d .ensures) _ _ _ (at-n .n .given .1) (d .kept .1 .1 .1 .1 .1 .1 .0) _ refl) (m .result) (named-at _ _ _ (m .result) (m .result) (p .ensures) (m .ensures .is) refl) (x .result) (x .ensures) _ (at-t .t .given .1) (at-if1 .if1 .left) (m .ensures .known)) (at-brief-of .brief-of .result) (at-brief-of .brief-of .ensures) (at-if3 .if3 .left) (at-if4 .if4 .left) _ _ (at-act .act .ensures)) (l .log) (told _ _ _ (at-refused .refused .ensures) (at-if6 .if6 .left)) (at-rows-with .rows-with .result) (at-warnings-with .warnings-with .result) (at-rows-with .rows-with .ensures) (at-warnings-with .warnings-with .ensures) v e)) refl (d .kept .1 .1 .1 .1 .1 .1 .1 .1 .1 .0) refl (at-act .act .kept .1 .1 .0) refl;
+    }
 
 pub +load+read-file-spec : {M : Type 1} → statement M
 +load+read-file-spec = close μ-load μ-read-file (λ t. load-lts.spec (load-cs t)
@@ -898,9 +893,57 @@ pub +load+read-file-spec : {M : Type 1} → statement M
     (read-file-returns-6 t)
     (read-file-rows-with-requires t)
     (read-file-warnings-with-requires t)
-    (λ c κs. search needs)  -- read-file-no-record-requires
-    (read-file-loop-less-4 t)
-    (read-file-loop-again-4 t)
-    (read-file-done-requires t)
-    (read-file-loop-less-5 t)
-    (read-file-loop-again-5 t)
+    (λ c. search needs)  -- read-file-enum-known-d
+    (λ c κs. let e = c .before .before .before in variable-fits (read-file-state t e) (read-file-deed t e) _ _ (c .before .d .given .1) (read-file-did t e .fits))  -- read-file-add-variable-requires
+    (λ c. read-file-did t (c .before .before .before .before) .less)  -- read-file-loop-less-4
+    (λ c. let e = c .before .before .before .before in read-file-did t e .again _ (variable-done (read-file-state t e) (read-file-deed t e) _ _ _ (c .before .before .d .given .1) (c .add-variable .ensures)))  -- read-file-loop-again-4
+    (λ c. search needs)  -- read-file-enum-known-d-2
+    (λ c κs. search needs)  -- read-file-with-top-requires
+    (λ c. read-file-did t (c .before .before .before .before) .less)  -- read-file-loop-less-5
+    (λ c. let e = c .before .before .before .before in read-file-did t e .again _ (top-done (read-file-state t e) (read-file-deed t e) _ _ (c .before .before .d2 .given .1) (c .with-top .ensures)))  -- read-file-loop-again-5
+    (λ c. search needs)  -- read-file-enum-known-d-3
+    (λ c κs. let e = c .before .before .before in domain-fits (read-file-state t e) (read-file-deed t e) _ (c .before .d3 .given .1) (read-file-did t e .fits))  -- read-file-add-domain-requires
+    (λ c. read-file-did t (c .before .before .before .before) .less)  -- read-file-loop-less-6
+    (λ c. let e = c .before .before .before .before in read-file-did t e .again _ (domain-done (read-file-state t e) (read-file-deed t e) _ _ (c .before .before .d3 .given .1) (c .add-domain .ensures)))  -- read-file-loop-again-6
+    (λ c. search needs)  -- read-file-enum-known-d-4
+    (λ c κs. let e = c .before .before .before in supplied-fits (read-file-state t e) (read-file-deed t e) _ _ (c .before .d4 .given .1) (read-file-did t e .fits))  -- read-file-set-domain-requires
+    (λ c. read-file-did t (c .before .before .before .before) .less)  -- read-file-loop-less-7
+    (λ c. let e = c .before .before .before .before in read-file-did t e .again _ (supplied-done (read-file-state t e) (read-file-deed t e) _ _ _ (c .before .before .d4 .given .1) (c .set-domain .ensures)))  -- read-file-loop-again-7
+    (λ c. search needs)  -- read-file-enum-known-d-5
+    (λ c κs. let e = c .before .before .before in net-fits (read-file-state t e) (read-file-deed t e) _ (c .before .d5 .given .1) (read-file-did t e .fits))  -- read-file-add-net-requires
+    (λ c. read-file-did t (c .before .before .before .before) .less)  -- read-file-loop-less-8
+    (λ c. let e = c .before .before .before .before in read-file-did t e .again _ (net-done (read-file-state t e) (read-file-deed t e) _ _ (c .before .before .d5 .given .1) (c .add-net .ensures)))  -- read-file-loop-again-8
+    (λ c. search needs)  -- read-file-enum-known-d-6
+    (λ c κs. let e = c .before .before .before in port-fits (read-file-state t e) (read-file-deed t e) _ (c .before .d6 .given .1) (read-file-did t e .fits))  -- read-file-add-port-requires
+    (λ c. read-file-did t (c .before .before .before .before) .less)  -- read-file-loop-less-9
+    (λ c. let e = c .before .before .before .before in read-file-did t e .again _ (port-done (read-file-state t e) (read-file-deed t e) _ _ (c .before .before .d6 .given .1) (c .add-port .ensures)))  -- read-file-loop-again-9
+    (λ c. search needs)  -- read-file-enum-known-d-7
+    (λ c κs. let e = c .before .before .before in isolation-fits (read-file-state t e) (read-file-deed t e) _ (c .before .d7 .given .1) (read-file-did t e .fits))  -- read-file-add-isolation-requires
+    (λ c. read-file-did t (c .before .before .before .before) .less)  -- read-file-loop-less-10
+    (λ c. let e = c .before .before .before .before in read-file-did t e .again _ (isolation-done (read-file-state t e) (read-file-deed t e) _ _ (c .before .before .d7 .given .1) (c .add-isolation .ensures)))  -- read-file-loop-again-10
+    (λ c. search needs)  -- read-file-enum-known-d-8
+    (λ c κs. let e = c .before .before .before in controlled-fits (read-file-state t e) (read-file-deed t e) _ _ (c .before .d8 .given .1) (read-file-did t e .fits))  -- read-file-set-isolation-requires
+    (λ c. read-file-did t (c .before .before .before .before) .less)  -- read-file-loop-less-11
+    (λ c. let e = c .before .before .before .before in read-file-did t e .again _ (controlled-done (read-file-state t e) (read-file-deed t e) _ _ _ (c .before .before .d8 .given .1) (c .set-isolation .ensures)))  -- read-file-loop-again-11
+    (λ c. search needs)  -- read-file-enum-known-d-9
+    (λ c κs. let e = c .before .before .before in retention-fits (read-file-state t e) (read-file-deed t e) _ (c .before .d9 .given .1) (read-file-did t e .fits))  -- read-file-add-retention-requires
+    (λ c. read-file-did t (c .before .before .before .before) .less)  -- read-file-loop-less-12
+    (λ c. let e = c .before .before .before .before in read-file-did t e .again _ (retention-done (read-file-state t e) (read-file-deed t e) _ _ (c .before .before .d9 .given .1) (c .add-retention .ensures)))  -- read-file-loop-again-12
+    (λ c. search needs)  -- read-file-enum-known-d-10
+    (λ c κs. let e = c .before .before .before in shifter-fits (read-file-state t e) (read-file-deed t e) _ (c .before .d10 .given .1) (read-file-did t e .fits))  -- read-file-add-shifter-requires
+    (λ c. read-file-did t (c .before .before .before .before) .less)  -- read-file-loop-less-13
+    (λ c. let e = c .before .before .before .before in read-file-did t e .again _ (shifter-done (read-file-state t e) (read-file-deed t e) _ _ (c .before .before .d10 .given .1) (c .add-shifter .ensures)))  -- read-file-loop-again-13
+    (λ c. search needs)  -- read-file-enum-known-d-11
+    (λ c κs. let e = c .before .before .before in table-fits (read-file-state t e) (read-file-deed t e) _ (c .before .d11 .given .1) (read-file-did t e .fits))  -- read-file-add-table-requires
+    (λ c. read-file-did t (c .before .before .before .before) .less)  -- read-file-loop-less-14
+    (λ c. let e = c .before .before .before .before in read-file-did t e .again _ (table-done (read-file-state t e) (read-file-deed t e) _ _ (c .before .before .d11 .given .1) (c .add-table .ensures)))  -- read-file-loop-again-14
+    (λ c. search needs)  -- read-file-enum-known-d-12
+    (λ c κs. let e = c .before .before .before in switch-fits (read-file-state t e) (read-file-deed t e) _ _ (c .before .d12 .given .1) (read-file-did t e .fits))  -- read-file-add-switch-requires
+    (λ c. read-file-did t (c .before .before .before .before .before) .less)  -- read-file-loop-less-15
+    (λ c. let e = c .before .before .before .before .before in read-file-did t e .again _ (switch-done (read-file-state t e) (read-file-deed t e) _ _ _ (c .before .before .before .d12 .given .1) (c .before .add-switch .ensures)))  -- read-file-loop-again-15
+    (λ c. search needs)  -- read-file-enum-known-d-13
+    (λ c κs. let e = c .before .before .before in portstate-fits (read-file-state t e) (read-file-deed t e) _ _ (c .before .d13 .given .1) (read-file-did t e .fits))  -- read-file-add-port-state-requires
+    (λ c. read-file-did t (c .before .before .before .before .before) .less)  -- read-file-loop-less-16
+    (λ c. let e = c .before .before .before .before .before in read-file-did t e .again _ (portstate-done (read-file-state t e) (read-file-deed t e) _ _ _ (c .before .before .before .d13 .given .1) (c .before .add-port-state .ensures)))  -- read-file-loop-again-16
+    (λ c. read-file-did t (c .before) .less)  -- read-file-loop-less-17
+    (λ c. let e = c .before in read-file-did t e .again _ (done-other (read-file-state t e) (read-file-deed t e) (c .match3 .keys14)))  -- read-file-loop-again-17
