@@ -30,10 +30,6 @@ use Rattle.lines.specs.declared.ConnAt.the-variants as conn
 abbrev pub spanned : Bytes → Span → Bytes
 spanned job s = bytesAt job (s .at) (s .len)
 
--- ---- where r says so, none of the n bytes of s from i on is LF
-pub record Clear (s : Bytes) (i n : ℕ) (r : Bool) : Type 0 where
-  pub passed : r ≡ true → upTo (byte "\n") (drop i s) ≡ n + upTo (byte "\n") (drop (i + n) s)
-
 -- ---- the line from `at` on: its LF is at r, and r is not before `end` where there is none
 pub record Cut (job : Bytes) (at end r : ℕ) : Type 0 where
   pub none : end ≤ r → linesIn (section job at end) ≡ []

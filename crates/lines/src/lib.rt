@@ -8,7 +8,7 @@ ghost use Rattle.text.specs.Scan.{Ends, upTo};
 ghost use Rattle.fields.specs.Meant.{isSome};
 ghost use Rattle.joblines.specs.Forms.{portMeant, declMeant, instMeant, connMeant};
 ghost use Rattle.joblines.specs.Sections.{portHere, declHere, instHere, connHere};
-ghost use Rattle.lines.specs.Cursors.{Clear, Cut, PortSeen, DeclSeen, InstSeen, ConnSeen, spanned, spanIn, connPlaced};
+ghost use Rattle.lines.specs.Cursors.{Cut, PortSeen, DeclSeen, InstSeen, ConnSeen, spanned, spanIn, connPlaced};
 use fields::Dims;
 use fields::Dir;
 use fields::Kind;
@@ -55,36 +55,6 @@ pub enum ConnAt {
     Pos { net: Span, next: usize },
 }
 
-// Whether none of four bytes of s from i on is LF.
-fn four(s: &[u8], i: usize) -> bool
-    requires { ⌜ i + 4 ≤ length (now s) ⌝ }
-    ensures { λ r. ⌜ Clear (now (s .entry)) i 4 r ⌝ }
-{
-    (s[i] != b'\n') & (s[i + 1] != b'\n') & (s[i + 2] != b'\n') & (s[i + 3] != b'\n')
-}
-
-// Whether none of sixteen bytes of s from i on is LF.
-fn sixteen(s: &[u8], i: usize) -> bool
-    requires { ⌜ i + 16 ≤ length (now s) ⌝ }
-    ensures { λ r. ⌜ Clear (now (s .entry)) i 16 r ⌝ }
-{
-    four(s, i) & four(s, i + 4) & four(s, i + 8) & four(s, i + 12)
-}
-
-// The place of the first LF of s; the end where there is none.
-fn find_lf(s: &[u8]) -> usize
-    ensures { λ r. ⌜ Ends (0 + upTo (byte "\n") (drop 0 (now (s .entry)))) (length (now (s .entry))) r ⌝ }
-{
-    let mut i = 0;
-    while 16 <= s.len() - i {
-        if !sixteen(s, i) {
-            return text::scan::find(s, i, b'\n');
-        }
-        i += 16;
-    }
-    text::scan::find(s, i, b'\n')
-}
-
 // The LF of the line that begins at `at`; `end` where there is none before it.
 pub fn line_end(job: &[u8], at: usize, end: usize) -> usize
     ensures { λ r. ⌜ Cut (now (job .entry)) at end r ⌝ }
@@ -93,7 +63,7 @@ pub fn line_end(job: &[u8], at: usize, end: usize) -> usize
         return end;
     }
     let s = text::part::part(job, at, end - at);
-    let n = find_lf(s);
+    let n = text::scan::find_far(s, 0, b'\n');
     if n == s.len() {
         return end;
     }

@@ -95,10 +95,6 @@ missing-argument = refl
 abbrev pub isBrace : ℕ → Bool
 isBrace b = eqb b (byte "{") || eqb b (byte "}")
 
--- where r says so, none of the n bytes of t from i on is a brace
-pub record Plain (t : Bytes) (i n : ℕ) (r : Bool) : Type 0 where
-  pub passed : r ≡ true → before isBrace (drop i t) ≡ n + before isBrace (drop (i + n) t)
-
 -- what the mark at the head of a text adds, and how many bytes it has
 unfoldable pub markText : (ℕ → Bytes) → Bytes → Bytes
 markText a [] = []

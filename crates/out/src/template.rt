@@ -4,9 +4,9 @@ ghost use mathlib.Core.Bool.{true};
 ghost use mathlib.Core.List.{[]};
 ghost use Prim.Native.Nat.{_+_, _≤_, _<_};
 ghost use lib.ListN.{length, drop};
-ghost use Rattle.text.specs.Scan.{Ends, before};
+ghost use Rattle.text.specs.Scan.{Ends, Free, before};
 ghost use Rattle.out.specs.Emit.{_▸_, emit};
-ghost use Rattle.out.specs.Fill.{pick, arg, isTemplate, isBrace, Plain, markText, markSize, fill as Fill·fill};
+ghost use Rattle.out.specs.Fill.{pick, arg, isTemplate, isBrace, markText, markSize, fill as Fill·fill};
 use super::bytewise::dotted;
 use super::bytewise::mangle;
 use super::bytewise::sv_str;
@@ -74,7 +74,7 @@ fn is_brace(b: u8) -> bool
 // Whether eight bytes of t from i on all stand before the braces in ASCII: then none is a brace.
 fn eight_plain(t: &[u8], i: usize) -> bool
     requires { ⌜ i + 8 ≤ length (now t) ⌝ }
-    ensures { λ r. ⌜ Plain (now (t .entry)) i 8 r ⌝ }
+    ensures { λ r. ⌜ Free isBrace (now (t .entry)) i 8 r ⌝ }
 {
     (t[i] < b'{')
         & (t[i + 1] < b'{')

@@ -27,7 +27,7 @@ pub fn line_at(job: &[u8], p: Place) -> Moved
 {
     let at = p.at;
     let line = p.line + 1;
-    let e = text::scan::find(job, at, b'\n');
+    let e = text::scan::find_far(job, at, b'\n');
     if e < job.len() {
         let place = Place { at: e + 1, line };
         let cut = Cut::Line { from: at, end: e };

@@ -1,10 +1,11 @@
 -- How far a byte string goes before something: the measure of every word, field and line.
 -- Assumes nothing.
-use Prim.Native.Nat.{ℕ, suc, _≤_}
+use Prim.Native.Nat.{ℕ, suc, _+_, _≤_}
 use mathlib.Core.Path.{_≡_}
 use mathlib.Core.Bool.{Bool, cond, _||_, _&&_}
 use mathlib.Core.List.{List, [], _∷_}
 use lib.Dec.{eqb}
+use lib.ListN.{drop}
 use Rattle.text.specs.Ascii.{Bytes}
 
 -- how many bytes stand before the first that passes the test; all of them where none passes
@@ -32,6 +33,10 @@ any t (x ∷ xs) = t x || any t xs
 pub record Ends (a n r : ℕ) : Type 0 where
   pub is-at : r ≡ a
   pub within : r ≤ n
+
+-- where r says so, none of the n bytes of s from i on passes the test
+pub record Free (p : ℕ → Bool) (s : Bytes) (i n : ℕ) (r : Bool) : Type 0 where
+  pub passed : r ≡ Bool.true → before p (drop i s) ≡ n + before p (drop (i + n) s)
 
 -- the parts between the b's: one more than there are b's
 abbrev pub onto : ℕ → List Bytes → List Bytes

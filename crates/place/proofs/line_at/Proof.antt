@@ -11,7 +11,7 @@ pub line-at-spec : {M : Type 1} → statement M
 unfolding cutAt movedOn
 line-at-spec = tie.close (tie.spec
     (λ c. search needs)  -- add-line
-    (λ c κs. search needs)  -- find-requires
+    (λ c κs. search needs)  -- find-far-requires
     (λ c. search needs)  -- add-t13
-    (λ c. simp (← c .before .find .ensures .is-at, lt-ltb _ _ (c .if1 .taken)) (refl, refl))  -- returns
-    (λ c. simp (← c .before .find .ensures .is-at, le-ltb _ _ (c .if1 .left)) (refl, refl)))  -- returns-2
+    (λ c. simp (← c .before .find-far .ensures .is-at, lt-ltb _ _ (c .if1 .taken)) (refl, refl))  -- returns
+    (λ c. simp (← c .before .find-far .ensures .is-at, le-ltb _ _ (c .if1 .left)) (refl, refl)))  -- returns-2

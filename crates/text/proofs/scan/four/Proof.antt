@@ -1,7 +1,7 @@
-use Rattle.lines.proofs.Clears.{clears}
+use Rattle.text.specs.Scans.{frees}
 use borrow.Author.Needs.{needs}
-use Rattle.lines.proofs.four.Statement.{statement}
-use Rattle.lines.proofs.four.Tie as tie
+use Rattle.text.proofs.scan.four.Statement.{statement}
+use Rattle.text.proofs.scan.four.Tie as tie
 
 pub four-spec : {M : Type 1} → statement M
 four-spec =
@@ -14,4 +14,4 @@ four-spec =
     (λ c. search needs)  -- shared-slice-read-result-3
     (λ c. search needs)  -- add-result-3
     (λ c. search needs)  -- shared-slice-read-result-4
-    (λ c. search clears))  -- returns
+    (λ c. search frees))  -- returns

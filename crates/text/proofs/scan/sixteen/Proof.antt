@@ -1,7 +1,7 @@
-use Rattle.lines.proofs.Clears.{clears}
+use Rattle.text.specs.Scans.{frees}
 use borrow.Author.Needs.{needs}
-use Rattle.lines.proofs.sixteen.Statement.{statement}
-use Rattle.lines.proofs.sixteen.Tie as tie
+use Rattle.text.proofs.scan.sixteen.Statement.{statement}
+use Rattle.text.proofs.scan.sixteen.Tie as tie
 
 pub sixteen-spec : {M : Type 1} → statement M
 sixteen-spec =
@@ -14,4 +14,4 @@ sixteen-spec =
     (λ c κs. search needs)  -- four-requires-3
     (λ c. search needs)  -- add-four-3
     (λ c κs. search needs)  -- four-requires-4
-    (λ c. search clears))  -- returns
+    (λ c. search frees))  -- returns
