@@ -144,15 +144,15 @@ pub ruleset downs = (needs, begins-row, down-none, down-less, down-same, down-la
 -- ---- the same with a memo
 
 module _ (job : Bytes) (index memo : List ℕ) (k : ℕ) (r : Recalls job index memo k) (mem s : Bytes) (d : Down) (seen : DownSeen job mem index k s d) where
-  pub step-none : d ≡ down.None → StepSeen job mem index k s d memo
-  step-none g = record { down = seen; known = r .known }
+  pub step-kept : StepSeen job mem index k s d memo
+  step-kept = record { down = seen; known = r .known }
 
   pub step-put : (at : ℕ) (t : Span) (x : Name) → d ≡ down.Inst at t x → (h : ℕ) → h < slots → (memo′ : List ℕ) → memo′ ≡ set (set memo (2 * h) (k + 1)) (2 * h + 1) at → StepSeen job mem index k s (down.Inst at t x) memo′
   step-put at t x g h few memo′ e =
       let l : Leads job index k at = rw g at (seen .place) in
       record { down = rw g at seen; known = rw e (known-put job index memo (r .known) h k at few l) }
 
-pub ruleset steps = (needs, recalls-row, recalls-asks, recalls-room, step-none, step-put)
+pub ruleset steps = (needs, recalls-row, recalls-asks, recalls-room, begins-first, step-kept, step-put)
 
 -- ---- the element, part by part
 

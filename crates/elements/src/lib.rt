@@ -15,6 +15,7 @@ use lines::InstAt;
 use names::name::Name;
 use names::name::Step;
 use names::part::Part;
+use spans::span::minus;
 
 // An instance: where the lines begin whose first instance it is, its module's name, and what is left of the element behind its name.
 pub enum Down {
@@ -30,10 +31,10 @@ fn slot(files: &[u8], area: &[u8], k: usize, e: Name) -> usize
     let mut h = k;
     loop {
         match names::name::next(files, area, x) {
-            Step::End => return h % 512,
+            Step::End => return h % 128,
             Step::Byte(b, u) => {
                 if b == b'/' {
-                    return h % 512;
+                    return h % 128;
                 }
                 h = h % 16777216 * 31 + b as usize;
                 x = u;
@@ -122,7 +123,7 @@ fn instance_at(
     }
 }
 
-// The same with a memo, which then has the instance.
+// The same with a memo, which then has the instance. A module of few lines is looked through without it.
 fn step_down(
     job: &[u8],
     index: &[u32],
@@ -135,6 +136,10 @@ fn step_down(
     requires { ⌜ Recalls (now job) (now index) (now memo) k ⌝ }
     ensures { λ r. ⌜ StepSeen (now (job .entry)) (now (files .entry) ++ now (area .entry)) (now (index .entry)) k (nameOf (now (files .entry) ++ now (area .entry)) e) r (now (memo .exit)) ⌝ }
 {
+    let first = lookup::insts_from(index, k);
+    if minus(lookup::insts_end(index, k), first) < 512 {
+        return instance_at(job, index, k, files, area, e, first);
+    }
     let h = slot(files, area, k, e);
     let from = begin(job, index, k, files, area, e, memo, h);
     let d = instance_at(job, index, k, files, area, e, from);
@@ -199,6 +204,6 @@ pub fn element_module(
     requires { ⌜ (count ≤ 128) × (k < count) ⌝ }
     ensures { λ r. ⌜ ModuleSeen (now (job .entry)) (now (index .entry)) count (moduleAt (modules (now (job .entry)) (now (index .entry)) count) (moduleRow (now (job .entry)) (now (index .entry)) k) (filledParts (nameOf (now (files .entry) ++ now (area .entry)) e))) r ⌝ }
 {
-    let mut memo: [usize; 1024] = [0; 1024];
+    let mut memo: [usize; 256] = [0; 256];
     module_by(job, index, count, k, files, area, e, &mut memo)
 }

@@ -27,10 +27,10 @@ use Rattle.lines.specs.declared.InstAt.the-variants as inst
 use Rattle.lookup.specs.Rows.{insts-from, insts-end, insts-are}
 
 abbrev pub slots : ℕ
-slots = 512
+slots = 128
 
 abbrev pub memo-size : ℕ
-memo-size = 1024
+memo-size = 256
 
 -- the first instance of a name in the lines of module k from p on
 abbrev pub namedFrom : Bytes → List ℕ → ℕ → ℕ → Bytes → Option Inst

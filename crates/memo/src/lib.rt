@@ -1,4 +1,4 @@
-// A memo of instances that lookups have found: 512 slots of two numbers, one more than the number of a module, and where lines of it begin whose first instance
+// A memo of instances that lookups have found: 128 slots of two numbers, one more than the number of a module, and where lines of it begin whose first instance
 // is the first of its name. A lookup that asks it goes over a module's lines one time for each name.
 ghost use mathlib.Core.Path.{_≡_};
 ghost use Prim.Native.Nat.{_+_, _*_, _≤_, _<_};

@@ -184,10 +184,10 @@ fn slot(job: &[u8], files: &[u8], area: &[u8], k: usize, r: Ref) -> usize
     let mut h = k;
     loop {
         match next(job, files, area, x) {
-            Step::End => return h % 512,
+            Step::End => return h % 128,
             Step::Byte(b, u) => {
                 if b == b'/' {
-                    return h % 512;
+                    return h % 128;
                 }
                 h = h % 16777216 * 31 + b as usize;
                 x = u;
@@ -392,6 +392,6 @@ pub fn find_instance(
     requires { ⌜ (count ≤ 128) × ((k < count) × (length (textOf (now job) (now files ++ now area) r) < 2 ^ 63)) ⌝ }
     ensures { λ p. ⌜ PlaceSeen (now (job .entry)) (now (index .entry)) count k (textOf (now (job .entry)) (now (files .entry) ++ now (area .entry)) r) p ⌝ }
 {
-    let mut memo: [usize; 1024] = [0; 1024];
+    let mut memo: [usize; 256] = [0; 256];
     find_by(job, index, count, k, files, area, r, &mut memo)
 }
