@@ -1,25 +1,24 @@
 -- Loops over what is left of two words, with `/` as `.`; names that are words: laws as the needs ask them. Assumes nothing.
 use Prim.Native.Nat.{ℕ}
-use mathlib.Core.Path.{_≡_, refl, sym, ap, _∙_}
-use mathlib.Core.Bool.{Bool, true, false, not, _&&_}
+use mathlib.Core.Path.{_≡_, sym, ap, _∙_}
+use mathlib.Core.Bool.{Bool, true, false, _&&_}
 use mathlib.Core.List.{[], _∷_}
 use lib.Dec.{eqb}
 use borrow.Author.Needs.{needs}
-use borrow.Author.Tests.{eqb-true, eq-eqb, ne-eqb}
+use borrow.Author.Tests.{eq-eqb, ne-eqb}
 use Rattle.text.specs.Ascii.{Bytes}
 use Rattle.text.specs.Compare.{same}
-use Rattle.text.specs.Sames.{both, no-true}
+use Rattle.text.specs.Sames.{both}
 use Rattle.out.specs.Bytewise.{dotted}
 use Rattle.spans.specs.Span.{bytes, gotOf}
 use Rattle.spans.specs.Frame.{shorter}
 use Rattle.spans.specs.declared.span.Span.{Span}
 use Rattle.spans.specs.declared.span.Got.{Got}
 use Rattle.spans.specs.declared.span.Got.the-variants.{Yes, No}
-use Rattle.names.specs.Name.{nameOf}
-use Rattle.names.specs.Laws.{dotted-step, dotted-none}
+use Rattle.names.specs.Name.{nameOf, isWord}
+use Rattle.names.specs.Laws.{dotted-step, dotted-none, word-is}
 use Rattle.names.specs.declared.name.Name.{Name}
 use Rattle.refs.specs.Text.{dotOf}
-use Rattle.alike.specs.Strategies.{isWord}
 
 -- what is left, with dots
 abbrev stepDots : Bytes → Got → Bytes
@@ -68,21 +67,9 @@ pub ruleset sames = (needs, shorter, same-both, same-left, same-right, same-stop
 -- ---- names that are words
 
 module _ (mem : Bytes) where
-  word-is : (n : Name) → isWord n ≡ true → nameOf mem n ≡ bytes mem (n .word)
-  unfolding nameOf bytes
-  word-is n h =
-      let a = both (eqb (n .scope .len) 0) _ h in
-      let b = both (not (n .sep)) (eqb (n .form) 0) (a .1) in
-      let e : n .scope .len ≡ 0 = eqb-true _ _ (a .0) in
-      rw (e, no-is (n .sep) (b .0), b .1)
-    where
-      no-is : (b : Bool) → not b ≡ true → b ≡ false
-      no-is true g = absurd (no-true g)
-      no-is false g = refl
-
   pub words-same : (a b : Name) (p q r : Bool) → p ≡ isWord a → q ≡ isWord b → p && q ≡ true → r ≡ same (dotted (bytes mem (a .word))) (dotted (bytes mem (b .word))) → r ≡ same (dotted (nameOf mem a)) (dotted (nameOf mem b))
   words-same a b p q r e f h g =
       let t = both p q h in
-      g ∙ sym (rw (word-is a (sym e ∙ t .0), word-is b (sym f ∙ t .1)))
+      g ∙ sym (rw (word-is mem a (sym e ∙ t .0), word-is mem b (sym f ∙ t .1)))
 
 pub ruleset words = (needs, words-same)

@@ -52,10 +52,6 @@ signalName (Given s) = storedName s
 abbrev pub signalOf : Isolationʳ → Bytes
 signalOf i = or-else (i .signal) []
 
--- a name that is a word as it stands
-abbrev pub isWord : Name → Bool
-isWord n = eqb (n .scope .len) 0 && (not (n .sep) && eqb (n .form) 0)
-
 -- the same signal, with `/` as `.`, and the same active value
 unfoldable pub areAlike : Isolationʳ → Isolationʳ → Bool
 areAlike a b = same (dotted (signalOf a)) (dotted (signalOf b)) && same (activeOf a) (activeOf b)

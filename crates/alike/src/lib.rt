@@ -9,11 +9,12 @@ ghost use Rattle.names.specs.Name.{nameOf};
 ghost use Rattle.texts.specs.Isolation.{lowered};
 ghost use Rattle.store.specs.View.{isolationOf};
 ghost use Rattle.clamps.specs.Values.{storedName, activeNumber};
-ghost use Rattle.alike.specs.Strategies.{isolationAt, strategyAt, signalName, isWord, areAlike};
+ghost use Rattle.alike.specs.Strategies.{isolationAt, strategyAt, signalName, areAlike};
 use clamps::active;
 use clamps::stored;
 use names::name::Name;
 use names::name::Step;
+use names::name::is_word;
 use names::name::next;
 use refs::dot;
 use refs::no_name;
@@ -96,14 +97,6 @@ fn same_words(files: &[u8], area: &[u8], a: Span, b: Span) -> bool
             },
         }
     }
-}
-
-// Whether a name is a word as it stands.
-fn is_word(n: Name) -> bool
-    ensures { λ r. ⌜ r ≡ isWord n ⌝ }
-{
-    let s = n.scope;
-    (s.len == 0) & ((!n.sep) & (n.form == 0))
 }
 
 // Whether two names are the same with `/` as `.`, byte by byte.

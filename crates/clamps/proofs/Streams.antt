@@ -1,4 +1,4 @@
--- Loops over what is left of a name, in lower case. Each law is stated as a loop's needs ask it. Assumes nothing.
+-- Loops over what is left of a string or a name, in lower case. Each law is stated as a loop's needs ask it. Assumes nothing.
 use Prim.Native.Nat.{ℕ, _+_, _-_, _≤_, _<_, _^_}
 use native.Mathlib.Omega.{arith}
 use mathlib.Core.Path.{_≡_, sym, _∙_}
@@ -22,11 +22,12 @@ use Rattle.store.specs.Strings.{string, maybeOf, spanOf}
 use Rattle.store.specs.declared.stored.Stored.{Stored}
 use Rattle.store.specs.declared.stored.Maybe.{Maybe}
 use Rattle.store.specs.declared.stored.Maybe.the-variants.{Not, Given}
-use Rattle.spans.specs.Span.{_⋯_, bytes}
+use Rattle.spans.specs.Span.{_⋯_, bytes, gotOf}
 use Rattle.spans.specs.declared.span.Span.{Span}
+use Rattle.spans.specs.declared.span.Got.{Got}
+use Rattle.spans.specs.declared.span.Got.the-variants.{Yes, No}
 use Rattle.texts.specs.Isolation.{lower, lowered, isOutputs}
 use Rattle.clamps.specs.Values.{storedName, clampNumber, activeNumber}
-use Rattle.clamps.specs.Laws.{stored-is}
 
 -- ---- a byte in lower case
 
@@ -47,19 +48,19 @@ pub ruleset lowers = (needs, lower-fits, lower-letter, lower-other)
 
 -- ---- whether one is s
 
-pub record Lows (mem s : Bytes) (t : Bool) (x : Name) (i : ℕ) : Type 0 where
-  pub keeps : same (lowered (nameOf mem x)) (drop i s) ≡ t
+pub record Lows (mem s : Bytes) (t : Bool) (x : Span) (i : ℕ) : Type 0 where
+  pub keeps : same (lowered (bytes mem x)) (drop i s) ≡ t
 
-module _ (mem s : Bytes) (t : Bool) (x : Name) (i : ℕ) (inv : Lows mem s t x i) (p : Step) (e : nameOf mem x ≡ stepOf mem p) where
-  pub lows-short : p ≡ End → i < length s → false ≡ t
+module _ (mem s : Bytes) (t : Bool) (x : Span) (i : ℕ) (inv : Lows mem s t x i) (p : Got) (e : bytes mem x ≡ gotOf mem p) where
+  pub lows-short : p ≡ No → i < length s → false ≡ t
   unfolding same
   lows-short h l = rw (e, h, here s i l) at (inv .keeps)
 
-  pub lows-end : p ≡ End → length s ≤ i → true ≡ t
+  pub lows-end : p ≡ No → length s ≤ i → true ≡ t
   unfolding same
   lows-end h l = rw (e, h, drop-of-length-le s {i = i} l) at (inv .keeps)
 
-  module _ (a : ℕ) (u : Name) (h : p ≡ Byte a u) where
+  module _ (a : ℕ) (u : Span) (h : p ≡ Yes a u) where
     pub lows-long : length s ≤ i → false ≡ t
     unfolding same
     lows-long l = rw (e, h, drop-of-length-le s {i = i} l) at (inv .keeps)
@@ -97,9 +98,9 @@ pub stored-named : (s : Stored) (w : Span) (r : Name) → w ≡ spanOf s → r �
 stored-named s w r e f = rw (f, e)
 
 module _ (mem : Bytes) where
-  -- the name of a string was asked
-  pub asked : (s : Stored) (n : Name) (w : Bytes) (b : Bool) → n ≡ storedName s → b ≡ same (lowered (nameOf mem n)) w → b ≡ same (lowered (string mem s)) w
-  asked s n w b e h = h ∙ rw (e, stored-is mem s)
+  -- a string was asked
+  pub asked : (s : Stored) (v : Span) (w : Bytes) (b : Bool) → v ≡ spanOf s → b ≡ same (lowered (bytes mem v)) w → b ≡ same (lowered (string mem s)) w
+  asked s v w b e h = h ∙ rw e
 
   pub clamp-none : (m : Maybe) → m ≡ Not → 7 ≡ clampNumber (lowered (or-else (maybeOf mem m) (ascii "0")))
   unfolding clampNumber same
@@ -131,38 +132,38 @@ module _ (mem : Bytes) where
       rw k (rw d at g)
 
   -- the ladders
-  module _ (s : Stored) (n : Name) (b : Bool) (e : n ≡ storedName s) where
-    pub told-zero : b ≡ same (lowered (nameOf mem n)) (ascii "0") → b ≡ true → 7 ≡ clampNumber (lowered (string mem s))
+  module _ (s : Stored) (v : Span) (b : Bool) (e : v ≡ spanOf s) where
+    pub told-zero : b ≡ same (lowered (bytes mem v)) (ascii "0") → b ≡ true → 7 ≡ clampNumber (lowered (string mem s))
     unfolding clampNumber
-    told-zero f h = let g : same (lowered (string mem s)) (ascii "0") ≡ true = sym (asked s n (ascii "0") b e f) ∙ h in rw g
+    told-zero f h = let g : same (lowered (string mem s)) (ascii "0") ≡ true = sym (asked s v (ascii "0") b e f) ∙ h in rw g
 
-    pub told-low : b ≡ same (lowered (nameOf mem n)) (ascii "low") → b ≡ true → 5 ≡ activeNumber (lowered (string mem s))
+    pub told-low : b ≡ same (lowered (bytes mem v)) (ascii "low") → b ≡ true → 5 ≡ activeNumber (lowered (string mem s))
     unfolding activeNumber
-    told-low f h = let g : same (lowered (string mem s)) (ascii "low") ≡ true = sym (asked s n (ascii "low") b e f) ∙ h in rw g
+    told-low f h = let g : same (lowered (string mem s)) (ascii "low") ≡ true = sym (asked s v (ascii "low") b e f) ∙ h in rw g
 
-    pub told-high : b ≡ same (lowered (nameOf mem n)) (ascii "low") → b ≡ false → 6 ≡ activeNumber (lowered (string mem s))
+    pub told-high : b ≡ same (lowered (bytes mem v)) (ascii "low") → b ≡ false → 6 ≡ activeNumber (lowered (string mem s))
     unfolding activeNumber
-    told-high f h = let g : same (lowered (string mem s)) (ascii "low") ≡ false = sym (asked s n (ascii "low") b e f) ∙ h in rw g
+    told-high f h = let g : same (lowered (string mem s)) (ascii "low") ≡ false = sym (asked s v (ascii "low") b e f) ∙ h in rw g
 
-    module _ (f : b ≡ same (lowered (nameOf mem n)) (ascii "0")) (h : b ≡ false) (b2 : Bool) (f2 : b2 ≡ same (lowered (nameOf mem n)) (ascii "1")) where
+    module _ (f : b ≡ same (lowered (bytes mem v)) (ascii "0")) (h : b ≡ false) (b2 : Bool) (f2 : b2 ≡ same (lowered (bytes mem v)) (ascii "1")) where
       g1 : same (lowered (string mem s)) (ascii "0") ≡ false
-      g1 = sym (asked s n (ascii "0") b e f) ∙ h
+      g1 = sym (asked s v (ascii "0") b e f) ∙ h
 
       pub told-one : b2 ≡ true → 8 ≡ clampNumber (lowered (string mem s))
       unfolding clampNumber
-      told-one h2 = let g : same (lowered (string mem s)) (ascii "1") ≡ true = sym (asked s n (ascii "1") b2 e f2) ∙ h2 in rw (g1, g)
+      told-one h2 = let g : same (lowered (string mem s)) (ascii "1") ≡ true = sym (asked s v (ascii "1") b2 e f2) ∙ h2 in rw (g1, g)
 
-      module _ (h2 : b2 ≡ false) (b3 : Bool) (f3 : b3 ≡ same (lowered (nameOf mem n)) (ascii "z")) where
+      module _ (h2 : b2 ≡ false) (b3 : Bool) (f3 : b3 ≡ same (lowered (bytes mem v)) (ascii "z")) where
         g2 : same (lowered (string mem s)) (ascii "1") ≡ false
-        g2 = sym (asked s n (ascii "1") b2 e f2) ∙ h2
+        g2 = sym (asked s v (ascii "1") b2 e f2) ∙ h2
 
         pub told-z : b3 ≡ true → 9 ≡ clampNumber (lowered (string mem s))
         unfolding clampNumber
-        told-z h3 = let g : same (lowered (string mem s)) (ascii "z") ≡ true = sym (asked s n (ascii "z") b3 e f3) ∙ h3 in rw (g1, g2, g)
+        told-z h3 = let g : same (lowered (string mem s)) (ascii "z") ≡ true = sym (asked s v (ascii "z") b3 e f3) ∙ h3 in rw (g1, g2, g)
 
         pub told-none : b3 ≡ false → 0 ≡ clampNumber (lowered (string mem s))
         unfolding clampNumber
-        told-none h3 = let g : same (lowered (string mem s)) (ascii "z") ≡ false = sym (asked s n (ascii "z") b3 e f3) ∙ h3 in rw (g1, g2, g)
+        told-none h3 = let g : same (lowered (string mem s)) (ascii "z") ≡ false = sym (asked s v (ascii "z") b3 e f3) ∙ h3 in rw (g1, g2, g)
 
 pub ruleset tolds = (needs, told-zero, told-low, told-high, told-one, told-z, told-none)
 

@@ -4,6 +4,7 @@ ghost use mathlib.Core.List.{_++_};
 ghost use Rattle.text.specs.Ascii.{ascii};
 ghost use Rattle.text.specs.Compare.{same};
 ghost use Rattle.out.specs.Emit.{_▸_, emit};
+ghost use Rattle.spans.specs.Span.{bytes};
 ghost use Rattle.names.specs.Name.{nameOf};
 ghost use Rattle.model.specs.Commands.{or-else};
 ghost use Rattle.store.specs.Strings.{string, maybeOf};
@@ -13,6 +14,9 @@ use names::name::Name;
 use names::name::Step;
 use names::name::alone;
 use names::name::next;
+use spans::span::Got;
+use spans::span::Span;
+use spans::span::first;
 use store::stored::Maybe;
 use store::stored::Stored;
 use store::stored::span;
@@ -34,16 +38,16 @@ fn lower(b: u8) -> u8
     b
 }
 
-// Whether a name in lower case is w.
-fn is_lowered(files: &[u8], area: &[u8], n: Name, w: &[u8]) -> bool
-    ensures { λ r. ⌜ r ≡ same (lowered (nameOf (now (files .entry) ++ now (area .entry)) n)) (now (w .entry)) ⌝ }
+// Whether a string in lower case is w.
+fn is_lowered(files: &[u8], area: &[u8], s: Span, w: &[u8]) -> bool
+    ensures { λ r. ⌜ r ≡ same (lowered (bytes (now (files .entry) ++ now (area .entry)) s)) (now (w .entry)) ⌝ }
 {
-    let mut x = n;
+    let mut x = s;
     let mut i = 0;
     while i < w.len() {
-        match next(files, area, x) {
-            Step::End => return false,
-            Step::Byte(b, u) => {
+        match first(files, area, x) {
+            Got::No => return false,
+            Got::Yes(b, u) => {
                 if lower(b) != w[i] {
                     return false;
                 }
@@ -52,9 +56,9 @@ fn is_lowered(files: &[u8], area: &[u8], n: Name, w: &[u8]) -> bool
             }
         }
     }
-    match next(files, area, x) {
-        Step::End => true,
-        Step::Byte(_, _) => false,
+    match first(files, area, x) {
+        Got::No => true,
+        Got::Yes(_, _) => false,
     }
 }
 
@@ -62,14 +66,14 @@ fn is_lowered(files: &[u8], area: &[u8], n: Name, w: &[u8]) -> bool
 fn given_clamp(files: &[u8], area: &[u8], s: Stored) -> u8
     ensures { λ r. ⌜ r ≡ clampNumber (lowered (string (now (files .entry) ++ now (area .entry)) s)) ⌝ }
 {
-    let n = stored(s);
-    if is_lowered(files, area, n, b"0") {
+    let v = span(s);
+    if is_lowered(files, area, v, b"0") {
         return 7;
     }
-    if is_lowered(files, area, n, b"1") {
+    if is_lowered(files, area, v, b"1") {
         return 8;
     }
-    if is_lowered(files, area, n, b"z") {
+    if is_lowered(files, area, v, b"z") {
         return 9;
     }
     0
@@ -89,7 +93,7 @@ pub fn clamp(files: &[u8], area: &[u8], m: Maybe) -> u8
 fn given_active(files: &[u8], area: &[u8], s: Stored) -> u8
     ensures { λ r. ⌜ r ≡ activeNumber (lowered (string (now (files .entry) ++ now (area .entry)) s)) ⌝ }
 {
-    if is_lowered(files, area, stored(s), b"low") {
+    if is_lowered(files, area, span(s), b"low") {
         return 5;
     }
     6

@@ -1,7 +1,7 @@
 -- How a `Name` stands for a byte string: a scope, a slash, and a word or an entry of a list. Assumes nothing.
 use Prim.Native.Nat.{ℕ, _+_, _≤_, max}
 use mathlib.Core.Path.{_≡_}
-use mathlib.Core.Bool.{Bool, cond}
+use mathlib.Core.Bool.{Bool, cond, not, _&&_}
 use mathlib.Core.List.{[], _∷_, _++_}
 use lib.Dec.{eqb}
 use Rattle.text.specs.Ascii.{Bytes, ascii}
@@ -28,6 +28,10 @@ slash sep = cond sep (ascii "/") []
 -- the scope, a slash, the word
 unfoldable pub nameOf : Bytes → Name → Bytes
 nameOf mem n = bytes mem (n .scope) ++ (slash (n .sep) ++ entryOf (n .form) (bytes mem (n .word)))
+
+-- a name that is a word as it stands
+abbrev pub isWord : Name → Bool
+isWord n = eqb (n .scope .len) 0 && (not (n .sep) && eqb (n .form) 0)
 
 -- where a name ends
 abbrev pub spanEnd : Span → ℕ

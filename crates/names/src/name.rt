@@ -5,7 +5,7 @@ ghost use mathlib.Core.List.{_++_};
 ghost use Rattle.text.specs.Ascii.{ascii};
 ghost use Rattle.text.specs.Compare.{same};
 ghost use Rattle.spans.specs.Span.{bytes, _⋯_};
-ghost use Rattle.names.specs.Name.{named, entryOf, slash, nameOf, formGot, stepOf, Makes};
+ghost use Rattle.names.specs.Name.{named, entryOf, slash, nameOf, isWord, formGot, stepOf, Makes};
 use entries::byte::first_byte;
 use spans::span::Got;
 use spans::span::Span;
@@ -98,6 +98,14 @@ pub fn alone(w: Span, form: u8) -> Name
         word: w,
         form: form,
     }
+}
+
+// Whether a name is a word as it stands.
+pub fn is_word(n: Name) -> bool
+    ensures { λ r. ⌜ r ≡ isWord n ⌝ }
+{
+    let s = n.scope;
+    (s.len == 0) & ((!n.sep) & (n.form == 0))
 }
 
 // Whether a word or an entry is `.`.

@@ -55,7 +55,7 @@ fn put_across(out: &mut [u8], at: usize, m: u8, files: &[u8], area: &[u8], s: Sp
 }
 
 // Writes a string in one of the modes of `becomes`; most lie wholly in the files.
-fn put_span(out: &mut [u8], at: usize, m: u8, files: &[u8], area: &[u8], s: Span) -> usize
+pub fn put_span(out: &mut [u8], at: usize, m: u8, files: &[u8], area: &[u8], s: Span) -> usize
     ensures { λ r. ⌜ now (out .exit) ▸ r ≡ emit (now (out .entry) ▸ at) (Bytewise·flat (Bytewise·becomes m) (bytes (now (files .entry) ++ now (area .entry)) s)) ⌝ }
 {
     if s.len == 0 {

@@ -12,12 +12,15 @@ use Rattle.text.specs.Ascii.{Bytes}
 use Rattle.text.specs.Compare.{same}
 use Rattle.text.specs.Sames.{same-refl, same-eq, differ, both, no-true}
 use Rattle.spans.specs.Span.{bytes}
-use Rattle.names.specs.Name.{nameOf, stepOf, slash}
+use Rattle.out.specs.Emit.{Out, emit}
+use Rattle.out.specs.Bytewise.{flat}
+use Rattle.names.specs.Name.{nameOf, isWord, stepOf, slash}
+use Rattle.names.specs.Laws.{word-is, shorter}
 use Rattle.names.specs.declared.name.Name.{Name}
 use Rattle.names.specs.declared.name.Step.{Step}
 use Rattle.names.specs.declared.name.Step.the-variants.{Byte, End}
 use Rattle.refs.specs.Text.{textOf, frontOf}
-use Rattle.refs.specs.Heads.{headRef, isBare, oneSlash, Apart}
+use Rattle.refs.specs.Heads.{headRef, isBare, isPlain, oneSlash, Apart}
 use Rattle.refs.specs.declared.Ref.{Ref}
 
 -- ---- ends of the same length
@@ -118,6 +121,18 @@ module _ (job mem : Bytes) where
       let f : r .last .word .len ≡ 0 = eqb-true _ _ (c .1) in
       rw (no-is (r .cut) (a .0), e, f, no-is (r .last .sep) (d .0), d .1, append-nil (slash (r .sep)))
 
+  plain-is : (r : Ref) → isPlain r ≡ true → textOf job mem r ≡ bytes mem (r .name .word)
+  unfolding bytes
+  plain-is r h =
+      let a = both (isBare r && (not (r .sep) && eqb (r .len) 0)) (isWord (r .name)) h in
+      let b = both (isBare r) _ (a .0) in
+      let c = both (not (r .sep)) (eqb (r .len) 0) (b .1) in
+      let z : r .len ≡ 0 = eqb-true _ _ (c .1) in
+      head-part job mem r ∙ rw (bare-is r (b .0), no-is (r .sep) (c .0), z, append-nil (nameOf mem (r .name)), append-nil (nameOf mem (r .name))) (word-is mem (r .name) (a .1))
+
+  pub put-word : (f : ℕ → Bytes) (o o′ : Out) (r : Ref) (p : Bool) → p ≡ isPlain r → p ≡ true → o′ ≡ emit o (flat f (bytes mem (r .name .word))) → o′ ≡ emit o (flat f (textOf job mem r))
+  put-word f o o′ r p e h g = rw (plain-is r (sym e ∙ h)) g
+
   slashes : (a b : Bool) → oneSlash a b ≡ true → a ≡ b
   slashes true true h = refl
   slashes false false h = refl
@@ -154,11 +169,12 @@ module _ (job mem : Bytes) where
       pub refs-same : not s ≡ false → (r : Bool) → r ≡ same (textOf job mem (headRef a)) (textOf job mem (headRef b)) → r ≡ same (textOf job mem a) (textOf job mem b)
       refs-same h r k = k ∙ sym (ends-are n ∙ rw (sym g ∙ yes-is s h) (and-true (same (textOf job mem (headRef a)) (textOf job mem (headRef b)))))
 
--- ---- names
+pub plain-by : (r : Ref) (p q : Bool) → p ≡ isBare r → q ≡ isWord (r .name) → (p && (not (r .sep) && eqb (r .len) 0)) && q ≡ isPlain r
+plain-by r p q e f = rw (e, f)
 
--- it gets shorter
-pub shorter : (mem : Bytes) (x u : Name) (p : Step) (b : ℕ) → nameOf mem x ≡ stepOf mem p → p ≡ Byte b u → length (nameOf mem u) < length (nameOf mem x)
-shorter mem x u p b e h = rw (e, h) (omega arith)
+pub ruleset words = (needs, plain-by, put-word)
+
+-- ---- names
 
 -- t is the answer: what is left is the same or not
 pub record Same (mem : Bytes) (t : Bool) (x y : Name) : Type 0 where

@@ -5,6 +5,7 @@ use mathlib.Core.List.{List, [], _∷_, _++_}
 use lib.Dec.{eqb}
 use Rattle.text.specs.Ascii.{Bytes}
 use Rattle.text.specs.Compare.{same}
+use Rattle.names.specs.Name.{isWord}
 use Rattle.refs.specs.Text.{refOf}
 use Rattle.refs.specs.declared.Ref.{Ref}
 
@@ -19,6 +20,10 @@ headRef r = refOf (r .name) (r .cut) (r .upto) (r .sep) (r .last) 0 0
 -- the name is whole, and nothing but a slash stands behind it
 abbrev pub isBare : Ref → Bool
 isBare r = not (r .cut) && ((eqb (r .last .scope .len) 0 && eqb (r .last .word .len) 0) && (not (r .last .sep) && eqb (r .last .form) 0))
+
+-- the text is a word as it stands
+abbrev pub isPlain : Ref → Bool
+isPlain r = (isBare r && (not (r .sep) && eqb (r .len) 0)) && isWord (r .name)
 
 -- a slash in both or in none
 abbrev pub oneSlash : Bool → Bool → Bool

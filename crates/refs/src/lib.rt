@@ -7,9 +7,11 @@ ghost use Rattle.out.specs.Emit.{_▸_, emit};
 ghost use Rattle.out.specs.Bytewise.{flat as Bytewise·flat, becomes as Bytewise·becomes};
 ghost use Rattle.names.specs.Name.{nameOf, slash};
 ghost use Rattle.refs.specs.Text.{frontOf, textOf, stepOf, Starts, noName, wholeRef, frontRef, jobRef, dotOf, asDots};
-ghost use Rattle.refs.specs.Heads.{isThere, headRef, isBare, oneSlash, Apart};
+ghost use Rattle.refs.specs.Heads.{isThere, headRef, isBare, isPlain, oneSlash, Apart};
 use names::name::Name;
+use names::name::is_word;
 use names::put::put_mapped;
+use names::put::put_span;
 use out::bytewise::becomes;
 use out::bytewise::flat;
 use text::compare::same;
@@ -392,6 +394,14 @@ fn put_named(out: &mut [u8], at: usize, m: u8, files: &[u8], area: &[u8], r: Ref
     put_mapped(out, at, m, files, area, n)
 }
 
+// Whether a text is a word as it stands.
+fn is_plain(r: Ref) -> bool
+    ensures { λ b. ⌜ b ≡ isPlain r ⌝ }
+{
+    let n = r.name;
+    (is_bare(r) & ((!r.sep) & (r.len == 0))) & is_word(n)
+}
+
 // Writes a text in one of the modes of `becomes`.
 fn put_plain(
     out: &mut [u8],
@@ -404,6 +414,10 @@ fn put_plain(
 ) -> usize
     ensures { λ o. ⌜ now (out .exit) ▸ o ≡ emit (now (out .entry) ▸ at) (Bytewise·flat (Bytewise·becomes m) (textOf (now (job .entry)) (now (files .entry) ++ now (area .entry)) r)) ⌝ }
 {
+    if is_plain(r) {
+        let n = r.name;
+        return put_span(out, at, m, files, area, n.word);
+    }
     let o = put_named(out, at, m, files, area, r);
     if r.sep {
         let p = becomes(out, o, m, b'/');

@@ -1,17 +1,17 @@
--- `clamps::is_lowered` meets its contract: whether what is left of the name is what is left of w. Assumes nothing.
+-- `clamps::is_lowered` meets its contract: whether what is left of the string is what is left of w. Assumes nothing.
 use Prim.Native.Nat.{_-_}
 use mathlib.Core.List.{_++_}
 use mathlib.Core.Path.{refl}
 use lib.ListN.{length}
 use Rattle.text.specs.Compare.{same}
-use Rattle.names.specs.Name.{nameOf}
+use Rattle.spans.specs.Span.{bytes}
 use Rattle.texts.specs.Isolation.{lowered}
 use Rattle.clamps.proofs.Streams.{Lows, lows}
 use Rattle.clamps.proofs.is_lowered.Statement.{statement}
 use Rattle.clamps.proofs.is_lowered.Tie as tie
 
 abbrev Inv-loop : tie.InvT-loop
-Inv-loop files area w x₀ i₀ x i = Lows (files ++ area) w (same (lowered (nameOf (files ++ area) x₀)) w) x i
+Inv-loop files area w x₀ i₀ x i = Lows (files ++ area) w (same (lowered (bytes (files ++ area) x₀)) w) x i
 
 abbrev μ-loop : tie.MeasureT-loop
 μ-loop files area w x₀ i₀ x i = length w - i
@@ -23,7 +23,7 @@ is-lowered-spec =
     Inv-loop
     μ-loop
     (λ c. record { keeps = refl })  -- loop-holds
-    (λ c κs. search lows)  -- next-requires
+    (λ c κs. search lows)  -- first-requires
     (λ c. search lows)  -- enum-told
     (λ c. search lows)  -- returns
     (λ c. search lows)  -- enum-known-b
@@ -33,7 +33,7 @@ is-lowered-spec =
     (λ c. search lows)  -- add-i
     (λ c. search lows)  -- loop-less
     (λ c. search lows)  -- loop-again
-    (λ c κs. search lows)  -- next-requires-2
+    (λ c κs. search lows)  -- first-requires-2
     (λ c. search lows)  -- enum-told-2
     (λ c. search lows)  -- enum-told-3
     (λ c. search lows)  -- returns-3
