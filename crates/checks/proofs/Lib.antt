@@ -1,4 +1,5 @@
 pub mod Orders
 pub mod Owns
+pub mod Soles
 pub mod Inserts
 pub mod Loops

@@ -12,6 +12,7 @@ ghost use Rattle.store.specs.Strings.{string};
 ghost use Rattle.store.specs.Order.{Sized};
 ghost use Rattle.alike.specs.Strategies.{strategyAt};
 ghost use Rattle.checks.specs.Sorted.{areSame, isEarlier, isOwn, spotIn, insertedAt, insertedIn, Known, Adds, Found, Sorts, ownIn, checkText};
+ghost use Rattle.checks.specs.Soles.{SoleSeen};
 use alike::active_of;
 use alike::alike;
 use alike::less_dotted;
@@ -31,8 +32,16 @@ use spans::span::same_spans;
 use store::state::Isolation;
 use store::state::Isolations;
 use store::stored::Stored;
+use store::stored::empty;
 use store::stored::span;
 use text::part::place;
+
+// The strategies of a domain: none, one by its name, or more.
+enum Sole {
+    None,
+    One(Stored),
+    More,
+}
 
 // Whether two strategies make the same check.
 fn is_same<'a>(files: &'a [u8], area: &'a [u8], t: Isolations, i: usize, j: usize) -> bool
@@ -90,6 +99,34 @@ fn has_own<'a>(files: &'a [u8], area: &'a [u8], t: Isolations, name: Stored, dom
         j += 1;
     }
     false
+}
+
+// Which strategies are of a domain.
+fn sole_of<'a>(files: &'a [u8], area: &'a [u8], t: Isolations, domain: Stored) -> Sole
+    requires { ⌜ Sized 32 (t .n) (t .all) ⌝ }
+    ensures { λ r. ⌜ SoleSeen (now (files .entry) ++ now (area .entry)) t domain r ⌝ }
+{
+    let m = t.n;
+    let mut found = false;
+    let mut name = empty();
+    let mut j = 0;
+    while j < m {
+        let x = t.all[j];
+        let d = x.domain;
+        j += 1;
+        if !same_spans(files, area, span(d), span(domain)) {
+            continue;
+        }
+        if found {
+            return Sole::More;
+        }
+        found = true;
+        name = x.name;
+    }
+    if found {
+        return Sole::One(name);
+    }
+    Sole::None
 }
 
 // Where the check of a strategy goes among the first n: one more than the place, 0 where it is there.
@@ -165,6 +202,7 @@ pub fn checks<'a>(
     requires { ⌜ Sorts (now files ++ now area) t (now ports) n (now found) ⌝ }
     ensures { λ r. ⌜ Found (ownIn (now (files .entry) ++ now (area .entry)) t domain (now (ports .entry)) n) n (now (found .entry)) (now (found .exit)) r ⌝ }
 {
+    let own = sole_of(files, area, t, domain);
     let mut m = 0;
     let mut k = n;
     let mut s = 32;
@@ -177,8 +215,18 @@ pub fn checks<'a>(
         let x = t.all[i];
         let name = x.name;
         s = i;
-        if !has_own(files, area, t, name, domain) {
-            continue;
+        match own {
+            Sole::None => continue,
+            Sole::One(o) => {
+                if !same_spans(files, area, span(o), span(name)) {
+                    continue;
+                }
+            }
+            Sole::More => {
+                if !has_own(files, area, t, name, domain) {
+                    continue;
+                }
+            }
         }
         m = add(files, area, t, found, m, i);
     }
