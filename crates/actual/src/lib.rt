@@ -98,7 +98,7 @@ fn port_next(q: PortAt, end: usize) -> usize
 }
 
 // Whether a part of the job is the port's name.
-fn is_port(job: &[u8], files: &[u8], area: &[u8], n: Span, port: Ref) -> bool
+fn is_port<'a>(job: &[u8], files: &'a [u8], area: &'a [u8], n: Span, port: Ref) -> bool
     ensures { λ r. ⌜ r ≡ same (spanned (now (job .entry)) n) (textOf (now (job .entry)) (now (files .entry) ++ now (area .entry)) port) ⌝ }
 {
     let name = of_job(n.at, n.len);
@@ -106,7 +106,7 @@ fn is_port(job: &[u8], files: &[u8], area: &[u8], n: Span, port: Ref) -> bool
 }
 
 // Whether a port line is the port's.
-fn is_first(job: &[u8], files: &[u8], area: &[u8], q: PortAt, port: Ref) -> bool
+fn is_first<'a>(job: &[u8], files: &'a [u8], area: &'a [u8], q: PortAt, port: Ref) -> bool
     ensures { λ r. ⌜ r ≡ isFirstAt (now (job .entry)) q (textOf (now (job .entry)) (now (files .entry) ++ now (area .entry)) port) ⌝ }
 {
     match q {
@@ -130,7 +130,7 @@ fn plain(job: &[u8], net: Span) -> Net
 }
 
 // What a connection says of the port; q is the header's name at the connection's own place.
-fn said_of(job: &[u8], files: &[u8], area: &[u8], c: ConnAt, q: PortAt, port: Ref) -> Says
+fn said_of<'a>(job: &[u8], files: &'a [u8], area: &'a [u8], c: ConnAt, q: PortAt, port: Ref) -> Says
     ensures { λ r. ⌜ saidIs (now (job .entry)) (textOf (now (job .entry)) (now (files .entry) ++ now (area .entry)) port) r ≡ saysAt (now (job .entry)) c q (textOf (now (job .entry)) (now (files .entry) ++ now (area .entry)) port) ⌝ }
 {
     match c {
@@ -172,14 +172,14 @@ fn last(star: bool) -> Net
 }
 
 // The net that a port of an instance is connected to. Its connection lines are from `next` up to `end`, its module is row `sub`.
-pub fn output_actual(
+pub fn output_actual<'a>(
     job: &[u8],
     index: &[u32],
     next: usize,
     end: usize,
     sub: usize,
-    files: &[u8],
-    area: &[u8],
+    files: &'a [u8],
+    area: &'a [u8],
     port: Ref,
 ) -> Net
     requires { ⌜ sub ≤ 128 ⌝ }

@@ -94,7 +94,14 @@ pub fn is_number(files: &[u8], area: &[u8], e: Name, n: usize) -> bool
 
 // The row of the signal of a control port: of the last one where there are several, 0 where there is none. Ports and signals stand by turns in the
 // table, n of both together.
-pub fn control(job: &[u8], files: &[u8], area: &[u8], controls: &[u32], n: usize, w: Ref) -> usize
+pub fn control<'a>(
+    job: &[u8],
+    files: &'a [u8],
+    area: &'a [u8],
+    controls: &[u32],
+    n: usize,
+    w: Ref,
+) -> usize
     requires { ⌜ n ≤ 65536 ⌝ }
     ensures { λ r. ⌜ ControlSeen (now (files .entry) ++ now (area .entry)) (now (controls .entry)) n (textOf (now (job .entry)) (now (files .entry) ++ now (area .entry)) w) r ⌝ }
 {
@@ -113,12 +120,12 @@ pub fn control(job: &[u8], files: &[u8], area: &[u8], controls: &[u32], n: usize
 }
 
 // Writes what a word of n bytes stands for, where there is room or not.
-fn put_known(
+fn put_known<'a>(
     out: &mut [u8],
     at: usize,
     job: &[u8],
-    files: &[u8],
-    area: &[u8],
+    files: &'a [u8],
+    area: &'a [u8],
     over: &[u8],
     from: usize,
     controls: &[u32],
@@ -153,12 +160,12 @@ fn full(out: &[u8], at: usize) -> bool
 }
 
 // Writes what a word of n bytes stands for.
-fn put_word(
+fn put_word<'a>(
     out: &mut [u8],
     at: usize,
     job: &[u8],
-    files: &[u8],
-    area: &[u8],
+    files: &'a [u8],
+    area: &'a [u8],
     over: &[u8],
     from: usize,
     controls: &[u32],
@@ -176,12 +183,12 @@ fn put_word(
 }
 
 // Writes a condition.
-pub fn put_condition(
+pub fn put_condition<'a>(
     out: &mut [u8],
     at: usize,
     job: &[u8],
-    files: &[u8],
-    area: &[u8],
+    files: &'a [u8],
+    area: &'a [u8],
     over: &[u8],
     from: usize,
     controls: &[u32],

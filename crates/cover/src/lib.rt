@@ -89,13 +89,13 @@ fn slash_port(
 }
 
 // One port of the instance at a place, which an element is.
-fn cover_output(
+fn cover_output<'a>(
     out: &mut [u8],
     warn: bool,
     job: &[u8],
     index: &[u32],
-    files: &[u8],
-    area: &[u8],
+    files: &'a [u8],
+    area: &'a [u8],
     ports: &mut [u32],
     c: Cover,
     s: Strategy,
@@ -115,13 +115,13 @@ fn cover_output(
 }
 
 // The output ports of the instance at a place, which an element is.
-fn cover_ports(
+fn cover_ports<'a>(
     out: &mut [u8],
     warn: bool,
     job: &[u8],
     index: &[u32],
-    files: &[u8],
-    area: &[u8],
+    files: &'a [u8],
+    area: &'a [u8],
     ports: &mut [u32],
     c: Cover,
     s: Strategy,
@@ -147,15 +147,15 @@ fn cover_ports(
 }
 
 // All output ports of the instance that an element is.
-pub fn cover_outputs(
+pub fn cover_outputs<'a>(
     out: &mut [u8],
     warn: bool,
     job: &[u8],
     index: &[u32],
     count: usize,
     k: usize,
-    files: &[u8],
-    area: &[u8],
+    files: &'a [u8],
+    area: &'a [u8],
     ports: &mut [u32],
     c: Cover,
     s: Strategy,
@@ -172,15 +172,15 @@ pub fn cover_outputs(
 }
 
 // The port that an element with a slash is: `upto` bytes stand up to its last slash and with it, `rest` is what is left.
-fn cover_port(
+fn cover_port<'a>(
     out: &mut [u8],
     warn: bool,
     job: &[u8],
     index: &[u32],
     count: usize,
     k: usize,
-    files: &[u8],
-    area: &[u8],
+    files: &'a [u8],
+    area: &'a [u8],
     ports: &mut [u32],
     c: Cover,
     s: Strategy,
@@ -205,15 +205,15 @@ fn cover_port(
 }
 
 // What an element of a strategy is: a port, or an instance.
-pub fn cover_element(
+pub fn cover_element<'a>(
     out: &mut [u8],
     warn: bool,
     job: &[u8],
     index: &[u32],
     count: usize,
     k: usize,
-    files: &[u8],
-    area: &[u8],
+    files: &'a [u8],
+    area: &'a [u8],
     ports: &mut [u32],
     c: Cover,
     s: Strategy,

@@ -18,15 +18,15 @@ use names::name::Name;
 use nametable::row;
 
 // An element: its output ports where `outputs` is set, else as it is written.
-fn cover_one(
+fn cover_one<'a>(
     out: &mut [u8],
     warn: bool,
     job: &[u8],
     index: &[u32],
     count: usize,
     k: usize,
-    files: &[u8],
-    area: &[u8],
+    files: &'a [u8],
+    area: &'a [u8],
     ports: &mut [u32],
     c: Cover,
     s: Strategy,
@@ -43,15 +43,15 @@ fn cover_one(
 }
 
 // Each of the first n elements of a table.
-pub fn cover_all(
+pub fn cover_all<'a>(
     out: &mut [u8],
     warn: bool,
     job: &[u8],
     index: &[u32],
     count: usize,
     k: usize,
-    files: &[u8],
-    area: &[u8],
+    files: &'a [u8],
+    area: &'a [u8],
     ports: &mut [u32],
     c: Cover,
     s: Strategy,

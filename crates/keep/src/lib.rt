@@ -74,7 +74,7 @@ pub fn held_part(job: &[u8], s: Part) -> Part
 }
 
 // Whether the port of row k is this one, as a text.
-fn is_row(job: &[u8], files: &[u8], area: &[u8], ports: &[u32], k: usize, p: Ref) -> bool
+fn is_row<'a>(job: &[u8], files: &'a [u8], area: &'a [u8], ports: &[u32], k: usize, p: Ref) -> bool
     requires { ⌜ k < 256 ⌝ }
     ensures { λ r. ⌜ r ≡ same (textOf (now (job .entry)) (now (files .entry) ++ now (area .entry)) p) (textOf (now (job .entry)) (now (files .entry) ++ now (area .entry)) (portRef (portRow (now (ports .entry)) k))) ⌝ }
 {
@@ -83,10 +83,10 @@ fn is_row(job: &[u8], files: &[u8], area: &[u8], ports: &[u32], k: usize, p: Ref
 }
 
 // Whether a port, which as a text is p, is isolated already.
-fn is_covered(
+fn is_covered<'a>(
     job: &[u8],
-    files: &[u8],
-    area: &[u8],
+    files: &'a [u8],
+    area: &'a [u8],
     ports: &[u32],
     n: usize,
     x: Isolated,
@@ -222,12 +222,12 @@ fn keep_net(job: &[u8], ports: &mut [u32], c: Cover, x: Isolated, n: Part) -> Co
 }
 
 // A port that a strategy aims at, with the parent's net that it has where that is of the port's own name.
-pub fn aim(
+pub fn aim<'a>(
     out: &mut [u8],
     warn: bool,
     job: &[u8],
-    files: &[u8],
-    area: &[u8],
+    files: &'a [u8],
+    area: &'a [u8],
     ports: &mut [u32],
     c: Cover,
     name: Name,

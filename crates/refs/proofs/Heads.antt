@@ -1,5 +1,5 @@
 -- Two texts compared from their ends: laws as the needs ask them. Assumes nothing.
-use Prim.Native.Nat.{ℕ, suc, _+_, _-_, _<_}
+use Prim.Native.Nat.{ℕ, suc, _+_, _-_}
 use mathlib.Core.Path.{_≡_, refl, sym, ap, ap₂, _∙_}
 use mathlib.Core.Bool.{Bool, true, false, not, _&&_}
 use mathlib.Core.List.{[], _∷_, _++_, append-nil, append-assoc}
@@ -7,18 +7,15 @@ use native.Mathlib.Omega.{arith}
 use lib.Dec.{eqb}
 use lib.ListN.{length, take, drop, getD}
 use borrow.Author.Needs.{needs}
-use borrow.Author.Tests.{eqb-true, eq-eqb, ne-eqb}
+use borrow.Author.Tests.{eqb-true}
 use Rattle.text.specs.Ascii.{Bytes}
 use Rattle.text.specs.Compare.{same}
 use Rattle.text.specs.Sames.{same-refl, same-eq, differ, both, no-true}
 use Rattle.spans.specs.Span.{bytes}
 use Rattle.out.specs.Emit.{Out, emit}
 use Rattle.out.specs.Bytewise.{flat}
-use Rattle.names.specs.Name.{nameOf, isWord, stepOf, slash}
-use Rattle.names.specs.Laws.{word-is, shorter}
-use Rattle.names.specs.declared.name.Name.{Name}
-use Rattle.names.specs.declared.name.Step.{Step}
-use Rattle.names.specs.declared.name.Step.the-variants.{Byte, End}
+use Rattle.names.specs.Name.{nameOf, isWord, slash}
+use Rattle.names.specs.Laws.{word-is}
 use Rattle.refs.specs.Text.{textOf, frontOf}
 use Rattle.refs.specs.Heads.{headRef, isBare, isPlain, oneSlash, Apart}
 use Rattle.refs.specs.declared.Ref.{Ref}
@@ -173,35 +170,5 @@ pub plain-by : (r : Ref) (p q : Bool) → p ≡ isBare r → q ≡ isWord (r .na
 plain-by r p q e f = rw (e, f)
 
 pub ruleset words = (needs, plain-by, put-word)
-
--- ---- names
-
--- t is the answer: what is left is the same or not
-pub record Same (mem : Bytes) (t : Bool) (x y : Name) : Type 0 where
-  pub keeps : same (nameOf mem x) (nameOf mem y) ≡ t
-
-module _ (mem : Bytes) (t : Bool) (x y : Name) (inv : Same mem t x y) (p q : Step) (e : nameOf mem x ≡ stepOf mem p) (f : nameOf mem y ≡ stepOf mem q) where
-  pub same-both : p ≡ End → q ≡ End → true ≡ t
-  unfolding same
-  same-both h g = rw (e, f, h, g) at (inv .keeps)
-
-  pub same-left : (b : ℕ) (u : Name) → p ≡ Byte b u → q ≡ End → false ≡ t
-  unfolding same
-  same-left b u h g = rw (e, f, h, g) at (inv .keeps)
-
-  pub same-right : (b : ℕ) (u : Name) → p ≡ End → q ≡ Byte b u → false ≡ t
-  unfolding same
-  same-right b u h g = rw (e, f, h, g) at (inv .keeps)
-
-  module _ (a b : ℕ) (u v : Name) (h : p ≡ Byte a u) (g : q ≡ Byte b v) where
-    pub same-stop : (a ≡ b → ⊥) → false ≡ t
-    unfolding same
-    same-stop z = rw (e, f, h, g, ne-eqb a b z) at (inv .keeps)
-
-    pub same-step : a ≡ b → Same mem t u v
-    unfolding same
-    same-step z = record { keeps = rw (e, f, h, g, eq-eqb a b z) at (inv .keeps) }
-
-pub ruleset names = (needs, shorter, same-both, same-left, same-right, same-stop, same-step)
 
 pub ruleset heads = (needs, bare-same, heads-same)

@@ -8,6 +8,7 @@ ghost use Rattle.out.specs.Bytewise.{flat as Bytewise·flat, becomes as Bytewis
 ghost use Rattle.names.specs.Name.{nameOf, slash};
 ghost use Rattle.refs.specs.Text.{frontOf, textOf, stepOf, Starts, noName, wholeRef, frontRef, jobRef, dotOf, asDots};
 ghost use Rattle.refs.specs.Heads.{isThere, headRef, isBare, isPlain, oneSlash, Apart};
+use names::compare::same_names;
 use names::name::Name;
 use names::name::is_word;
 use names::put::put_mapped;
@@ -211,32 +212,6 @@ fn head(r: Ref) -> Ref
     }
 }
 
-// Whether two names are the same, byte by byte.
-fn same_names(files: &[u8], area: &[u8], a: Name, b: Name) -> bool
-    ensures { λ r. ⌜ r ≡ Compare·same (nameOf (now (files .entry) ++ now (area .entry)) a) (nameOf (now (files .entry) ++ now (area .entry)) b) ⌝ }
-{
-    let mut x = a;
-    let mut y = b;
-    loop {
-        match names::name::next(files, area, x) {
-            names::name::Step::End => match names::name::next(files, area, y) {
-                names::name::Step::End => return true,
-                names::name::Step::Byte(_, _) => return false,
-            },
-            names::name::Step::Byte(p, u) => match names::name::next(files, area, y) {
-                names::name::Step::End => return false,
-                names::name::Step::Byte(q, v) => {
-                    if p != q {
-                        return false;
-                    }
-                    x = u;
-                    y = v;
-                }
-            },
-        }
-    }
-}
-
 // Whether the name is whole and nothing but a slash stands behind it.
 fn is_bare(r: Ref) -> bool
     ensures { λ b. ⌜ b ≡ isBare r ⌝ }
@@ -255,7 +230,7 @@ fn one_slash(a: bool, b: bool) -> bool
 }
 
 // Whether two texts are the same but for their parts of the job.
-fn same_heads(job: &[u8], files: &[u8], area: &[u8], a: Ref, b: Ref) -> bool
+fn same_heads<'a>(job: &[u8], files: &'a [u8], area: &'a [u8], a: Ref, b: Ref) -> bool
     ensures { λ r. ⌜ r ≡ Compare·same (textOf (now (job .entry)) (now (files .entry) ++ now (area .entry)) (headRef a)) (textOf (now (job .entry)) (now (files .entry) ++ now (area .entry)) (headRef b)) ⌝ }
 {
     if is_bare(a) & (is_bare(b) & one_slash(a.sep, b.sep)) {
@@ -285,7 +260,7 @@ fn end_apart(u: &[u8], v: &[u8]) -> bool
 }
 
 // Whether two texts are the same. Their parts of the job are looked at first: these tell most ports apart.
-pub fn same_refs(job: &[u8], files: &[u8], area: &[u8], a: Ref, b: Ref) -> bool
+pub fn same_refs<'a>(job: &[u8], files: &'a [u8], area: &'a [u8], a: Ref, b: Ref) -> bool
     ensures { λ r. ⌜ r ≡ Compare·same (textOf (now (job .entry)) (now (files .entry) ++ now (area .entry)) a) (textOf (now (job .entry)) (now (files .entry) ++ now (area .entry)) b) ⌝ }
 {
     let u = part(job, a.at, a.len);

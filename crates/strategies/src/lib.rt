@@ -45,15 +45,15 @@ fn by_number(number: usize, x: Isolation) -> Strategy
 }
 
 // A strategy with these elements, each an instance where `outputs` is set, and its line.
-pub fn in_elements(
+pub fn in_elements<'a>(
     out: &mut [u8],
     warn: bool,
     job: &[u8],
     index: &[u32],
     count: usize,
     k: usize,
-    files: &[u8],
-    area: &[u8],
+    files: &'a [u8],
+    area: &'a [u8],
     ports: &mut [u32],
     c: Cover,
     number: usize,

@@ -51,12 +51,12 @@ pub struct Warned {
 }
 
 // The warning about a word of k bytes, where there is one.
-fn word_warning(
+fn word_warning<'a>(
     out: &mut [u8],
     at: Warned,
     job: &[u8],
-    files: &[u8],
-    area: &[u8],
+    files: &'a [u8],
+    area: &'a [u8],
     over: &[u8],
     from: usize,
     top: &[u8],
@@ -95,12 +95,12 @@ fn word_warning(
 }
 
 // The warnings about a condition.
-fn condition_warnings(
+fn condition_warnings<'a>(
     out: &mut [u8],
     at: Warned,
     job: &[u8],
-    files: &[u8],
-    area: &[u8],
+    files: &'a [u8],
+    area: &'a [u8],
     over: &[u8],
     from: usize,
     top: &[u8],
