@@ -84,10 +84,10 @@ module _ (mem : Bytes) (table : List ℕ) (n : ℕ) (marks : Bytes) (k : ℕ) (i
     marks-less = omega arith
 
     module _ (y : Name) (ey : y ≡ rowName table k) (x : ℕ) (ex : x ≡ number 0 (dotted (nameOf mem y))) where
-      pub marks-room : x % 4096 < length marks
+      pub marks-room : x % 32768 < length marks
       marks-room = omega (arith, inv .long)
 
-      pub marks-next : Marks mem table n (set marks (x % 4096) 1) (k + 1)
+      pub marks-next : Marks mem table n (set marks (x % 32768) 1) (k + 1)
       marks-next =
           let o : 0 + k ≡ k = omega arith in
           let z : tableNames mem table (k + 1) ≡ tableNames mem table k ++ (nameOf mem y ∷ []) =
@@ -97,7 +97,7 @@ module _ (mem : Bytes) (table : List ℕ) (n : ℕ) (marks : Bytes) (k : ℕ) (i
           ∙ ap (λ (v : Name). namesFrom mem table 0 k ++ (nameOf mem v ∷ [])) (sym ey) in
           record {
             marked = rw (z, ex) (marked-on marks (tableNames mem table k) (nameOf mem y) (inv .marked) (inv .long));
-            long = omega (arith, inv .long, length-set marks (x % 4096) 1);
+            long = omega (arith, inv .long, length-set marks (x % 32768) 1);
             few = inv .few;
             low = omega arith;
           }
@@ -111,7 +111,7 @@ below-mem true es e m = those-mem (λ e. not (same e [])) es m .0
 below-mem false es e m = m
 
 pub mark-unset : (mem : Bytes) (table : List ℕ) (n : ℕ) (below : Bool) (e : Name) (h : ℕ) (tail marks : Bytes) → h ≡ number 0 (dotted (nameOf mem e)) → Marked marks (tableNames mem table n)
-    → (x : ℕ) → x ≡ number h tail → (b : ℕ) → b ≡ getD marks (x % 4096) 0 → b ≡ 0 → false ≡ isIn (dotted (nameOf mem e) ++ tail) (retainedPaths [] (entriesBelow below (tableNames mem table n)))
+    → (x : ℕ) → x ≡ number h tail → (b : ℕ) → b ≡ getD marks (x % 32768) 0 → b ≡ 0 → false ≡ isIn (dotted (nameOf mem e) ++ tail) (retainedPaths [] (entriesBelow below (tableNames mem table n)))
 mark-unset mem table n below e h tail marks eh m x ex b eb z =
     let path = dotted (nameOf mem e) ++ tail in
     let names = tableNames mem table n in

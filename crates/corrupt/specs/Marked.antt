@@ -10,7 +10,7 @@ use Rattle.design.specs.Paths.{dotted}
 use Rattle.pathnumber.specs.Number.{number}
 
 abbrev pub mark-count : ℕ
-mark-count = 4096
+mark-count = 32768
 
 abbrev pub markPlace : Bytes → ℕ
 markPlace p = number 0 p % mark-count

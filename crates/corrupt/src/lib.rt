@@ -286,7 +286,7 @@ pub fn domain_paths(
             b"",
         );
     }
-    let mut marks: [u8; 4096] = [0; 4096];
+    let mut marks: [u8; 32768] = [0; 32768];
     marks::mark(files, area, retained, n, &mut marks);
     marked_paths(
         job,

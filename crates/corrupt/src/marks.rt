@@ -21,7 +21,7 @@ pub fn mark(files: &[u8], area: &[u8], table: &[u32], n: usize, marks: &mut [u8]
     let mut k = 0;
     while k < n {
         let y = nametable::row(table, k);
-        let i = pathnumber::element_number(files, area, y) % 4096;
+        let i = pathnumber::element_number(files, area, y) % 32768;
         marks[i] = 1;
         k += 1;
     }
@@ -43,7 +43,7 @@ pub fn retained(
     requires { ⌜ (n ≤ 65536) × ((elen ≡ length (nameOf (now files ++ now area) e)) × ((h ≡ number 0 (dotted (nameOf (now files ++ now area) e))) × Marked (now marks) (tableNames (now files ++ now area) (now table) n))) ⌝ }
     ensures { λ r. ⌜ r ≡ isIn (dotted (nameOf (now (files .entry) ++ now (area .entry)) e) ++ now (tail .entry)) (retainedPaths [] (entriesBelow below (tableNames (now (files .entry) ++ now (area .entry)) (now (table .entry)) n))) ⌝ }
 {
-    let i = pathnumber::number_on(h, tail) % 4096;
+    let i = pathnumber::number_on(h, tail) % 32768;
     if text::part::peek(marks, i) == 0 {
         return false;
     }

@@ -3,11 +3,9 @@
 -- Assumes nothing.
 use Prim.Native.Nat.{ℕ, _+_, _-_, _≤_, _<_}
 use mathlib.Core.Path.{_≡_}
-use mathlib.Core.Bool.{Bool, true}
 use mathlib.Core.List.{List, [], _∷_}
 use lib.ListN.{length, take, drop}
-use Rattle.text.specs.Ascii.{Bytes, byte}
-use Rattle.text.specs.Scan.{upTo}
+use Rattle.text.specs.Ascii.{Bytes}
 use Rattle.fields.specs.Meant.{dimsIs, dirIs, kindIs}
 use Rattle.fields.specs.declared.Dims.{Dims}
 use Rattle.joblines.specs.Job.{Port, Decl, Conn, star, implicit, named, pos, Inst}

@@ -3,8 +3,6 @@
 ghost use mathlib.Core.Path.{_≡_};
 ghost use Prim.Native.Nat.{_+_, _≤_};
 ghost use lib.ListN.{length, drop};
-ghost use Rattle.text.specs.Ascii.{byte};
-ghost use Rattle.text.specs.Scan.{Ends, upTo};
 ghost use Rattle.fields.specs.Meant.{isSome};
 ghost use Rattle.joblines.specs.Forms.{portMeant, declMeant, instMeant, connMeant};
 ghost use Rattle.joblines.specs.Sections.{portHere, declHere, instHere, connHere};

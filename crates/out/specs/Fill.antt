@@ -5,7 +5,7 @@ use mathlib.Core.Path.{_≡_, refl}
 use mathlib.Core.Bool.{Bool, true, false, cond, _&&_, _||_}
 use mathlib.Core.List.{[], _∷_, _++_}
 use lib.Dec.{eqb, leb, ltb}
-use lib.ListN.{getD, drop}
+use lib.ListN.{getD}
 use Rattle.text.specs.Ascii.{Bytes, ascii, byte}
 use Rattle.text.specs.Classes.{within}
 use Rattle.text.specs.Scan.{before}
