@@ -3,3 +3,4 @@ pub mod Streams
 pub mod Sames
 pub mod Parted
 pub mod Written
+pub mod Cuts

@@ -16,7 +16,7 @@ use Rattle.out.specs.Bytewise.{flat, becomes, mangle, dotted, svStr, flat-two, 
 use Rattle.names.specs.Name.{named, entryOf, slash, nameOf}
 use Rattle.names.specs.declared.name.Name.{Name}
 
-span-two : (t a : Bytes) (s : Span) → bytes (t ++ a) s ≡ take (s .len) (drop (s .at) t) ++ take (s .len - (length t - s .at)) (drop (s .at - length t) a)
+pub span-two : (t a : Bytes) (s : Span) → bytes (t ++ a) s ≡ take (s .len) (drop (s .at) t) ++ take (s .len - (length t - s .at)) (drop (s .at - length t) a)
 unfolding bytes
 span-two t a s = rw (drop-two, take-two, length-drop)
 
