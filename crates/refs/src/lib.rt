@@ -213,7 +213,7 @@ fn head(r: Ref) -> Ref
 }
 
 // Whether the name is whole and nothing but a slash stands behind it.
-fn is_bare(r: Ref) -> bool
+pub fn is_bare(r: Ref) -> bool
     ensures { λ b. ⌜ b ≡ isBare r ⌝ }
 {
     let l = r.last;

@@ -7,13 +7,16 @@ ghost use Rattle.names.specs.Parts.{parts, firstPart, behind};
 ghost use Rattle.memo.specs.Known.{slots, Recalls, Asked, Begins};
 ghost use Rattle.refs.specs.Text.{textOf};
 ghost use Rattle.targets.specs.Off.{WordOff, beginsPlain, TextOff};
-ghost use Rattle.targets.specs.Seen.{SlashSeen, partIs, DownSeen, StepSeen, Sought, nowherePlace, PlaceSeen};
+ghost use Rattle.targets.specs.Seen.{SlashSeen, isName, partIs, DownSeen, StepSeen, Sought, nowherePlace, PlaceSeen};
 use jobindex::Span;
 use lines::InstAt;
 use names::name::Name;
+use names::part::next_part;
 use refs::Ref;
 use refs::Step;
+use refs::is_bare;
 use refs::next;
+use refs::whole;
 use spans::span::Got;
 use spans::span::Span as Word;
 use spans::span::first;
@@ -166,14 +169,29 @@ fn text_off(files: &[u8], area: &[u8], r: Ref, w: &[u8]) -> bool
     word_off(files, area, v, w)
 }
 
+// Whether a text is a whole name.
+fn is_name(r: Ref) -> bool
+    ensures { λ b. ⌜ b ≡ isName r ⌝ }
+{
+    is_bare(r) & ((!r.sep) & (r.len == 0))
+}
+
 // Whether the first part of a text is w.
 fn first_part(job: &[u8], files: &[u8], area: &[u8], r: Ref, w: &[u8]) -> Part
     ensures { λ p. ⌜ partIs (now (job .entry)) (now (files .entry) ++ now (area .entry)) p ≡ behind (now (w .entry)) (parts (textOf (now (job .entry)) (now (files .entry) ++ now (area .entry)) r)) ⌝ }
 {
-    if text_off(files, area, r, w) {
-        return Part::Other;
+    if !is_name(r) {
+        if text_off(files, area, r, w) {
+            return Part::Other;
+        }
+        return stepped_part(job, files, area, r, w);
     }
-    stepped_part(job, files, area, r, w)
+    let n = r.name;
+    match next_part(files, area, n, w) {
+        names::part::Part::Same(x) => Part::More(whole(x)),
+        names::part::Part::Last => Part::Last,
+        names::part::Part::Other => Part::Other,
+    }
 }
 
 // The slot of the memo for the first part of a text in module k.
