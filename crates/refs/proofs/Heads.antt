@@ -17,7 +17,8 @@ use Rattle.out.specs.Bytewise.{flat}
 use Rattle.names.specs.Name.{nameOf, isWord, slash}
 use Rattle.names.specs.Laws.{word-is}
 use Rattle.refs.specs.Text.{textOf, frontOf}
-use Rattle.refs.specs.Heads.{headRef, isBare, isPlain, oneSlash, Apart}
+use Rattle.refs.specs.Heads.{headRef, isBare, isName, isPlain, oneSlash, Apart}
+use Rattle.refs.specs.Laws.{name-is}
 use Rattle.refs.specs.declared.Ref.{Ref}
 
 -- ---- ends of the same length
@@ -119,13 +120,7 @@ module _ (job mem : Bytes) where
       rw (no-is (r .cut) (a .0), e, f, no-is (r .last .sep) (d .0), d .1, append-nil (slash (r .sep)))
 
   plain-is : (r : Ref) → isPlain r ≡ true → textOf job mem r ≡ bytes mem (r .name .word)
-  unfolding bytes
-  plain-is r h =
-      let a = both (isBare r && (not (r .sep) && eqb (r .len) 0)) (isWord (r .name)) h in
-      let b = both (isBare r) _ (a .0) in
-      let c = both (not (r .sep)) (eqb (r .len) 0) (b .1) in
-      let z : r .len ≡ 0 = eqb-true _ _ (c .1) in
-      head-part job mem r ∙ rw (bare-is r (b .0), no-is (r .sep) (c .0), z, append-nil (nameOf mem (r .name)), append-nil (nameOf mem (r .name))) (word-is mem (r .name) (a .1))
+  plain-is r h = let a = both (isName r) (isWord (r .name)) h in name-is job mem r (a .0) ∙ word-is mem (r .name) (a .1)
 
   pub put-word : (f : ℕ → Bytes) (o o′ : Out) (r : Ref) (p : Bool) → p ≡ isPlain r → p ≡ true → o′ ≡ emit o (flat f (bytes mem (r .name .word))) → o′ ≡ emit o (flat f (textOf job mem r))
   put-word f o o′ r p e h g = rw (plain-is r (sym e ∙ h)) g
@@ -166,9 +161,12 @@ module _ (job mem : Bytes) where
       pub refs-same : not s ≡ false → (r : Bool) → r ≡ same (textOf job mem (headRef a)) (textOf job mem (headRef b)) → r ≡ same (textOf job mem a) (textOf job mem b)
       refs-same h r k = k ∙ sym (ends-are n ∙ rw (sym g ∙ yes-is s h) (and-true (same (textOf job mem (headRef a)) (textOf job mem (headRef b)))))
 
-pub plain-by : (r : Ref) (p q : Bool) → p ≡ isBare r → q ≡ isWord (r .name) → (p && (not (r .sep) && eqb (r .len) 0)) && q ≡ isPlain r
+pub name-by : (r : Ref) (p : Bool) → p ≡ isBare r → p && (not (r .sep) && eqb (r .len) 0) ≡ isName r
+name-by r p e = rw e
+
+pub plain-by : (r : Ref) (p q : Bool) → p ≡ isName r → q ≡ isWord (r .name) → p && q ≡ isPlain r
 plain-by r p q e f = rw (e, f)
 
-pub ruleset words = (needs, plain-by, put-word)
+pub ruleset words = (needs, name-by, plain-by, put-word)
 
 pub ruleset heads = (needs, bare-same, heads-same)

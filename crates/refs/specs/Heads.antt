@@ -21,9 +21,13 @@ headRef r = refOf (r .name) (r .cut) (r .upto) (r .sep) (r .last) 0 0
 abbrev pub isBare : Ref → Bool
 isBare r = not (r .cut) && ((eqb (r .last .scope .len) 0 && eqb (r .last .word .len) 0) && (not (r .last .sep) && eqb (r .last .form) 0))
 
+-- the text is a whole name
+abbrev pub isName : Ref → Bool
+isName r = isBare r && (not (r .sep) && eqb (r .len) 0)
+
 -- the text is a word as it stands
 abbrev pub isPlain : Ref → Bool
-isPlain r = (isBare r && (not (r .sep) && eqb (r .len) 0)) && isWord (r .name)
+isPlain r = isName r && isWord (r .name)
 
 -- a slash in both or in none
 abbrev pub oneSlash : Bool → Bool → Bool

@@ -7,7 +7,7 @@ ghost use Rattle.out.specs.Emit.{_▸_, emit};
 ghost use Rattle.out.specs.Bytewise.{flat as Bytewise·flat, becomes as Bytewise·becomes};
 ghost use Rattle.names.specs.Name.{nameOf, slash};
 ghost use Rattle.refs.specs.Text.{frontOf, textOf, stepOf, Starts, noName, wholeRef, frontRef, jobRef, dotOf, asDots};
-ghost use Rattle.refs.specs.Heads.{isThere, headRef, isBare, isPlain, oneSlash, Apart};
+ghost use Rattle.refs.specs.Heads.{isThere, headRef, isBare, isName, isPlain, oneSlash, Apart};
 use names::compare::same_names;
 use names::name::Name;
 use names::name::is_word;
@@ -213,13 +213,20 @@ fn head(r: Ref) -> Ref
 }
 
 // Whether the name is whole and nothing but a slash stands behind it.
-pub fn is_bare(r: Ref) -> bool
+fn is_bare(r: Ref) -> bool
     ensures { λ b. ⌜ b ≡ isBare r ⌝ }
 {
     let l = r.last;
     let s = l.scope;
     let w = l.word;
     (!r.cut) & (((s.len == 0) & (w.len == 0)) & ((!l.sep) & (l.form == 0)))
+}
+
+// Whether a text is a whole name.
+pub fn is_name(r: Ref) -> bool
+    ensures { λ b. ⌜ b ≡ isName r ⌝ }
+{
+    is_bare(r) & ((!r.sep) & (r.len == 0))
 }
 
 // Whether a slash is in both or in none.
@@ -374,7 +381,7 @@ fn is_plain(r: Ref) -> bool
     ensures { λ b. ⌜ b ≡ isPlain r ⌝ }
 {
     let n = r.name;
-    (is_bare(r) & ((!r.sep) & (r.len == 0))) & is_word(n)
+    is_name(r) & is_word(n)
 }
 
 // Writes a text in one of the modes of `becomes`.

@@ -2,30 +2,26 @@
 use Prim.Native.Nat.{ℕ, _+_, _≤_, _<_, _^_}
 use native.Mathlib.Omega.{arith}
 use mathlib.Core.Path.{_≡_, sym, ap, _∙_}
-use mathlib.Core.Bool.{Bool, true, false, not, _&&_}
+use mathlib.Core.Bool.{Bool, false, not}
 use mathlib.Core.Option.{Option, none, some}
-use mathlib.Core.List.{List, [], append-nil}
-use lib.Dec.{eqb}
+use mathlib.Core.List.{List, []}
 use lib.ListN.{length, drop, getD, drop-of-length-le}
 use borrow.Author.Needs.{needs}
-use borrow.Author.Tests.{eq-eqb, ne-eqb, eqb-true, not-true, not-false}
+use borrow.Author.Tests.{eq-eqb, ne-eqb, not-false}
 use Rattle.text.specs.Ascii.{Bytes, byte}
 use Rattle.text.specs.Compare.{same}
 use Rattle.text.specs.Lists.{here}
-use Rattle.text.specs.Sames.{both}
-use Rattle.spans.specs.Span.{bytes}
 use Rattle.names.specs.Name.{nameOf}
 use Rattle.names.specs.Parts.{parts, behind, partOf, onto-first, onto-others, parts-at, parts-on, parts-none}
 use Rattle.names.specs.declared.name.Name.{Name}
 use Rattle.names.specs.declared.part.Part.{Part}
 use Rattle.names.specs.declared.part.Part.the-variants as part
 use Rattle.refs.specs.Text.{textOf, stepOf, wholeRef}
-use Rattle.refs.specs.Heads.{isBare}
-use Rattle.refs.specs.Laws.{whole-is}
+use Rattle.refs.specs.Heads.{isName}
+use Rattle.refs.specs.Laws.{whole-is, name-is}
 use Rattle.refs.specs.declared.Ref.{Ref}
 use Rattle.refs.specs.declared.Step.{Step}
 use Rattle.refs.specs.declared.Step.the-variants.{Byte, End}
-use Rattle.targets.specs.Seen.{isName}
 
 -- t is the answer: what is left of the first part is what is left of s, or not
 pub record Takes (job mem s : Bytes) (t : Option (List Bytes)) (x : Ref) (i : ℕ) : Type 0 where
@@ -70,23 +66,6 @@ pub ruleset takes = (needs, take-fits, take-short, take-last, take-early, take-e
 
 -- ---- a text that is a whole name
 
-pub name-by : (r : Ref) (b : Bool) → b ≡ isBare r → b && (not (r .sep) && eqb (r .len) 0) ≡ isName r
-name-by r b e = rw e
-
-name-is : (job mem : Bytes) (r : Ref) → isName r ≡ true → textOf job mem r ≡ nameOf mem (r .name)
-unfolding textOf nameOf bytes
-name-is job mem r h =
-    let x = both (isBare r) _ h in
-    let y = both (not (r .sep)) (eqb (r .len) 0) (x .1) in
-    let a = both (not (r .cut)) _ (x .0) in
-    let b = both (eqb (r .last .scope .len) 0 && eqb (r .last .word .len) 0) _ (a .1) in
-    let c = both (eqb (r .last .scope .len) 0) _ (b .0) in
-    let d = both (not (r .last .sep)) (eqb (r .last .form) 0) (b .1) in
-    let e : r .last .scope .len ≡ 0 = eqb-true _ _ (c .0) in
-    let f : r .last .word .len ≡ 0 = eqb-true _ _ (c .1) in
-    let z : r .len ≡ 0 = eqb-true _ _ (y .1) in
-    rw (not-true (r .cut) (a .0), not-true (r .sep) (y .0), e, f, not-true (r .last .sep) (d .0), d .1, z, append-nil)
-
 module _ (job mem : Bytes) (r : Ref) (t : Bool) (e : t ≡ isName r) (h : not t ≡ false) (w : Bytes) (p : Part) (k : partOf mem p ≡ behind w (parts (nameOf mem (r .name)))) where
   named-is : partOf mem p ≡ behind w (parts (textOf job mem r))
   named-is = k ∙ ap (λ (x : Bytes). behind w (parts x)) (sym (name-is job mem r (sym e ∙ not-false t h)))
@@ -100,4 +79,4 @@ module _ (job mem : Bytes) (r : Ref) (t : Bool) (e : t ≡ isName r) (h : not t 
   pub name-other : p ≡ part.Other → none ≡ behind w (parts (textOf job mem r))
   name-other g = sym (ap (partOf mem) g) ∙ named-is
 
-pub ruleset names = (needs, name-by, name-more, name-last, name-other)
+pub ruleset names = (needs, name-more, name-last, name-other)

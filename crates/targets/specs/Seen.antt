@@ -1,10 +1,9 @@
 -- What the answers about instances say. Assumes nothing.
 use Prim.Native.Nat.{ℕ, _+_, _≤_, _<_, _^_}
 use mathlib.Core.Path.{_≡_}
-use mathlib.Core.Bool.{Bool, true, false, cond, not, _&&_}
+use mathlib.Core.Bool.{true, false, cond}
 use mathlib.Core.List.{List, [], _∷_, _++_}
 use mathlib.Core.Option.{Option, none, some}
-use lib.Dec.{eqb}
 use lib.ListN.{length, take}
 use Rattle.text.specs.Ascii.{Bytes, ascii, byte}
 use Rattle.text.specs.Scan.{any, is}
@@ -19,8 +18,6 @@ use Rattle.names.specs.Name.{nameOf}
 use Rattle.names.specs.Parts.{parts, firstPart}
 use Rattle.names.specs.declared.name.Name.{Name}
 use Rattle.refs.specs.Text.{textOf}
-use Rattle.refs.specs.Heads.{isBare}
-use Rattle.refs.specs.declared.Ref.{Ref}
 use Rattle.texts.specs.Isolation.{lastPart, frontParts, belowParent}
 use Rattle.targets.specs.Instance.{Instance, instanceAt}
 use Rattle.targets.specs.declared.Slash.{Slash}
@@ -37,10 +34,6 @@ pub record SlashSeen (mem : Bytes) (e : Name) (r : Slash) : Type 0 where
   pub inside : r .upto ≤ length (nameOf mem e)
   pub last : nameOf mem (r .rest) ≡ lastPart (parts (nameOf mem e))
   pub slash : r .found ≡ true → (front : Bytes) × (take (r .upto) (nameOf mem e) ≡ front ++ ascii "/")
-
--- ---- the text is a whole name
-abbrev pub isName : Ref → Bool
-isName r = isBare r && (not (r .sep) && eqb (r .len) 0)
 
 -- ---- whether the first part is the one looked for: the others then
 abbrev pub partIs : Bytes → Bytes → Part → Option (List Bytes)

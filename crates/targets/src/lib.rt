@@ -7,14 +7,14 @@ ghost use Rattle.names.specs.Parts.{parts, firstPart, behind};
 ghost use Rattle.memo.specs.Known.{slots, Recalls, Asked, Begins};
 ghost use Rattle.refs.specs.Text.{textOf};
 ghost use Rattle.targets.specs.Off.{WordOff, beginsPlain, TextOff};
-ghost use Rattle.targets.specs.Seen.{SlashSeen, isName, partIs, DownSeen, StepSeen, Sought, nowherePlace, PlaceSeen};
+ghost use Rattle.targets.specs.Seen.{SlashSeen, partIs, DownSeen, StepSeen, Sought, nowherePlace, PlaceSeen};
 use jobindex::Span;
 use lines::InstAt;
 use names::name::Name;
 use names::part::next_part;
 use refs::Ref;
 use refs::Step;
-use refs::is_bare;
+use refs::is_name;
 use refs::next;
 use refs::whole;
 use spans::span::Got;
@@ -167,13 +167,6 @@ fn text_off(files: &[u8], area: &[u8], r: Ref, w: &[u8]) -> bool
     let n = r.name;
     let v = n.word;
     word_off(files, area, v, w)
-}
-
-// Whether a text is a whole name.
-fn is_name(r: Ref) -> bool
-    ensures { λ b. ⌜ b ≡ isName r ⌝ }
-{
-    is_bare(r) & ((!r.sep) & (r.len == 0))
 }
 
 // Whether the first part of a text is w.

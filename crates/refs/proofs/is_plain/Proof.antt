@@ -8,6 +8,6 @@ pub is-plain-spec : {M : Type 1} → statement M
 is-plain-spec =
     tie.close
     (tie.spec
-    (λ c κs. search needs)  -- is-bare-requires
+    (λ c κs. search needs)  -- is-name-requires
     (λ c κs. search needs)  -- is-word-requires
     (λ c. search words))  -- returns
