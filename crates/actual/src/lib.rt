@@ -1,4 +1,6 @@
 // The net of the parent that an instance's port is connected to, over the job and its index (the Rust's `output_actual`).
+#![tactic(auto)]
+
 ghost use Rattle.std.specs.Prelude.{◌≡◌, ◌≤◌, ◌||◌, ◌++◌};
 ghost use Rattle.text.specs.Compare.{same};
 ghost use Rattle.joblines.specs.Sections.{conns_in};
@@ -12,7 +14,7 @@ use lines::{ConnAt, PortAt};
 use refs::{Ref, of_job, same_refs};
 
 // A net: none that is a plain identifier, that of the port's own name, or a name of the job.
-#[derive(Drop)]
+#[derive(Clone, Copy)]
 pub enum Net {
     None,
     Own,
@@ -20,7 +22,7 @@ pub enum Net {
 }
 
 // What one connection says of a port.
-#[derive(Drop)]
+#[derive(Clone, Copy)]
 pub enum Says {
     Other,
     This(Net),

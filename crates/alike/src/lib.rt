@@ -1,4 +1,6 @@
 // Strategies by their numbers: the signal and the value at which each isolates, and whether two have the same.
+#![tactic(auto)]
+
 ghost use Rattle.std.specs.Prelude.{◌<◌, ◌≡◌, ◌++◌};
 ghost use Rattle.text.specs.Compare.{same as Compare·same, less as Compare·less};
 ghost use Rattle.spans.specs.Span.{bytes};

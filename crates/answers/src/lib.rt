@@ -1,9 +1,11 @@
 // The answer to a job: a refusal, or the lengths of four texts that fit (check 10).
+#![tactic(auto)]
+
 ghost use Rattle.std.specs.Prelude.{◌≡◌};
 ghost use Rattle.answers.specs.Answers.{refused_by, stopped_by, fitted_by, within};
 
 // Number and place of document 01, and the lengths of the four texts.
-#[derive(Drop)]
+#[derive(Clone, Copy)]
 pub struct Answer {
     pub number: usize,
     pub place: usize,
@@ -14,7 +16,7 @@ pub struct Answer {
 }
 
 // Where the three texts of generation end; or a refusal by checks 7 to 9.
-#[derive(Drop)]
+#[derive(Clone, Copy)]
 pub struct Texts {
     pub number: usize,
     pub glue: usize,
@@ -23,7 +25,7 @@ pub struct Texts {
 }
 
 // How many bytes each text has room for.
-#[derive(Drop)]
+#[derive(Clone, Copy)]
 pub struct Rooms {
     pub glue: usize,
     pub pkg: usize,

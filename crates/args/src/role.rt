@@ -8,7 +8,7 @@ use spans::span::{Got, Span, first, minus, pair};
 use text::class::is_digit;
 
 // What a word is; an option has the word behind it as its value.
-#[derive(Drop)]
+#[derive(Clone, Copy)]
 pub enum Role {
     Positional,
     Flag,

@@ -7,7 +7,7 @@ ghost use Rattle.args.specs.View.{words_from, pick, StateHere, States};
 use spans::span::{Span, is, minus, pair};
 
 // A state: whether its key is the first one, and the word behind it.
-#[derive(Drop)]
+#[derive(Clone, Copy)]
 pub enum State {
     At(bool, Span),
     None,

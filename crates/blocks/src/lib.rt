@@ -1,4 +1,6 @@
 // The wire of a domain with both supplies, and its two blocks. `text` and `ends` have the n listed paths of the domain's walk.
+#![tactic(auto)]
+
 ghost use Rattle.std.specs.Prelude.{◌≡◌, ◌++◌, ◌≤◌, length};
 ghost use Rattle.out.specs.Emit.{◌▸◌, emit};
 ghost use Rattle.names.specs.Name.{name_of};

@@ -1,4 +1,6 @@
 // The isolation checks in a domain's block: a set of strategies, sorted by the bytes of signal, active value and name.
+#![tactic(auto)]
+
 ghost use Rattle.std.specs.Prelude.{◌+◌, ◌≤◌, ◌<◌, ◌≡◌, ◌++◌, length, take};
 ghost use Rattle.text.specs.Scan.{any};
 ghost use Rattle.out.specs.Emit.{◌▸◌, emit};
@@ -24,7 +26,7 @@ use store::stored::{Stored, empty, span};
 use text::part::place;
 
 // The strategies of a domain: none, one by its name, or more.
-#[derive(Drop)]
+#[derive(Clone, Copy)]
 enum Sole {
     None,
     One(Stored),

@@ -1,4 +1,6 @@
 // A strategy's own values: the clamp value, the sense, and what it applies to. Where one is not given, its default stands.
+#![tactic(auto)]
+
 ghost use Rattle.std.specs.Prelude.{◌≡◌, ◌++◌};
 ghost use Rattle.text.specs.Ascii.{ascii};
 ghost use Rattle.text.specs.Compare.{same};

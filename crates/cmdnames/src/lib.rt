@@ -1,4 +1,6 @@
 // The thirty command names as one constant table: a name stands for its number in it.
+#![tactic(auto)]
+
 ghost use Rattle.std.specs.Prelude.{◌≡◌, ◌++◌, ◌*◌, ◌≤◌, length};
 ghost use Rattle.spans.specs.Span.{bytes, strings};
 ghost use Rattle.cmdnames.specs.Table.{number_in, Numbered};

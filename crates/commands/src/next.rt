@@ -8,7 +8,7 @@ use super::split::{Cut, split};
 use text::part::part;
 
 // The command's words: how many, where the next command begins, where the area ends; or there is no command, or a reading limit is passed.
-#[derive(Drop)]
+#[derive(Clone, Copy)]
 pub enum Next {
     Words(usize, usize, usize),
     None,

@@ -14,7 +14,7 @@ use text::part::{part, peek};
 use text::scan::find;
 
 // A word's bytes as a span, and where the area ends then; or the area is full.
-#[derive(Drop)]
+#[derive(Clone, Copy)]
 pub enum Place {
     At(Span, usize),
     Full,
@@ -118,7 +118,7 @@ fn word(
 }
 
 // All words are resolved, and the area ends here; or it is full.
-#[derive(Drop)]
+#[derive(Clone, Copy)]
 pub enum Resolved {
     Done(usize),
     Full,

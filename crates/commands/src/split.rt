@@ -7,7 +7,7 @@ use text::class::is_space;
 use text::scan::find;
 
 // A command has words (how many, and where the next command begins), there is none, or it has too many words.
-#[derive(Drop)]
+#[derive(Clone, Copy)]
 pub enum Cut {
     Words(usize, usize),
     None,

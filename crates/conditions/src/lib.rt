@@ -1,4 +1,6 @@
 // Conditions of switches (the Rust's `bool_expr`): words of letters, digits and `_` are control ports, numbers, or unknown; every other byte stays.
+#![tactic(auto)]
+
 ghost use Rattle.std.specs.Prelude.{◌≡◌, ◌++◌, ◌+◌, ◌≤◌, ◌<◌, ◌^◌, eqb, length, take, drop};
 ghost use Rattle.std.proofs.Math.Option.{none};
 ghost use Rattle.text.specs.Classes.{is_digit};

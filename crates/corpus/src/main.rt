@@ -1,4 +1,6 @@
 // Replays the stored corpus: generated jobs with the texts of the reference, boundary and malformed jobs with number and place by hand.
+#![tactic(auto)]
+
 fn main() {
     replay::replay(b"cases");
 }

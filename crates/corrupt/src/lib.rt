@@ -1,5 +1,7 @@
 // The walk over the table of a job's modules (the Rust's `corruptible`, and the part of `generate` that calls it): the paths that a domain loses, each
 // one time, in the order in which they are reached. Paths are relative to the scope.
+#![tactic(auto)]
+
 ghost use Rattle.std.specs.Prelude.{[], ◌++◌, map, ◌+◌, ◌≤◌, ◌<◌, ◌^◌, length};
 ghost use Rattle.jobindex.specs.Index.{module_row};
 ghost use Rattle.lookup.specs.Rows.{modules};

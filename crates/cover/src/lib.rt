@@ -1,4 +1,6 @@
 // The ports that a strategy covers, by its elements: the output ports of an instance, or the port behind the last slash.
+#![tactic(auto)]
+
 ghost use Rattle.std.specs.Prelude.{◌+◌, ◌-◌, ◌<◌, ◌^◌, ◌≡◌, ◌++◌, length};
 ghost use Rattle.joblines.specs.Sections.{conns_in};
 ghost use Rattle.jobindex.specs.Index.{section, module_row};
@@ -21,7 +23,7 @@ use refs::{front, no_name, of_job, whole};
 use targets::{Place, find_instance, last_slash};
 
 // A strategy by its number, with its name.
-#[derive(Drop)]
+#[derive(Clone, Copy)]
 pub struct Strategy {
     pub number: usize,
     pub name: Name,

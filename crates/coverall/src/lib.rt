@@ -1,4 +1,6 @@
 // The ports that a strategy covers, by a table of elements.
+#![tactic(auto)]
+
 ghost use Rattle.std.specs.Prelude.{◌≤◌};
 ghost use mathlib.Core.List.{◌++◌, flat_map};
 ghost use Rattle.jobindex.specs.Index.{module_row};

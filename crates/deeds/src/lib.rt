@@ -1,4 +1,6 @@
 // A deed carried out: the row that it has, and each table with the record that it makes or changes.
+#![tactic(auto)]
+
 ghost use Rattle.std.specs.Prelude.{◌+◌, ◌*◌, ◌≤◌, ◌<◌, ◌^◌, ◌≡◌, false, length, set};
 ghost use Rattle.store.specs.Rows.{Packs};
 ghost use Rattle.deeds.specs.Deeds.{refused_by, rows_by, warnings_by, row_by, deed_put};

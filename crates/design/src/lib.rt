@@ -1,1 +1,2 @@
 // Design resolution: lookups in the module lines, ports, connections and paths.
+#![tactic(auto)]

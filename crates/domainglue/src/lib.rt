@@ -1,4 +1,6 @@
 // The glue of a domain with both supplies: its wire and its blocks. `text` and `ends` have the n listed paths of the domain's walk.
+#![tactic(auto)]
+
 ghost use Rattle.std.specs.Prelude.{◌≡◌, ◌++◌, ◌≤◌, length, take};
 ghost use Rattle.out.specs.Emit.{◌▸◌, emit};
 ghost use Rattle.out.specs.Items.{each};

@@ -1,4 +1,6 @@
 // The elements of a domain and the entries of retentions, as names of a table.
+#![tactic(auto)]
+
 ghost use Rattle.std.specs.Prelude.{◌≡◌, false, ◌++◌, ◌+◌, ◌*◌, ◌≤◌, length};
 ghost use Rattle.text.specs.Compare.{same};
 ghost use Rattle.spans.specs.Span.{◌⋯◌};

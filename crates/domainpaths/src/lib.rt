@@ -1,4 +1,6 @@
 // What a domain loses: the walk from its stored elements.
+#![tactic(auto)]
+
 ghost use Rattle.std.specs.Prelude.{◌++◌, ◌≤◌, length};
 ghost use Rattle.jobindex.specs.Index.{module_row};
 ghost use Rattle.lookup.specs.Rows.{modules};
@@ -11,7 +13,7 @@ use listing::Walk;
 use store::state::Domain;
 
 // How far the walk of a domain has come, and how many elements the domain has.
-#[derive(Drop)]
+#[derive(Clone, Copy)]
 pub struct Loss {
     pub walk: Walk,
     pub elements: usize,

@@ -1,4 +1,6 @@
 // The report line of a stored domain: m elements in a table, n paths; its own retained entries go through a table.
+#![tactic(auto)]
+
 ghost use Rattle.std.specs.Prelude.{◌≡◌, ◌++◌, map, ◌≤◌, length};
 ghost use Rattle.out.specs.Emit.{◌▸◌, emit};
 ghost use Rattle.names.specs.Name.{name_of};

@@ -1,4 +1,6 @@
 // All domains, one after the other: what each loses, its glue, its report line.
+#![tactic(auto)]
+
 ghost use Rattle.std.specs.Prelude.{◌≡◌, false, ◌++◌, ◌≤◌, length};
 ghost use Rattle.out.specs.Emit.{◌▸◌};
 ghost use Rattle.nametable.specs.Table.{table_names};
@@ -16,7 +18,7 @@ use store::state::{Domain, Isolations, Retentions, State};
 use store::stored::{Below, MaybeBelow};
 
 // Where glue and report end; or a limit is passed.
-#[derive(Drop)]
+#[derive(Clone, Copy)]
 pub struct Told {
     pub over: bool,
     pub glue: usize,

@@ -1,4 +1,6 @@
 // The warnings about elements of domains that lead to no module.
+#![tactic(auto)]
+
 ghost use mathlib.Core.List.{[], ◌∷◌, ◌++◌, flat_map};
 ghost use Rattle.std.specs.Prelude.{◌≤◌, ◌<◌, ◌^◌, length, take};
 ghost use Rattle.out.specs.Emit.{◌▸◌};
@@ -18,7 +20,7 @@ use store::state::{Domain, Domains};
 use store::stored::{MaybeBelow, Stored};
 
 // Where the report ends, and how many warnings there are.
-#[derive(Drop)]
+#[derive(Clone, Copy)]
 pub struct Warned {
     pub at: usize,
     pub count: usize,

@@ -1,5 +1,7 @@
 // The module that an element leads to (the Rust's `module_at`, called for an element). The parts of the element between its slashes are
 // looked up one after the other; the empty ones are left out.
+#![tactic(auto)]
+
 ghost use Rattle.std.specs.Prelude.{◌++◌, ◌<◌, ◌≤◌};
 ghost use Rattle.names.specs.Name.{name_of};
 ghost use Rattle.names.specs.Parts.{parts, first_part};
@@ -17,7 +19,7 @@ use names::part::Part;
 use spans::span::minus;
 
 // An instance: where the lines begin whose first instance it is, its module's name, and what is left of the element behind its name.
-#[derive(Drop)]
+#[derive(Clone, Copy)]
 pub enum Down {
     None,
     Inst { at: usize, kind: Span, rest: Name },

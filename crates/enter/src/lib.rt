@@ -1,4 +1,6 @@
 // A command by its number in the table of names, where it writes neither the area nor the log nor words of states.
+#![tactic(auto)]
+
 ghost use Rattle.std.specs.Prelude.{◌++◌};
 ghost use Rattle.spans.specs.Span.{bytes, pair_at};
 ghost use Rattle.args.specs.View.{words_from};

@@ -9,7 +9,7 @@ use spans::span::{Got, Span, first};
 use tcl::join::{joined_by, joint};
 
 // The next byte of an entry and where to read on.
-#[derive(Drop)]
+#[derive(Clone, Copy)]
 pub enum Next {
     Byte(u8, usize),
     End,

@@ -10,7 +10,7 @@ use tcl::join::{joined_by, joint};
 use text::class::is_space;
 
 // An entry: where it lies in the value, whether it is quoted, and where to read on (not before a command's first word any more).
-#[derive(Drop)]
+#[derive(Clone, Copy)]
 pub enum Item {
     Entry(Span, bool, usize),
     None,

@@ -1,10 +1,12 @@
 // The fields of a job's lines: NAME, PATH, D, DIR, KIND, style, NET. Each is lent as the bytes of the field.
+#![tactic(auto)]
+
 ghost use Rattle.std.specs.Prelude.{◌≡◌};
 ghost use Rattle.fields.specs.Fields.{is_name, is_part, is_path, dims_of, dir_of, kind_of, style_of, is_net};
 ghost use Rattle.fields.specs.Meant.{dims_meant, dir_meant, kind_meant, style_meant, is_some, body_of};
 
 // D: whether there are unpacked dimensions.
-#[derive(Drop)]
+#[derive(Clone, Copy)]
 pub enum Dims {
     Zero,
     One,
@@ -12,7 +14,7 @@ pub enum Dims {
 }
 
 // DIR, of a port line.
-#[derive(Drop)]
+#[derive(Clone, Copy)]
 pub enum Dir {
     In,
     Out,
@@ -23,7 +25,7 @@ pub enum Dir {
 }
 
 // KIND, of a declaration line.
-#[derive(Drop)]
+#[derive(Clone, Copy)]
 pub enum Kind {
     Net,
     Data,

@@ -1,4 +1,6 @@
 // Paths of files: a path is joined to the loader's directory as text.
+#![tactic(auto)]
+
 ghost use Rattle.std.specs.Prelude.{◌≡◌, ◌++◌, ◌≤◌};
 ghost use Rattle.text.specs.Compare.{same};
 ghost use Rattle.spans.specs.Span.{bytes};

@@ -1,4 +1,6 @@
 // The first domain of a name.
+#![tactic(auto)]
+
 ghost use Rattle.std.specs.Prelude.{◌≤◌, ◌≡◌, ◌++◌, take};
 ghost use Rattle.store.specs.First.{first_at};
 ghost use Rattle.finddomain.specs.Named.{is_named};

@@ -1,4 +1,6 @@
 // The scope of the power intent over the job and its index (checks 7 and 8): the override, or the way to an instance of the design top.
+#![tactic(auto)]
+
 ghost use Rattle.std.specs.Prelude.{◌≡◌, ◌++◌, ◌≤◌, ◌<◌, length};
 ghost use Rattle.std.proofs.Math.Option.{some};
 ghost use Rattle.out.specs.Emit.{◌▸◌, emit};
@@ -18,7 +20,7 @@ use store::stored::Maybe;
 
 // The scope: a refusal by its number, or 0, the row of its module, and its path. The parts of the path stand in the first `len` bytes of the lent way,
 // or in the override, from `from` on.
-#[derive(Drop)]
+#[derive(Clone, Copy)]
 pub struct ScopeAt {
     pub number: usize,
     pub row: usize,

@@ -12,7 +12,7 @@ use refs::{Ref, of_job, whole};
 
 // A text: as it is where `wrap` is 0; below the scope with dots where it is 1; as a path from the top on with slashes where it is 2, with dots where it is
 // 3; the top where it is 4; else the literal of that number.
-#[derive(Drop)]
+#[derive(Clone, Copy)]
 pub struct Arg {
     pub wrap: u8,
     pub text: Ref,

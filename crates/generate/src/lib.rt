@@ -1,4 +1,6 @@
 // The three texts of generation in one pass: each limit is asked for before anything is said of the room.
+#![tactic(auto)]
+
 mod front;
 mod isolate;
 mod prefix;

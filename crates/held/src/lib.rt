@@ -1,4 +1,6 @@
 // The state between commands: a command begun, and what is back behind a load.
+#![tactic(auto)]
+
 ghost use Rattle.std.specs.Prelude.{◌≡◌, ◌+◌, ◌-◌, ◌≤◌, ◌<◌, ◌^◌};
 ghost use Rattle.held.specs.Laws.{begun_at};
 

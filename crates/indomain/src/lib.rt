@@ -1,4 +1,6 @@
 // A strategy of a known domain: its own elements, or those of the domain.
+#![tactic(auto)]
+
 ghost use Rattle.std.specs.Prelude.{true, false};
 ghost use mathlib.Core.List.{◌++◌, flat_map};
 ghost use Rattle.jobindex.specs.Index.{module_row};

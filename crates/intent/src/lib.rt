@@ -1,4 +1,6 @@
 // The power intent of a job: the job taken, and the records that its files leave (checks 2 to 6).
+#![tactic(auto)]
+
 ghost use Rattle.std.specs.Prelude.{◌≡◌, ◌≤◌, length};
 ghost use Rattle.intent.specs.Intent.{Stops, records_after, RecordsRead};
 
@@ -8,7 +10,7 @@ use scopes::go::Out;
 use store::state::State;
 
 // The header of the job and the state of its records; or a refusal, its number and its place.
-#[derive(Drop)]
+#[derive(Clone, Copy)]
 pub struct Records {
     pub taken: bool,
     pub number: usize,

@@ -1,5 +1,7 @@
 // The isolated ports as a table in lent numbers. A row has 20, which are four rows of a table of names: the element; what is left of it as the parent's
 // net; a slash, the part of the job behind it, and the net as a part of the job; the strategy, and how many bytes of the element stand before the net.
+#![tactic(auto)]
+
 ghost use Rattle.std.specs.Prelude.{◌+◌, ◌*◌, ◌≤◌, ◌<◌, ◌≡◌, ◌++◌, length, take, drop};
 ghost use Rattle.refs.specs.Heads.{Apart};
 ghost use Rattle.isolated.specs.Others.{WordsApart, one_scope, NamesApart, Other};
@@ -13,7 +15,7 @@ use text::part::{part, place};
 
 // A port that a strategy keeps. The port is the element, a slash where `sep` is set, and `len` bytes of the job from `at` on; the parent's net is the first
 // `upto` bytes of the element, then `last`, then `size` bytes of the job from `net` on.
-#[derive(Drop)]
+#[derive(Clone, Copy)]
 pub struct Isolated {
     pub strategy: usize,
     pub element: Name,

@@ -1,4 +1,6 @@
 // All strategies: those with elements first, otherwise in order of creation.
+#![tactic(auto)]
+
 ghost use Rattle.std.specs.Prelude.{◌≤◌, ◌≡◌, cond, not, [], ◌++◌, map, length, take};
 ghost use Rattle.jobindex.specs.Index.{module_row};
 ghost use Rattle.lookup.specs.Rows.{modules};

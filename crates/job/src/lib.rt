@@ -1,4 +1,6 @@
 // The job, read line by line: checks 2 to 7, and an index of its files and modules in the lent area.
+#![tactic(auto)]
+
 ghost use Rattle.std.specs.Prelude.{◌≡◌, cond, [], ◌+◌, ◌≤◌, length, drop, eqb};
 ghost use Rattle.text.specs.Classes.{is_ascii};
 ghost use Rattle.text.specs.Scan.{all};
@@ -14,7 +16,7 @@ use jobsteps::{Due, Step};
 use place::Cut;
 
 // What the job comes to: it is refused, by a number, at a line; or it is taken.
-#[derive(Drop)]
+#[derive(Clone, Copy)]
 pub enum Answer {
     Refused { number: u8, line: usize },
     Taken { head: Header },

@@ -1,4 +1,6 @@
 // The job reader for a caller in C or Rust.
+#![tactic(auto)]
+
 ghost use Rattle.std.specs.Prelude.{◌≡◌, length};
 ghost use Rattle.jobc.specs.Told.{checked};
 

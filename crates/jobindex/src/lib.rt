@@ -4,6 +4,8 @@
 //                  ends, number of instances
 //   1152 to 1279   64 names of the instances of the module that is being read, 2 numbers each: name at, name length
 // Places are offsets in the job. The lines of ports, declarations, instances and connections are not indexed: their sections are scanned.
+#![tactic(auto)]
+
 ghost use Rattle.std.specs.Prelude.{◌≡◌, ◌+◌, ◌≤◌, ◌<◌, ◌^◌, length};
 ghost use Rattle.jobindex.specs.Index.{index_size, path_at, name_at, inst_at, row_of};
 ghost use Rattle.jobindex.specs.Stores.{Fits, with_four, with_file, with_module, with_name};
@@ -11,14 +13,14 @@ ghost use Rattle.jobindex.specs.Stores.{Fits, with_four, with_file, with_module,
 pub mod look;
 
 // A part of the job: where it begins, and its length.
-#[derive(Drop)]
+#[derive(Clone, Copy)]
 pub struct Span {
     pub at: usize,
     pub len: usize,
 }
 
 // What was read beside the design, how many files and modules there are, and the rows of the start file and the top module.
-#[derive(Drop)]
+#[derive(Clone, Copy)]
 pub struct Header {
     pub top: Span,
     pub over: Span,
@@ -31,7 +33,7 @@ pub struct Header {
 
 // The module that is being read: its name and style, where its ports, declarations and instances begin, where it ends, and how many lines
 // of each kind it has (of connections: its last instance).
-#[derive(Drop)]
+#[derive(Clone, Copy)]
 pub struct Open {
     pub name: Span,
     pub style: u32,

@@ -51,7 +51,7 @@ pub fn module_line(job: &[u8], index: &[u32], line: &[u8], count: usize) -> Look
 }
 
 // What an instance line comes to, with its name's offset in the line's value and its length.
-#[derive(Drop)]
+#[derive(Clone, Copy)]
 pub enum InstLook {
     Other,
     Refused(u8),

@@ -9,21 +9,21 @@ ghost use Rattle.joblines.specs.Forms.{port_meant, decl_meant, inst_meant, InstI
 use fields::{Dims, Dir, Kind};
 
 // DIR NAME: the name stands from its offset to the end.
-#[derive(Drop)]
+#[derive(Clone, Copy)]
 pub enum PortForm {
     Bad,
     Port { dir: Dir, name: usize },
 }
 
 // KIND D NAME: the name stands from its offset to the end.
-#[derive(Drop)]
+#[derive(Clone, Copy)]
 pub enum DeclForm {
     Bad,
     Decl { kind: Kind, dims: Dims, name: usize },
 }
 
 // D NAME MODULE: the name has an offset and a length, the module stands from its offset to the end.
-#[derive(Drop)]
+#[derive(Clone, Copy)]
 pub enum InstForm {
     Bad,
     Inst {
@@ -35,7 +35,7 @@ pub enum InstForm {
 }
 
 // A connection: PORT and NET by their offsets, PORT with its length where NET follows.
-#[derive(Drop)]
+#[derive(Clone, Copy)]
 pub enum ConnForm {
     Bad,
     Star,

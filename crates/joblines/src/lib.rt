@@ -1,4 +1,6 @@
 // The lines of a job, each by itself: its form, and what it comes to beside the number of lines of its kind.
+#![tactic(auto)]
+
 ghost use Rattle.std.specs.Prelude.{◌≡◌, ◌&&◌, drop};
 ghost use Rattle.text.specs.Ascii.{ascii};
 ghost use Rattle.text.specs.Compare.{starts_with};
@@ -11,7 +13,7 @@ pub mod form;
 use form::{DeclForm, PortForm};
 
 // What a line comes to: its key is another kind's; it is refused, by a number; or it is good.
-#[derive(Drop)]
+#[derive(Clone, Copy)]
 pub enum Look {
     Other,
     Refused(u8),

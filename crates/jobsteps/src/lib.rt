@@ -1,4 +1,6 @@
 // One line of the job, by the lines that are due. A line begins at `from`, and its LF stands at `end`.
+#![tactic(auto)]
+
 ghost use Rattle.std.specs.Prelude.{◌≡◌, List, [], ◌∷◌, ℕ, ◌+◌, ◌≤◌, ◌<◌, ◌^◌, length, drop};
 ghost use Rattle.joblines.specs.Lines.{first_of, top_line, override_line, start_line, file_line, bytes_line, module_line, style_line, port_line, decl_line, inst_line, conn_line, end_line};
 ghost use Rattle.jobindex.specs.Index.{index_size, bytes_at, job_of};
@@ -11,7 +13,7 @@ use joblines::Look;
 use text::number::Num;
 
 // Which lines are due.
-#[derive(Drop)]
+#[derive(Clone, Copy)]
 pub enum Due {
     Top,
     Override,
@@ -27,7 +29,7 @@ pub enum Due {
 }
 
 // What a line comes to: it is refused, by a number; or the reading goes on, at a place.
-#[derive(Drop)]
+#[derive(Clone, Copy)]
 pub enum Step {
     Refused(u8),
     On {

@@ -1,4 +1,6 @@
 // Reads a job on standard input, and says what checks 2 to 7 say of it: `accepted`, or `refused`, the number and the line.
+#![tactic(auto)]
+
 fn main() {
     let mut job = [0u8; 65537];
     let n = io::read_full(0, &mut job);

@@ -1,4 +1,6 @@
 // All bodies joined, one behind the other, before anything is read.
+#![tactic(auto)]
+
 ghost use Rattle.joined.specs.Joined.{Room, Joined};
 
 use tcl::join::join;

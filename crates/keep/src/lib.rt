@@ -1,4 +1,6 @@
 // A port that a strategy aims at: covered already, kept in the table of isolated ports, or remarked upon in a warning.
+#![tactic(auto)]
+
 ghost use Rattle.std.specs.Prelude.{◌+◌, ◌≤◌, ◌<◌, ◌^◌, ◌≡◌, ◌++◌, length};
 ghost use Rattle.text.specs.Compare.{same};
 ghost use Rattle.design.specs.Lists.{is_in};
@@ -19,7 +21,7 @@ use refs::{Ref, no_name, same_refs};
 use spans::span::{Span, least};
 
 // How many ports are isolated, how many warnings there are, and where the text ends that is written; or more ports than allowed.
-#[derive(Drop)]
+#[derive(Clone, Copy)]
 pub struct Cover {
     pub over: bool,
     pub ports: usize,

@@ -1,4 +1,6 @@
 // The leaves for text, exported for the comparison with the Rust: tests/oracle links this crate as a static library.
+#![tactic(auto)]
+
 ghost use Rattle.std.specs.Prelude.{◌≡◌};
 ghost use Rattle.text.specs.Compare.{same, starts_with, less};
 ghost use Rattle.text.specs.Numbers.{number_of};

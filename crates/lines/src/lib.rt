@@ -1,5 +1,7 @@
 // The lines of a module in the job, one after the other: ports, declarations, instances and an instance's connections.
 // A step is from a place in the job; it passes over lines of other kinds. Names are parts of the job.
+#![tactic(auto)]
+
 ghost use Rattle.std.specs.Prelude.{◌≡◌, ◌+◌, ◌≤◌, length, drop};
 ghost use Rattle.fields.specs.Meant.{is_some};
 ghost use Rattle.joblines.specs.Forms.{port_meant, decl_meant, inst_meant, conn_meant};
@@ -11,14 +13,14 @@ use jobindex::Span;
 use joblines::form::{ConnForm, DeclForm, InstForm, PortForm};
 
 // A port line, and where the lines behind it begin.
-#[derive(Drop)]
+#[derive(Clone, Copy)]
 pub enum PortAt {
     End,
     Port { dir: Dir, name: Span, next: usize },
 }
 
 // A declaration line, and where the lines behind it begin.
-#[derive(Drop)]
+#[derive(Clone, Copy)]
 pub enum DeclAt {
     End,
     Decl {
@@ -30,7 +32,7 @@ pub enum DeclAt {
 }
 
 // An instance line, with the name of its module, and where the lines behind it begin: those of its connections.
-#[derive(Drop)]
+#[derive(Clone, Copy)]
 pub enum InstAt {
     End,
     Inst {
@@ -42,7 +44,7 @@ pub enum InstAt {
 }
 
 // A connection line, and where the lines behind it begin.
-#[derive(Drop)]
+#[derive(Clone, Copy)]
 pub enum ConnAt {
     End,
     Star { next: usize },

@@ -1,5 +1,7 @@
 // The paths that a walk lists: one behind the other in a lent text, with their ends in lent numbers; behind the ends stand flags, one of which gets the
 // walk's stamp for each listed path, by the path's number. A path is added where the list does not have it yet, within the limits of a domain's walk.
+#![tactic(auto)]
+
 ghost use Rattle.std.specs.Prelude.{◌≡◌, [], ◌∷◌, ◌++◌, ◌≤◌, length};
 ghost use Rattle.names.specs.Name.{name_of};
 ghost use Rattle.design.specs.Lists.{is_in, add_new};
@@ -13,7 +15,7 @@ use text::part::{num, part, place};
 
 // How far a walk has come: whether it passed a limit; else the modules entered, the number of its paths, where the last one ends, and the bytes
 // of all with what the scope's path adds to each; and what it sets flags to.
-#[derive(Drop)]
+#[derive(Clone, Copy)]
 pub struct Walk {
     pub over: bool,
     pub entered: usize,

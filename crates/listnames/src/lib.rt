@@ -1,4 +1,6 @@
 // The entries of a value as names in a table.
+#![tactic(auto)]
+
 ghost use Rattle.std.specs.Prelude.{◌≡◌, ◌++◌, map, ◌+◌, ◌≤◌, ◌<◌, ◌^◌, max, length};
 ghost use Rattle.out.specs.Emit.{◌▸◌, emit};
 ghost use Rattle.out.specs.Items.{joined};

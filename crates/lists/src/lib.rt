@@ -1,4 +1,6 @@
 // The values that a command reads as lists, and how many entries they have.
+#![tactic(auto)]
+
 ghost use Rattle.std.specs.Prelude.{◌≡◌, ◌++◌, ◌≤◌, ltb, length};
 ghost use Rattle.spans.specs.Span.{bytes, pair_at, strings};
 ghost use Rattle.spans.specs.Reach.{Held};
@@ -17,7 +19,7 @@ use spans::span::{Found, Span};
 use text::part::part;
 
 // The entries of all values read as lists so far; or a reading limit is passed.
-#[derive(Drop)]
+#[derive(Clone, Copy)]
 pub enum Count {
     Of(usize),
     Over,

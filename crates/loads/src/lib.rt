@@ -1,4 +1,6 @@
 // A load: what stands before it reads its file, and what is back behind it.
+#![tactic(auto)]
+
 ghost use Rattle.std.specs.Prelude.{◌≡◌};
 ghost use Rattle.store.specs.declared.state.State.{State};
 ghost use Rattle.scopes.specs.Moves.{place_of, out_of};
@@ -30,7 +32,7 @@ pub fn back(h: Head, g: Head) -> Head
 }
 
 // What a load needs before it reads: the refusal's number and its scope, and the file.
-#[derive(Drop)]
+#[derive(Clone, Copy)]
 pub struct Load {
     pub went: Went,
     pub file: usize,

@@ -1,5 +1,7 @@
 // Modules and instances by name, over the job and its index (the Rust's `instances` and `module_at`). A module is the number of its row;
 // where there may be none, it is one more than that number, and 0 is none.
+#![tactic(auto)]
+
 ghost use Rattle.std.specs.Prelude.{◌≡◌, ◌≤◌};
 ghost use Rattle.lookup.specs.Rows.{ModuleSeen, InstanceSeen, modules, below, insts_from, insts_end};
 ghost use Rattle.jobindex.specs.Index.{module_row};

@@ -1,4 +1,6 @@
 // What a command answers that writes no byte of the area.
+#![tactic(auto)]
+
 ghost use Rattle.std.specs.Prelude.{◌≡◌};
 ghost use Rattle.made.specs.Made.{brief_of};
 
@@ -8,7 +10,7 @@ use store::stored::{Below, Maybe, Stored};
 
 // What a command does to the records: nothing; a reading limit is passed; a warning about a word; a row; a record more, or one anew. A switch and a
 // port state come with the end of the words of the store.
-#[derive(Drop)]
+#[derive(Clone, Copy)]
 pub enum Deed {
     Nothing,
     Full,
@@ -30,7 +32,7 @@ pub enum Deed {
 }
 
 // What a command is told of the state: the scope, the design top, where the words of the store end, and how many records a table has.
-#[derive(Drop)]
+#[derive(Clone, Copy)]
 pub struct Brief {
     pub scope: Stored,
     pub top: Maybe,
@@ -70,7 +72,7 @@ pub fn brief_of(s: State) -> Brief
 }
 
 // The refusal's number, 0 where it is carried out; the state; and a row for the store, of kind 0 where there is none.
-#[derive(Drop)]
+#[derive(Clone, Copy)]
 pub struct Made {
     pub tag: usize,
     pub state: State,

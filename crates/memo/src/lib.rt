@@ -1,5 +1,7 @@
 // A memo of instances that lookups have found: 128 slots of two numbers, one more than the number of a module, and where lines of it begin whose first instance
 // is the first of its name. A lookup that asks it goes over a module's lines one time for each name.
+#![tactic(auto)]
+
 ghost use Rattle.std.specs.Prelude.{◌≡◌, ◌+◌, ◌*◌, ◌≤◌, ◌<◌, length, set};
 ghost use Rattle.jobindex.specs.Index.{num};
 ghost use Rattle.memo.specs.Known.{slots};

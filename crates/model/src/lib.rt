@@ -1,1 +1,2 @@
 // The records and the commands.
+#![tactic(auto)]

@@ -1,6 +1,8 @@
 // The modules of a job as a table, made once: the names that each loses, and the instances through which the walk goes down, with their modules.
 // Module k has 578 numbers from 578 k on: how many names, and 192 names of two numbers, where it stands in the job and its length; then how many
 // instances, and 64 of three numbers, those of its name and the number of its module.
+#![tactic(auto)]
+
 ghost use Rattle.std.specs.Prelude.{◌≡◌, ◌+◌, ◌≤◌};
 ghost use Rattle.jobindex.specs.Index.{num as Index·num};
 ghost use Rattle.modtable.specs.Table.{names_at, ways_at, name_in, way_name, way_place};

@@ -10,7 +10,7 @@ use spans::span::{Got, Span, first};
 
 // The bytes of the scope, a slash where `sep` is set, and the word: as it stands where `form` is 0, an entry of a list where it is 1, a quoted
 // entry where it is 2.
-#[derive(Drop)]
+#[derive(Clone, Copy)]
 pub struct Name {
     pub scope: Span,
     pub word: Span,
@@ -19,7 +19,7 @@ pub struct Name {
 }
 
 // The first byte of a name, and the name without it.
-#[derive(Drop)]
+#[derive(Clone, Copy)]
 pub enum Step {
     Byte(u8, Name),
     End,

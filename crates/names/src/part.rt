@@ -12,14 +12,14 @@ use text::part::part;
 use text::scan::find;
 
 // What is left behind the first part.
-#[derive(Drop)]
+#[derive(Clone, Copy)]
 pub enum Rest {
     More(Name),
     None,
 }
 
 // The first part is the one looked for, with what is left behind its slash, or as the last part; or it is another.
-#[derive(Drop)]
+#[derive(Clone, Copy)]
 pub enum Part {
     Same(Name),
     Last,

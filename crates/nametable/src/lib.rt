@@ -1,5 +1,7 @@
 // A table of stored names in lent numbers. A row has five: where the scope begins and its length, where the word begins and its length, and
 // twice the form, and one more where a slash stands between the two.
+#![tactic(auto)]
+
 ghost use Rattle.std.specs.Prelude.{◌≡◌, ◌+◌, ◌*◌, ◌≤◌, ◌<◌, length};
 ghost use Rattle.nametable.specs.Table.{form_at, sep_at, bit_of, tag_of, row_name, row_put, Stores};
 

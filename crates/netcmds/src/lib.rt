@@ -1,4 +1,6 @@
 // create_supply_net: a net that is known is no new one.
+#![tactic(auto)]
+
 ghost use Rattle.std.specs.Prelude.{◌++◌, ◌≡◌, ◌≤◌, take};
 ghost use Rattle.text.specs.Scan.{any};
 ghost use Rattle.names.specs.Name.{name_of};

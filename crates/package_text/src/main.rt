@@ -1,4 +1,6 @@
 // Prints the package of the job on standard input; of a job that is refused, `refused`, the number and the place.
+#![tactic(auto)]
+
 fn main() {
     let mut glue = [0u8; 65536];
     let mut pkg = [0u8; 65536];

@@ -1,4 +1,6 @@
 // The lines that the glue has for each listed path of a domain's walk. Listed paths are relative to the scope, and are written below it.
+#![tactic(auto)]
+
 ghost use Rattle.std.specs.Prelude.{◌≡◌, ◌≤◌, length};
 ghost use Rattle.out.specs.Emit.{◌▸◌, emit};
 ghost use Rattle.out.specs.Items.{each};

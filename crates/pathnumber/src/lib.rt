@@ -1,4 +1,6 @@
 // The number of a path: paths with different numbers differ. It is made piece by piece, as a path is.
+#![tactic(auto)]
+
 ghost use Rattle.std.specs.Prelude.{◌≡◌, ◌++◌};
 ghost use Rattle.names.specs.Name.{name_of};
 ghost use Rattle.design.specs.Paths.{dotted};

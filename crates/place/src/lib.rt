@@ -1,23 +1,25 @@
 // The place in the job is lent and moved on by one line, with the line count.
+#![tactic(auto)]
+
 ghost use Rattle.std.specs.Prelude.{◌≡◌};
 ghost use Rattle.place.specs.Cut.{cut_at, moved_on, In};
 
 // The offset of the next line's first byte, and how many lines were cut before it.
-#[derive(Drop)]
+#[derive(Clone, Copy)]
 pub struct Place {
     pub at: usize,
     pub line: usize,
 }
 
 // A line's first byte and its LF; or there is no LF.
-#[derive(Drop)]
+#[derive(Clone, Copy)]
 pub enum Cut {
     Line { from: usize, end: usize },
     Missing,
 }
 
 // A line that was cut off, and the place behind it.
-#[derive(Drop)]
+#[derive(Clone, Copy)]
 pub struct Moved {
     pub place: Place,
     pub cut: Cut,

@@ -1,4 +1,6 @@
 // A command that loads nothing.
+#![tactic(auto)]
+
 ghost use Rattle.std.specs.Prelude.{◌≡◌, ◌++◌};
 ghost use Rattle.out.specs.Emit.{◌▸◌, emit};
 ghost use Rattle.spans.specs.Span.{strings};

@@ -1,4 +1,6 @@
 // set, set_design_top, set_retention, set_level_shifter, and commands of no name of the table.
+#![tactic(auto)]
+
 ghost use Rattle.std.specs.Prelude.{[], ◌++◌, ◌≡◌, ◌<◌, ◌^◌};
 ghost use Rattle.text.specs.Ascii.{Bytes};
 ghost use Rattle.spans.specs.Span.{bytes, pair_at, pairs};

@@ -1,4 +1,6 @@
 // The arguments of the templates about isolated ports and their strategies.
+#![tactic(auto)]
+
 ghost use Rattle.std.specs.Prelude.{◌<◌, ◌≡◌, ◌++◌};
 ghost use Rattle.portargs.specs.Args.{net_arg, port_arg, strategy_arg, signal_arg, active_arg};
 

@@ -12,7 +12,7 @@ use fields::{Dims, Kind};
 use lines::DeclAt;
 
 // Which declarations: output ports, other ports, or `net` and `data` without dimensions.
-#[derive(Drop)]
+#[derive(Clone, Copy)]
 pub enum Pick {
     Output,
     Other,

@@ -1,5 +1,7 @@
 // The ports of a module and the names that it can lose, over the job and its index (the Rust's `output_ports`, `input_ports` and the names
 // that `corruptible` pushes). Names come one after the other, each as a part of the job; a cursor is where the next one is looked for.
+#![tactic(auto)]
+
 ghost use Rattle.std.specs.Prelude.{◌≡◌, Bool, ◌≤◌};
 ghost use Rattle.ports.specs.declared.Cursor.TheVariants as cursor;
 ghost use Rattle.ports.specs.Cursors.{ports_from, header_end, decls_from, decls_end, FreshSeen, BodyAt, CursorAt, AmongPorts, OutputSeen, CandidateSeen, InputSeen};
@@ -11,7 +13,7 @@ pub mod body;
 pub mod header;
 
 // A name, and where the next one is looked for.
-#[derive(Drop)]
+#[derive(Clone, Copy)]
 pub enum NameAt {
     End,
     Name { name: Span, next: usize },
@@ -19,7 +21,7 @@ pub enum NameAt {
 
 // Where the next name of a module is looked for: in the header (`out`: the last direction is output), among the body ports, among the
 // other declarations.
-#[derive(Drop)]
+#[derive(Clone, Copy)]
 pub enum Cursor {
     Header { at: usize, out: bool },
     Body { at: usize },
@@ -27,7 +29,7 @@ pub enum Cursor {
 }
 
 // A name, and the cursor behind it.
-#[derive(Drop)]
+#[derive(Clone, Copy)]
 pub enum Step {
     End,
     Name { name: Span, next: Cursor },

@@ -1,4 +1,6 @@
 // The processes that clamp isolated ports: one for each control signal and active value, in the order of their first ports.
+#![tactic(auto)]
+
 ghost use Rattle.std.specs.Prelude.{◌<◌, ◌≡◌, true, ◌++◌, map};
 ghost use Rattle.text.specs.Scan.{any};
 ghost use Rattle.out.specs.Emit.{◌▸◌, emit};

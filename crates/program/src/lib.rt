@@ -1,5 +1,7 @@
 // A program's two ends: a job on standard input, answered; and a text of the answer, or the refusal, printed. No contract can say what is read or
 // printed.
+#![tactic(auto)]
+
 ghost use Rattle.program.specs.Answers.{AnswersJob};
 
 use answers::Answer;

@@ -1,1 +1,2 @@
 // The files of a job, read.
+#![tactic(auto)]

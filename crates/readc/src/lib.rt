@@ -1,4 +1,6 @@
 // The reader of a job's files, exported for the comparison with the Rust. What a function answers besides its result stands behind the references.
+#![tactic(auto)]
+
 ghost use Rattle.std.specs.Prelude.{◌≡◌, ◌≤◌, length};
 ghost use Rattle.out.specs.Emit.{◌▸◌, emit};
 ghost use Rattle.jobindex.specs.Index.{index_size};

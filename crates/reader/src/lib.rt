@@ -1,1 +1,2 @@
 // The laws of the file reader's cycle.
+#![tactic(auto)]

@@ -1,4 +1,6 @@
 // A text in pieces: a stored name, or its first bytes; a slash; another stored name; and a part of the job. A text without its first byte is a text.
+#![tactic(auto)]
+
 ghost use Rattle.std.specs.Prelude.{◌≡◌, ◌++◌, take, drop};
 ghost use Rattle.text.specs.Compare.{same as Compare·same};
 ghost use Rattle.out.specs.Emit.{◌▸◌, emit};
@@ -16,7 +18,7 @@ use text::part::part;
 
 // The bytes of the name, the first `upto` of them where `cut` is set; a slash where `sep` is set; the bytes of `last`; `len` bytes of the job from `at`
 // on.
-#[derive(Drop)]
+#[derive(Clone, Copy)]
 pub struct Ref {
     pub name: Name,
     pub last: Name,
@@ -35,7 +37,7 @@ pub fn no_name() -> Name
 }
 
 // The first byte of a text, and the text without it.
-#[derive(Drop)]
+#[derive(Clone, Copy)]
 pub enum Step {
     Byte(u8, Ref),
     End,

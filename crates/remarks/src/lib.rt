@@ -1,4 +1,6 @@
 // What the report says of a strategy: its line, and the warnings why it is not simulated. Where `warn` is set the warnings are written, else the line.
+#![tactic(auto)]
+
 ghost use Rattle.std.specs.Prelude.{◌≡◌, ◌++◌};
 ghost use Rattle.text.specs.Ascii.{ascii};
 ghost use Rattle.out.specs.Emit.{◌▸◌, emit};

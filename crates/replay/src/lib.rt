@@ -2,6 +2,8 @@
 //
 // A case is a line of seven numbers of six digits, parted by one space (number, place, lengths of the job, glue, package, report and log), then the job
 // and the four texts, nothing between them.
+#![tactic(auto)]
+
 ghost use Rattle.std.specs.Prelude.{◌≤◌};
 
 use answers::Answer;
@@ -9,7 +11,7 @@ use text::compare::same;
 use text::part::{part, peek};
 
 // What is due: number and place, and the lengths of the job and of the four texts.
-#[derive(Drop)]
+#[derive(Clone, Copy)]
 struct Due {
     number: usize,
     place: usize,

@@ -1,4 +1,6 @@
 // The report lines about the scope and the shifters, and what reading remarked.
+#![tactic(auto)]
+
 ghost use Rattle.std.specs.Prelude.{◌≡◌, ◌++◌, map, ◌≤◌, length, take, drop};
 ghost use Rattle.out.specs.Emit.{◌▸◌, emit};
 ghost use Rattle.out.specs.Items.{each};

@@ -1,4 +1,6 @@
 // The scope of the power intent over the job and its index: the parts of an override, and the module that a path leads to.
+#![tactic(auto)]
+
 ghost use Rattle.std.specs.Prelude.{◌≡◌, ◌+◌, ◌≤◌, ◌<◌, length, drop};
 ghost use Rattle.text.specs.Scan.{before, Ends};
 ghost use Rattle.jobindex.specs.Index.{module_row};
@@ -11,7 +13,7 @@ ghost use Rattle.scope.specs.Parts.{parts as Parts·parts, separates, PartSeen};
 use search::Found;
 
 // A part of an override: where it begins, its length, and where the next one is looked for.
-#[derive(Drop)]
+#[derive(Clone, Copy)]
 pub enum PartAt {
     End,
     Part { at: usize, len: usize, next: usize },

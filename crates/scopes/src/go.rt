@@ -18,14 +18,14 @@ use store::state::State;
 use store::stored::{Stored, narrow, span};
 
 // The refusal's number, 0 where there is none, and the state.
-#[derive(Drop)]
+#[derive(Clone, Copy)]
 pub struct Out {
     pub tag: usize,
     pub state: State,
 }
 
 // The scope, the bytes of all scopes, and where the area ends.
-#[derive(Drop)]
+#[derive(Clone, Copy)]
 pub struct Place {
     pub scope: Stored,
     pub scopes: usize,
@@ -33,7 +33,7 @@ pub struct Place {
 }
 
 // The refusal's number, 0 where there is none, and the place.
-#[derive(Drop)]
+#[derive(Clone, Copy)]
 pub struct Went {
     pub tag: usize,
     pub place: Place,

@@ -8,7 +8,7 @@ ghost use Rattle.scopes.specs.Target.{Rooted, Targets};
 use spans::span::{Got, Span, first, is, size};
 
 // To a string that is there, or below the scope.
-#[derive(Drop)]
+#[derive(Clone, Copy)]
 pub enum Target {
     At(Span),
     Below,

@@ -1,4 +1,6 @@
 // The type search over the job and its index (the Rust's `find_by_type`): the way to the first instance of a type, and the calls counted.
+#![tactic(auto)]
+
 ghost use Rattle.std.specs.Prelude.{◌≡◌, true, false, ◌+◌, ◌-◌, ◌≤◌, ◌<◌};
 ghost use Rattle.jobindex.specs.Index.{module_row};
 ghost use Rattle.design.specs.Search.{search_from, search_type};
@@ -10,7 +12,7 @@ use lines::InstAt;
 
 // What a search comes to: whether it would make more than 4,096 calls; whether an instance was found, and the calls made so far; the
 // instance names of the way to it, parts of the job.
-#[derive(Drop)]
+#[derive(Clone, Copy)]
 pub struct Found {
     pub over: bool,
     pub found: bool,

@@ -7,21 +7,21 @@ ghost use Rattle.spans.specs.Span.{bytes, got_of, pair_at};
 use text::compare::same;
 use text::part::{num, part};
 
-#[derive(Drop)]
+#[derive(Clone, Copy)]
 pub struct Span {
     pub at: usize,
     pub len: usize,
 }
 
 // The first byte of a span, and the span without it.
-#[derive(Drop)]
+#[derive(Clone, Copy)]
 pub enum Got {
     Yes(u8, Span),
     No,
 }
 
 // A string that is looked for.
-#[derive(Drop)]
+#[derive(Clone, Copy)]
 pub enum Found {
     At(Span),
     None,

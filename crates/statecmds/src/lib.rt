@@ -1,4 +1,6 @@
 // create_power_switch, add_port_state: their states are words of the store.
+#![tactic(auto)]
+
 ghost use Rattle.std.specs.Prelude.{◌≡◌, cond, not, ◌++◌, ◌+◌, ◌<◌, length};
 ghost use Rattle.text.specs.Ascii.{ascii};
 ghost use Rattle.spans.specs.Span.{bytes, pair_at, strings};

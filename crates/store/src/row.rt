@@ -7,7 +7,7 @@ use super::stored::Stored;
 use text::part::num;
 
 // A connection of the ports of `value` to the net `name`, both below `scope`; a state of table `scope.at` with its values; or a warning about `name`.
-#[derive(Drop)]
+#[derive(Clone, Copy)]
 pub struct Row {
     pub kind: u32,
     pub scope: Stored,

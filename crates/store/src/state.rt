@@ -6,7 +6,7 @@ ghost use Rattle.store.specs.Added.{supplied_by};
 use super::stored::{Below, Maybe, MaybeBelow, Stored};
 
 // A power domain. `elements` is the unread value; `whole`: the scope itself is an element too.
-#[derive(Drop)]
+#[derive(Clone, Copy)]
 pub struct Domain {
     pub name: Stored,
     pub elements: Stored,
@@ -17,14 +17,14 @@ pub struct Domain {
 }
 
 // A supply port; without a direction it is `in`.
-#[derive(Drop)]
+#[derive(Clone, Copy)]
 pub struct Port {
     pub name: Below,
     pub direction: Maybe,
 }
 
 // A switch. The values of its ports are unread; its states are words of the store: `ons` of them from `first` on, then `offs`.
-#[derive(Drop)]
+#[derive(Clone, Copy)]
 pub struct Switch {
     pub name: Stored,
     pub domain: Maybe,
@@ -38,7 +38,7 @@ pub struct Switch {
 }
 
 // An isolation strategy; without a clamp value it is `0`, without a sense `high`.
-#[derive(Drop)]
+#[derive(Clone, Copy)]
 pub struct Isolation {
     pub name: Stored,
     pub domain: Stored,
@@ -52,7 +52,7 @@ pub struct Isolation {
     pub ground: Maybe,
 }
 
-#[derive(Drop)]
+#[derive(Clone, Copy)]
 pub struct Retention {
     pub name: Stored,
     pub domain: Stored,
@@ -60,14 +60,14 @@ pub struct Retention {
     pub elements: Stored,
 }
 
-#[derive(Drop)]
+#[derive(Clone, Copy)]
 pub struct Shifter {
     pub name: Stored,
     pub domain: Stored,
 }
 
 // A port state: `count` words of the store from `first` on.
-#[derive(Drop)]
+#[derive(Clone, Copy)]
 pub struct PortState {
     pub name: Below,
     pub first: u32,
@@ -75,21 +75,21 @@ pub struct PortState {
 }
 
 // A table; its states are rows of the store.
-#[derive(Drop)]
+#[derive(Clone, Copy)]
 pub struct Table {
     pub name: Stored,
     pub scope: Stored,
     pub supplies: Stored,
 }
 
-#[derive(Drop)]
+#[derive(Clone, Copy)]
 pub struct Head {
     pub scope: Stored,
     pub top: Maybe,
 }
 
 // What counts towards the reading limits.
-#[derive(Drop)]
+#[derive(Clone, Copy)]
 pub struct Count {
     pub commands: usize,
     pub substituted: usize,
@@ -98,7 +98,7 @@ pub struct Count {
 }
 
 // Where the area ends, the place in the log, how many rows and words there are in the store, and how many of the rows are warnings.
-#[derive(Drop)]
+#[derive(Clone, Copy)]
 pub struct Fill {
     pub end: usize,
     pub log: usize,
@@ -107,68 +107,68 @@ pub struct Fill {
     pub warnings: usize,
 }
 
-#[derive(Drop)]
+#[derive(Clone, Copy)]
 pub struct Domains {
     pub n: usize,
     pub all: [Domain; 32],
 }
 
-#[derive(Drop)]
+#[derive(Clone, Copy)]
 pub struct Nets {
     pub n: usize,
     pub all: [Below; 32],
 }
 
-#[derive(Drop)]
+#[derive(Clone, Copy)]
 pub struct Ports {
     pub n: usize,
     pub all: [Port; 32],
 }
 
-#[derive(Drop)]
+#[derive(Clone, Copy)]
 pub struct Switches {
     pub n: usize,
     pub all: [Switch; 32],
 }
 
-#[derive(Drop)]
+#[derive(Clone, Copy)]
 pub struct Isolations {
     pub n: usize,
     pub all: [Isolation; 32],
 }
 
-#[derive(Drop)]
+#[derive(Clone, Copy)]
 pub struct Retentions {
     pub n: usize,
     pub all: [Retention; 32],
 }
 
-#[derive(Drop)]
+#[derive(Clone, Copy)]
 pub struct Shifters {
     pub n: usize,
     pub all: [Shifter; 32],
 }
 
-#[derive(Drop)]
+#[derive(Clone, Copy)]
 pub struct PortStates {
     pub n: usize,
     pub all: [PortState; 32],
 }
 
-#[derive(Drop)]
+#[derive(Clone, Copy)]
 pub struct Tables {
     pub n: usize,
     pub all: [Table; 32],
 }
 
 // The variables: four numbers each.
-#[derive(Drop)]
+#[derive(Clone, Copy)]
 pub struct Variables {
     pub n: usize,
     pub all: [u32; 256],
 }
 
-#[derive(Drop)]
+#[derive(Clone, Copy)]
 pub struct State {
     pub head: Head,
     pub count: Count,

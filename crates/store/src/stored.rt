@@ -6,28 +6,28 @@ ghost use Rattle.args.specs.View.{found_end};
 use spans::span::{Found, Span};
 
 // A string: where it begins in the files followed by the area, and its length.
-#[derive(Drop)]
+#[derive(Clone, Copy)]
 pub struct Stored {
     pub at: u32,
     pub len: u32,
 }
 
 // A value that may not have been given.
-#[derive(Drop)]
+#[derive(Clone, Copy)]
 pub enum Maybe {
     Not,
     Given(Stored),
 }
 
 // A name below a scope: the scope of the moment and the word.
-#[derive(Drop)]
+#[derive(Clone, Copy)]
 pub struct Below {
     pub scope: Stored,
     pub word: Stored,
 }
 
 // A name below a scope that may not have been given.
-#[derive(Drop)]
+#[derive(Clone, Copy)]
 pub enum MaybeBelow {
     Not,
     Given(Below),

@@ -1,4 +1,6 @@
 // Stored strings written, and templates filled with them.
+#![tactic(auto)]
+
 ghost use Rattle.std.specs.Prelude.{◌≡◌, true, [], ◌++◌};
 ghost use Rattle.out.specs.Emit.{◌▸◌, emit};
 ghost use Rattle.out.specs.Fill.{isTemplate, fill};

@@ -1,4 +1,6 @@
 // A strategy with its elements: the ports that it covers, and its line.
+#![tactic(auto)]
+
 ghost use Rattle.std.specs.Prelude.{◌≤◌, ◌≡◌};
 ghost use mathlib.Core.List.{◌++◌, flat_map};
 ghost use Rattle.jobindex.specs.Index.{module_row};

@@ -8,7 +8,7 @@ ghost use Rattle.substitution.specs.Piece.{IsPiece};
 use super::written::{Run, dropped, mark, name_run};
 
 // A piece: where its name begins and how many bytes that has, how many it has altogether, and where it ends.
-#[derive(Drop)]
+#[derive(Clone, Copy)]
 pub struct Piece {
     pub from: usize,
     pub name: usize,

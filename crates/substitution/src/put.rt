@@ -15,7 +15,7 @@ use spans::area::append_span;
 use spans::span::{Found, Span, size};
 
 // What a write to the area answers: where it ended, or that it would have passed the limit.
-#[derive(Drop)]
+#[derive(Clone, Copy)]
 pub enum Put {
     Done(usize),
     Full,

@@ -7,7 +7,7 @@ ghost use Rattle.substitution.specs.Written.{written, dropped_by, IsRun};
 use text::class::is_variable;
 
 // Some bytes of a written word: how many, and where they end.
-#[derive(Drop)]
+#[derive(Clone, Copy)]
 pub struct Run {
     pub size: usize,
     pub end: usize,

@@ -1,4 +1,6 @@
 // Warnings about the on-states of switches: another port than the input's, and words that are no control port and no number.
+#![tactic(auto)]
+
 ghost use mathlib.Core.List.{[], ◌∷◌, ◌++◌, map, flat_map};
 ghost use Rattle.std.proofs.Math.Option.{none};
 ghost use Rattle.std.specs.Prelude.{◌≤◌, ◌<◌, ◌^◌, length, take};
@@ -35,7 +37,7 @@ use text::class::is_variable;
 use text::part::wide;
 
 // Where the report ends, and how many warnings there are.
-#[derive(Drop)]
+#[derive(Clone, Copy)]
 pub struct Warned {
     pub at: usize,
     pub count: usize,

@@ -1,4 +1,6 @@
 // The report lines of the tables of states.
+#![tactic(auto)]
+
 ghost use Rattle.std.specs.Prelude.{◌≡◌, ◌≤◌, length, take};
 ghost use mathlib.Core.List.{◌++◌, map, flat_map};
 ghost use Rattle.out.specs.Emit.{◌▸◌, emit};

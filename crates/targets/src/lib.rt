@@ -1,4 +1,6 @@
 // Instances below a module, found by the parts of a text: all of them, the empty ones too.
+#![tactic(auto)]
+
 ghost use Rattle.std.specs.Prelude.{◌+◌, ◌≤◌, ◌<◌, ◌^◌, ◌≡◌, ◌++◌, length};
 ghost use Rattle.names.specs.Parts.{parts, first_part, behind};
 ghost use Rattle.memo.specs.Known.{slots, Recalls, Asked, Begins};
@@ -14,7 +16,7 @@ use refs::{Ref, Step, is_name, next, whole};
 use spans::span::{Got, Span as Word, first, minus};
 
 // The last slash of a name: whether there is one, how many bytes stand up to it and with it, and what is left behind it.
-#[derive(Drop)]
+#[derive(Clone, Copy)]
 pub struct Slash {
     pub found: bool,
     pub upto: usize,
@@ -22,7 +24,7 @@ pub struct Slash {
 }
 
 // Whether the first part of a text is the one looked for: then it is the last, or there is more behind its slash.
-#[derive(Drop)]
+#[derive(Clone, Copy)]
 pub enum Part {
     Other,
     Last,
@@ -30,7 +32,7 @@ pub enum Part {
 }
 
 // An instance: where the lines begin whose first instance it is, its module's name, where its connections begin, and whether its name is the last part.
-#[derive(Drop)]
+#[derive(Clone, Copy)]
 pub enum Down {
     None,
     Last {
@@ -47,7 +49,7 @@ pub enum Down {
 }
 
 // An instance: its parent's row, where its connections begin, its module's row, and how many bytes of the text stand before its name.
-#[derive(Drop)]
+#[derive(Clone, Copy)]
 pub struct Place {
     pub found: bool,
     pub parent: usize,

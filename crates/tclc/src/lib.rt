@@ -1,4 +1,6 @@
 // The Tcl-subset reader, exported for the comparison with the Rust. What a function answers besides its number stands behind the references.
+#![tactic(auto)]
+
 ghost use Rattle.std.specs.Prelude.{◌≡◌, ◌++◌, ◌+◌, ◌≤◌, ◌<◌, ◌^◌, length, take, drop};
 ghost use Rattle.spans.specs.Area.{Wrote};
 ghost use Rattle.tcl.specs.Join.{join};

@@ -3,7 +3,7 @@ ghost use Rattle.std.specs.Prelude.{◌≡◌};
 ghost use Rattle.text.specs.Numbers.{number_of};
 
 // A decimal number within a bound, or none.
-#[derive(Drop)]
+#[derive(Clone, Copy)]
 pub enum Num {
     Of(usize),
     Bad,

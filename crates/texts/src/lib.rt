@@ -1,1 +1,2 @@
 // The texts of generation.
+#![tactic(auto)]

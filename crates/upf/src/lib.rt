@@ -1,4 +1,6 @@
 // A job answered: the ten checks of document 01, and all that was lent left as it says.
+#![tactic(auto)]
+
 ghost use Rattle.std.specs.Prelude.{◌≡◌, ◌≤◌, length};
 ghost use Rattle.findscope.specs.Scopes.{Taken, Whole};
 ghost use Rattle.setting.specs.Orders.{Orders};

@@ -1,1 +1,2 @@
 // The walk: the signals that a domain loses.
+#![tactic(auto)]

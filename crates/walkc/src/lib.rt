@@ -1,4 +1,6 @@
 // The walk, exported for the comparison with the Rust. What a function answers besides its result stands behind the references.
+#![tactic(auto)]
+
 ghost use Rattle.std.specs.Prelude.{◌≡◌, [], ◌++◌, ◌+◌, ◌*◌, ◌≤◌, length};
 ghost use Rattle.spans.specs.Span.{◌⋯◌};
 ghost use Rattle.joblines.specs.Parse.{parse};

@@ -1,1 +1,2 @@
 // What the walk's answer says of an accepted job and of its scope. Laws only.
+#![tactic(auto)]
