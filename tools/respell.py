@@ -24,7 +24,8 @@ BESIDE = {"flat-map": "flat_map_lem"}
 
 def files(*endings):
     for folder, dirs, names in os.walk("crates"):
-        dirs[:] = sorted(d for d in dirs if d != "out")
+        # what the toolchain made, and not the crate of that name
+        dirs[:] = sorted(d for d in dirs if d != "out" or folder == "crates")
         for name in sorted(names):
             if name.endswith(endings):
                 yield os.path.join(folder, name)

@@ -5,7 +5,7 @@ use Rattle.std.proofs.lemmas.Bool.{lt-leb}
 use Rattle.text.specs.Ascii.{Bytes}
 use Rattle.out.specs.Emit.{◌▸◌, emit}
 use Rattle.out.specs.Fits.{whole}
-use Rattle.out.specs.Clear.{clearedFrom, cleared-text}
+use Rattle.out.specs.Clear.{cleared_from, cleared_text}
 use Rattle.texts.specs.Setting.{Setting}
 use Rattle.texts.specs.Texts.{glue_of, package_of, report_of}
 use Rattle.answers.specs.Answer.{Lent, Answer, texts, refused, fitted, number, place, glue_text_lem, package_text, report_text, log_text, held}
@@ -89,8 +89,8 @@ module _ (l : Lent) (glue₀ glue pkg₀ pkg report₀ report log₀ log text : 
     stage_told (stop n) v = refused_told n 0 glue pkg report log r (e ∙ rw (v.0, ne_eqb n 0 v.1))
 
 -- ---- cleared behind the text
-pub cleared_held : (t buf : Bytes) (n : ℕ) → Fronts t buf n → clearedFrom n buf ≡ held (length buf) t
+pub cleared_held : (t buf : Bytes) (n : ℕ) → Fronts t buf n → cleared_from n buf ≡ held (length buf) t
 cleared_held t buf n f =
     let k : buf ≡ t ++ drop n buf = sym (take-append-drop n buf) ∙ ap (λ (p : Bytes). p ++ drop n buf) f.front in
     let z : length buf - length t ≡ length (drop n buf) = omega (arith, length-drop n buf, f.long) in
-    rw (z, f.long) (ap (clearedFrom (length t)) (rw f.long at k) ∙ cleared-text t (drop (length t) buf))
+    rw (z, f.long) (ap (cleared_from (length t)) (rw f.long at k) ∙ cleared_text t (drop (length t) buf))

@@ -2,7 +2,7 @@
 use Rattle.std.specs.Prelude.{◌≡◌, refl, List}
 use Rattle.text.specs.Ascii.{Bytes}
 use Rattle.out.specs.Emit.{Out, emit, ◌⊕◌, emit-⊕}
-use Rattle.out.specs.Fill.{turns, arg, pick, writes, format2, format3, format4, emit-fill}
+use Rattle.out.specs.Fill.{turns, arg, pick, writes, format2, format3, format4, emit_fill}
 use Rattle.out.specs.Items.{each}
 use Rattle.model.specs.Records.{Domain}
 use Rattle.texts.specs.Domains.{force, release, Check, check_line, wire, always_block, initial_block}
@@ -37,7 +37,7 @@ initial_is d paths = refl
 always_cut : (o : Out) (name rs cs fs : Bytes) → emit o (format2 "  always @(upf_pd__{a}) begin\n    if (upf_pd__{a} === 1'b1) begin\n{1}      $display(\"[UPF] Time: %0t, Power domain '{0}' is powered up\", $time);\n    end else begin\n      if ($time != 0) begin\n" name rs ⊕ cs ⊕ format2 "      end\n{1}      if ($time != 0) $display(\"[UPF] Time: %0t, Power domain '{0}' is powered down\", $time);\n    end\n  end\n" name fs)
     ≡ emit o (format4 "  always @(upf_pd__{a}) begin\n    if (upf_pd__{a} === 1'b1) begin\n{1}      $display(\"[UPF] Time: %0t, Power domain '{0}' is powered up\", $time);\n    end else begin\n      if ($time != 0) begin\n{2}      end\n{3}      if ($time != 0) $display(\"[UPF] Time: %0t, Power domain '{0}' is powered down\", $time);\n    end\n  end\n" name rs cs fs)
 unfolding emit writes turns arg pick
-always_cut o name rs cs fs = simp (emit-⊕, emit-fill)
+always_cut o name rs cs fs = simp (emit-⊕, emit_fill)
 
 -- the `always` block from its halves
 pub always_is : (o : Out) (d : Domain) (cs : List Check) (paths : List Bytes) → emit o (up_text d.name paths ⊕ each (check_line d) cs ⊕ down_text d.name paths) ≡ emit o (always_block d cs paths)

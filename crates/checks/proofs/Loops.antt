@@ -12,7 +12,7 @@ use Rattle.text.specs.Ascii.{Bytes, ascii}
 use Rattle.text.specs.Scan.{any, all}
 use Rattle.text.specs.Sames.{same_refl}
 use Rattle.out.specs.Bytewise.{dotted}
-use Rattle.out.specs.Emit.{Out, emit, emit-append}
+use Rattle.out.specs.Emit.{Out, emit, emit_append}
 use Rattle.out.specs.Fill.{fill}
 use Rattle.out.specs.Items.{each}
 use Rattle.names.specs.Name.{name_of}
@@ -209,7 +209,7 @@ module _ (g : ℕ → Bytes) (found : List ℕ) (n : ℕ) (w o : Out) (k : ℕ) 
   writes_one h i e o' f =
       let l : k < length (take n found) = rw (length-take-le n found s.long) h in
       let d : drop k (take n found) ≡ i ∷ drop (k + 1) (take n found) = drop-cons (take n found) k 0 l ∙ rw (get_or-take n found k 0 h, ← add-one k, e) in
-      record { known = s; keeps = rw f (rw (d, emit-append) at inv.keeps) }
+      record { known = s; keeps = rw f (rw (d, emit_append) at inv.keeps) }
 
   pub writes_more : k < n → k + 1 < 2 ^ 64
   writes_more h = omega (arith, s.few)

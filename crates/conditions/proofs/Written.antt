@@ -11,7 +11,7 @@ use borrow.Author.Tests.{eq-eqb, ne_eqb, le-ltb, eqb-true, eqb-false}
 use Rattle.text.specs.Ascii.{Bytes, ascii}
 use Rattle.text.specs.Classes.{is_digit, is_variable}
 use Rattle.text.specs.Scan.{all, before}
-use Rattle.out.specs.Emit.{Out, ◌▸◌, emit1, emit, emit-append}
+use Rattle.out.specs.Emit.{Out, ◌▸◌, emit1, emit, emit_append}
 use Rattle.out.specs.Bytewise.{flat, becomes, flat_same}
 use Rattle.tcl.specs.Substitution.{no_variable}
 use Rattle.names.specs.Name.{name_of, step_of}
@@ -116,7 +116,7 @@ module _ (s : Setting) (cs : List Control) (mem : Bytes) (w o : Out) (x : Name) 
       condition_over o' g =
           let v = word_text (signal_of s cs (take n (name_of mem x)) none) (take n (name_of mem x)) in
           let z : condition s cs (name_of mem x) ≡ v ++ condition s cs (drop n (name_of mem x)) = rw at_byte (condition_word s cs b (name_of mem u) (sym et ∙ d) n size_is) in
-          record { keeps = rw (g, ey) (sym (emit-append o v (condition s cs (drop n (name_of mem x)))) ∙ (rw z at inv.keeps)) }
+          record { keeps = rw (g, ey) (sym (emit_append o v (condition s cs (drop n (name_of mem x)))) ∙ (rw z at inv.keeps)) }
 
       pub condition_less : length (name_of mem y) < length (name_of mem x)
       condition_less = rw (ey, at_byte) (word_shorter s cs b (name_of mem u) (sym et ∙ d) n size_is)

@@ -5,10 +5,10 @@ use mathlib.Core.List.{List, ◌∷◌, ◌++◌, map, append-nil}
 use native.Mathlib.Omega.{arith}
 use borrow.Author.Rules.{rules}
 use Rattle.text.specs.Ascii.{Bytes, ascii}
-use Rattle.out.specs.Emit.{Out, emit, emit-append, emit-⊕, ◌⊕◌}
+use Rattle.out.specs.Emit.{Out, emit, emit_append, emit-⊕, ◌⊕◌}
 use Rattle.out.specs.Bytewise.{dotted}
-use Rattle.out.specs.Fill.{fill, filled, adds, turns, arg, pick, writes, format1, format2, emit-fill}
-use Rattle.out.specs.Items.{joined, rest, unless, join-next, join-done}
+use Rattle.out.specs.Fill.{fill, filled, adds, turns, arg, pick, writes, format1, format2, emit_fill}
+use Rattle.out.specs.Items.{joined, rest, unless, join_next, join_done}
 use Rattle.names.specs.Name.{name_of}
 use Rattle.names.specs.Laws.{dotted_map}
 use Rattle.names.specs.declared.name.Name.{Name}
@@ -20,7 +20,7 @@ use Rattle.texts.specs.Domains.{exempt}
 -- ---- an entry
 
 pub entry_is : (scope : List Bytes) (e : Bytes) (o o₁ o₂ : Out) → o₂ ≡ emit o₁ (dotted e) → o₁ ≡ emit o (scope_stem scope) → o₂ ≡ emit o (retained_path scope e)
-entry_is scope e o o₁ o₂ h g = rw (below_stem scope, emit-append, ← g, ← dotted_map e) h
+entry_is scope e o o₁ o₂ h g = rw (below_stem scope, emit_append, ← g, ← dotted_map e) h
 
 -- ---- several
 
@@ -35,10 +35,10 @@ module _ (sep mem : Bytes) (scope : List Bytes) (table : List ℕ) (n : ℕ) (w 
   pub joins_next : (x : Name) (o₁ o₂ : Out) → o₂ ≡ emit o₁ (retained_path scope (name_of mem x)) → o₁ ≡ emit o (unless k sep) → x ≡ row_name table k → k < n → Joins sep mem scope table n w o₂ (k + 1)
   joins_next x o₁ o₂ e₂ e₁ ex h =
       let z : n - k ≡ suc (n - (k + 1)) = omega arith in
-      record { keeps = join-next o o₁ o₂ w sep k 0 (retained_path scope (name_of mem x)) (map (retained_path scope) (names_from mem table (k + 1) (n - (k + 1)))) e₁ e₂ (rw (z, names_next mem table k (n - (k + 1)), ← ex) at inv.keeps) }
+      record { keeps = join_next o o₁ o₂ w sep k 0 (retained_path scope (name_of mem x)) (map (retained_path scope) (names_from mem table (k + 1) (n - (k + 1)))) e₁ e₂ (rw (z, names_next mem table k (n - (k + 1)), ← ex) at inv.keeps) }
 
   pub joins_done : n ≤ k → o ≡ w
-  joins_done h = let z : n - k ≡ 0 = omega arith in join-done o w sep k (rw (z, names_none mem table k) at inv.keeps)
+  joins_done h = let z : n - k ≡ 0 = omega arith in join_done o w sep k (rw (z, names_none mem table k) at inv.keeps)
 
 pub ruleset joins = (rules, joins_next, joins_done)
 
@@ -49,7 +49,7 @@ unfolding fill filled adds turns arg pick
 exempt_text t = rw append-nil
 
 exempt_some : (e : Bytes) (es : List Bytes) (o o₁ o₂ : Out) → o₂ ≡ emit o₁ (joined (ascii ",") (e ∷ es)) → o₁ ≡ emit o (ascii ", retention exempt: ") → o₂ ≡ emit o (exempt (e ∷ es))
-exempt_some e es o o₁ o₂ h g = h ∙ rw g (sym (ap (emit o) (exempt_text (joined (ascii ",") (e ∷ es))) ∙ emit-append o (ascii ", retention exempt: ") (joined (ascii ",") (e ∷ es))))
+exempt_some e es o o₁ o₂ h g = h ∙ rw g (sym (ap (emit o) (exempt_text (joined (ascii ",") (e ∷ es))) ∙ emit_append o (ascii ", retention exempt: ") (joined (ascii ",") (e ∷ es))))
 
 module _ (mem : Bytes) (scope : List Bytes) (table : List ℕ) (n : ℕ) where
   pub exempt_none : (o : Out) → n ≡ 0 → o ≡ emit o (exempt (map (retained_path scope) (table_names mem table n)))
@@ -68,4 +68,4 @@ pub ruleset exempts = (rules, exempt_none, exempt_all)
 
 pub signals_pieces : (o : Out) (name es power ground number : Bytes) → emit o (format1 "power domain {0}: elements [" name ⊕ es ⊕ format2 "], power {0}, ground {1}, " power ground ⊕ number ⊕ ascii " corruptible signals") ≡ emit o (fill (ascii "power domain {0}: elements [{1}], power {2}, ground {3}, {4} corruptible signals") name es power ground number)
 unfolding emit writes turns arg pick
-signals_pieces o name es power ground number = simp (emit-⊕, emit-fill)
+signals_pieces o name es power ground number = simp (emit-⊕, emit_fill)

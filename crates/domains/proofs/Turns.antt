@@ -8,7 +8,7 @@ use lib.ListN.{length, take, drop, get_or}
 use Rattle.text.specs.Ascii.{Bytes}
 use Rattle.text.specs.Sames.{no_true}
 use Rattle.text.specs.Scan.{all}
-use Rattle.out.specs.Emit.{Out, ◌▸◌, emit, emit-append}
+use Rattle.out.specs.Emit.{Out, ◌▸◌, emit, emit_append}
 use Rattle.out.specs.Items.{each}
 use Rattle.model.specs.Records.{Domain as Domainʳ}
 use Rattle.texts.specs.Setting.{Setting}
@@ -40,8 +40,8 @@ module _ (t : Setting) (ps : List Isolated) (ds : List Domainʳ) (g : Out) (glue
   left_next d rest glue' report' r' l x e =
       record {
         fits = l.fits ∙ ap (λ (b : Bool). b && all (domain_fits t) rest) (x.within e);
-        glue_is = ap (λ (w : Out). emit w (each (domain_glue t ps) rest)) (x.glue_is e) ∙ sym (emit-append (glue ▸ r.glue) (domain_glue t ps d) (each (domain_glue t ps) rest)) ∙ l.glue_is;
-        report_is = ap (λ (w : Out). emit w (each (domain_line t) rest)) (x.report_is e) ∙ sym (emit-append (report ▸ r.report) (domain_line t d) (each (domain_line t) rest)) ∙ l.report_is;
+        glue_is = ap (λ (w : Out). emit w (each (domain_glue t ps) rest)) (x.glue_is e) ∙ sym (emit_append (glue ▸ r.glue) (domain_glue t ps d) (each (domain_glue t ps) rest)) ∙ l.glue_is;
+        report_is = ap (λ (w : Out). emit w (each (domain_line t) rest)) (x.report_is e) ∙ sym (emit_append (report ▸ r.report) (domain_line t d) (each (domain_line t) rest)) ∙ l.report_is;
       }
 
   left_over : (d : Domainʳ) (rest : List Domainʳ) (glue' report' : Bytes) (r' : Told) → Left t ps ds (d ∷ rest) g glue o report r → Tells (domain_fits t d) (domain_glue t ps d) (domain_line t d) (glue ▸ r.glue) glue' (report ▸ r.report) report' r' → r'.over ≡ true → all (domain_fits t) ds ≡ false

@@ -7,8 +7,8 @@ use native.Mathlib.Omega.{arith}
 use lib.ListN.{length, take, drop, get_or, length-append}
 use borrow.Author.Rules.{rules}
 use Rattle.text.specs.Ascii.{Bytes}
-use Rattle.out.specs.Emit.{Out, emit, emit-append}
-use Rattle.out.specs.Fill.{turns, arg, pick, writes, format2, emit-fill}
+use Rattle.out.specs.Emit.{Out, emit, emit_append}
+use Rattle.out.specs.Fill.{turns, arg, pick, writes, format2, emit_fill}
 use Rattle.out.specs.Items.{each}
 use Rattle.joblines.specs.Job.{Module}
 use Rattle.jobindex.specs.Index.{module_row}
@@ -42,7 +42,7 @@ use Rattle.clamps.specs.Laws.{stored_is}
 
 missing_line : (o : Out) (name e : Bytes) → emit o (format2 "warning: power domain '{0}': element '{1}' not found\n" name e) ≡ emit o (warning_line (missing_text name e))
 unfolding emit writes turns arg pick
-missing_line o name e = simp emit-fill
+missing_line o name e = simp emit_fill
 
 one_line : (o : Out) (w : Bytes) → emit o (warning_line w) ≡ emit o (each warning_line (w ∷ []))
 unfolding each
@@ -91,7 +91,7 @@ pub record Left (w : Out) (total : ℕ) (ws : List Bytes) (o : Out) (n : ℕ) : 
 left_step : (w : Out) (total : ℕ) (xs ws : List Bytes) (most : ℕ) (o : Out) (n : ℕ) (o' : Out) (n' : ℕ) → Left w total (xs ++ ws) o n → Told most o n xs o' n' → Left w total ws o' n'
 left_step w total xs ws most o n o' n' inv t =
     record {
-      text = rw t.text (sym (emit-append o (each warning_line xs) (each warning_line ws)) ∙ (ap (emit o) (sym (each_append warning_line xs ws)) ∙ inv.text));
+      text = rw t.text (sym (emit_append o (each warning_line xs) (each warning_line ws)) ∙ (ap (emit o) (sym (each_append warning_line xs ws)) ∙ inv.text));
       count = omega (arith, inv.count, t.count, length-append xs ws);
     }
 

@@ -7,7 +7,7 @@ use mathlib.Core.List.{List, ◌∷◌}
 use lib.ListN.{length, get_or, take, drop, drop_of_length-le}
 use lib.Seq.{drop-cons, get_or-take, length-take-le}
 use Rattle.text.specs.Ascii.{Bytes}
-use Rattle.out.specs.Emit.{Out, emit, emit-append, emit-⊕}
+use Rattle.out.specs.Emit.{Out, emit, emit_append, emit-⊕}
 use Rattle.out.specs.Items.{each}
 use Rattle.dump.specs.Fields.{number_text}
 use Rattle.dump.specs.Tables.{table_text}
@@ -27,7 +27,7 @@ module _ {A : Type 0} (f : A → Bytes) (all : List A) (n : ℕ) where
         record {
           keeps =
               ap (λ (u : Out). emit u (each f (drop (i + 1) (take n all)))) e
-              ∙ sym (emit-append o (f (get_or all i d)) (each f (drop (i + 1) (take n all))))
+              ∙ sym (emit_append o (f (get_or all i d)) (each f (drop (i + 1) (take n all))))
               ∙ ap (λ (l : List A). emit o (each f l)) (sym (here d h))
               ∙ v.keeps;
         }

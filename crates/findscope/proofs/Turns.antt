@@ -15,8 +15,8 @@ use Rattle.text.specs.Ascii.{Bytes, ascii}
 use Rattle.text.specs.Compare.{same}
 use Rattle.text.specs.Sames.{differ, same_refl}
 use Rattle.out.specs.Emit.{Out, ◌▸◌, emit}
-use Rattle.out.specs.Fits.{emit-fits}
-use Rattle.out.specs.Items.{joined, rest, unless, join-next, join-done}
+use Rattle.out.specs.Fits.{emit_fits}
+use Rattle.out.specs.Items.{joined, rest, unless, join_next, join_done}
 use Rattle.spans.specs.Reach.{Held}
 use Rattle.spans.specs.Span.{bytes}
 use Rattle.spans.specs.declared.span.Span.{Span as FileSpan}
@@ -55,7 +55,7 @@ module _ (job : Bytes) (f : Found) (sep : Bytes) where
 
   module _ (w : Out) (out : Bytes) (o i : ℕ) (inv : Writes job f sep w out o i) where
     writes_over : way_from job i f ≡ [] → out ▸ o ≡ w
-    writes_over e = join-done (out ▸ o) w sep i (rw e at inv.keeps)
+    writes_over e = join_done (out ▸ o) w sep i (rw e at inv.keeps)
 
     pub writes_end : f.count ≤ i → out ▸ o ≡ w
     writes_end h = let z : f.count - i ≡ 0 = omega arith in writes_over (rw z)
@@ -71,7 +71,7 @@ module _ (job : Bytes) (f : Found) (sep : Bytes) where
         let z : f.count - i ≡ suc (f.count - (i + 1)) = omega arith in
         let n : way_from job i f ≡ x ∷ way_from job (i + 1) f = rw (z, drop-cons f.names i d (omega (arith, inv.many)), ← ex, ← add-one i) in
         record {
-          keeps = join-next (out ▸ o) (out₁ ▸ o₁) (out₂ ▸ o₂) w sep i 0 x (way_from job (i + 1) f) e₁ e₂ (rw n at inv.keeps);
+          keeps = join_next (out ▸ o) (out₁ ▸ o₁) (out₂ ▸ o₂) w sep i 0 x (way_from job (i + 1) f) e₁ e₂ (rw n at inv.keeps);
           many = inv.many;
         }
 
@@ -177,7 +177,7 @@ module _ (job : Bytes) (index : List ℕ) (head : Header) (ok : Taken job index 
         type_some z w w' n room e =
             let t = joined (ascii ".") (way_from job 0 f) in
             let l : length t ≤ length w = omega (arith, joined_short (way_from job 0 f) names_are few_names) in
-            let o : w' ▸ n ≡ (t ++ drop (length t) w) ▸ length t = e ∙ emit-fits t w l in
+            let o : w' ▸ n ≡ (t ++ drop (length t) w) ▸ length t = e ∙ emit_fits t w l in
             let en : n ≡ length t = ap (λ (x : Out). x.at) o in
             let ew : w' ≡ t ++ drop (length t) w = ap (λ (x : Out). x.bytes) o in
             let front : take n w' ≡ t = rw (ew) (take_at t (drop (length t) w) n (sym en)) in

@@ -15,8 +15,8 @@ use Rattle.text.specs.Scan.{Ends}
 use Rattle.text.specs.Sames.{both}
 use Rattle.out.specs.Emit.{Out, emit}
 use Rattle.out.specs.Bytewise.{flat, becomes, flat_same}
-use Rattle.out.specs.Fill.{pick, arg, markText, fill}
-use Rattle.out.specs.Marks.{mark-argument}
+use Rattle.out.specs.Fill.{pick, arg, mark_text, fill}
+use Rattle.out.specs.Marks.{mark_argument}
 use Rattle.format.specs.Args.{arg_of, letters, letter_of, letter_number, letter_mode, pick_arg, fixed_arg}
 use Rattle.format.specs.Laws.{empty_arg}
 use Rattle.format.specs.declared.arg.Arg.{Arg}
@@ -27,8 +27,8 @@ within_high lo hi k t = leb-true k hi (both (leb lo k) (leb k hi) t).1
 -- ---- the letter of a mark
 
 module _ (f : ℕ → Bytes) where
-  mark_none_text : ((k : ℕ) → letter_number k ≡ 5 → f k ≡ []) → (l : Bytes) → letter_number (letter_of l) ≡ 5 → markText f l ≡ markText (λ (_ : ℕ). []) l
-  unfolding markText letter_of
+  mark_none_text : ((k : ℕ) → letter_number k ≡ 5 → f k ≡ []) → (l : Bytes) → letter_number (letter_of l) ≡ 5 → mark_text f l ≡ mark_text (λ (_ : ℕ). []) l
+  unfolding mark_text letter_of
   mark_none_text n [] h = refl
   mark_none_text n (x ∷ s) h = go (eqb x 125) (eqb (get_or s 0 0) 123) h
     where
@@ -37,8 +37,8 @@ module _ (f : ℕ → Bytes) where
       go false true h = refl
       go false false h = n (get_or s 0 0) h
 
-  mark_arg_text : (l : Bytes) (k : ℕ) → k ≡ letter_of l → (letter_number k ≡ 5 → ⊥) → markText f l ≡ f k
-  unfolding markText letter_of
+  mark_arg_text : (l : Bytes) (k : ℕ) → k ≡ letter_of l → (letter_number k ≡ 5 → ⊥) → mark_text f l ≡ f k
+  unfolding mark_text letter_of
   mark_arg_text [] k e h = absurd (h (rw e))
   mark_arg_text (x ∷ s) k e h = go (eqb x 125) (eqb (get_or s 0 0) 123) e
     where
@@ -68,9 +68,9 @@ module _ (t : Bytes) (i : ℕ) where
       unfolding letter_of
       letter_here e = let q : get_or (drop (i + 1) t) 0 0 ≡ k = head_is t (i + 1) ∙ sym g in rw (here t i h, ne_eqb (get_or t i 0) 125 n, q, ne_eqb k 123 e)
 
-      pub mark_nothing : (k ≡ 123 → ⊥) → (o : Out) → o ≡ emit o (markText (λ (_ : ℕ). []) (drop i t))
+      pub mark_nothing : (k ≡ 123 → ⊥) → (o : Out) → o ≡ emit o (mark_text (λ (_ : ℕ). []) (drop i t))
       unfolding emit
-      mark_nothing e o = mark-argument o o (λ (_ : ℕ). []) t i h n k g e refl
+      mark_nothing e o = mark_argument o o (λ (_ : ℕ). []) t i h n k g e refl
 
 pub ruleset reads = (rules, letter_past, letter_shut, letter_doubled, letter_here)
 
@@ -155,10 +155,10 @@ module _ (job mem : Bytes) (scope : List Bytes) (top : Bytes) (a b c d e : Arg) 
   -- what the mark at z, where a run ends, adds: k is its letter, j the number and m the mode of that
 
   module _ (t : Bytes) (u v z k j : ℕ) (o o' : Out) (run : Ends u v z) (ek : k ≡ letter_of (drop z t)) (ej : j ≡ letter_number k) where
-    pub turn_none : o' ≡ emit o (markText (λ (_ : ℕ). []) (drop z t)) → j ≡ 5 → o' ≡ emit o (markText (letters job mem scope top a b c d e) (drop z t))
+    pub turn_none : o' ≡ emit o (mark_text (λ (_ : ℕ). []) (drop z t)) → j ≡ 5 → o' ≡ emit o (mark_text (letters job mem scope top a b c d e) (drop z t))
     turn_none w h = w ∙ ap (emit o) (sym (mark_none_text (letters job mem scope top a b c d e) none_is (drop z t) (rw ek at (sym ej ∙ h))))
 
-    pub turn_arg : (j ≡ 5 → ⊥) → (m : ℕ) → m ≡ letter_mode k → (p : Arg) → o' ≡ emit o (flat (becomes m) (arg_of job mem scope top p)) → p ≡ pick_arg j a b c d e → o' ≡ emit o (markText (letters job mem scope top a b c d e) (drop z t))
+    pub turn_arg : (j ≡ 5 → ⊥) → (m : ℕ) → m ≡ letter_mode k → (p : Arg) → o' ≡ emit o (flat (becomes m) (arg_of job mem scope top p)) → p ≡ pick_arg j a b c d e → o' ≡ emit o (mark_text (letters job mem scope top a b c d e) (drop z t))
     turn_arg h m em p w g =
         let x : letter_number k ≡ 5 → ⊥ = λ q. h (ej ∙ q) in
         w ∙ ap (emit o) (rw (em, g, ej) (sym (arg_is k x)) ∙ sym (mark_arg_text (letters job mem scope top a b c d e) (drop z t) k ek x))

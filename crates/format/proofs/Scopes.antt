@@ -10,8 +10,8 @@ use Rattle.text.specs.Ascii.{Bytes, ascii, byte}
 use Rattle.text.specs.Compare.{same}
 use Rattle.text.specs.Lists.{here}
 use Rattle.text.specs.Scan.{split_at}
-use Rattle.out.specs.Emit.{Out, emit, emit-append}
-use Rattle.out.specs.Bytewise.{flat, dotted, dottedByte, flat_append, flat-two}
+use Rattle.out.specs.Emit.{Out, emit, emit_append}
+use Rattle.out.specs.Bytewise.{flat, dotted, dotted_byte, flat_append, flat_two}
 use Rattle.out.specs.Items.{each}
 use Rattle.names.specs.Laws.{dotted_map, dotted_none}
 use Rattle.design.specs.Lists.{those}
@@ -31,7 +31,7 @@ use Rattle.refs.specs.Heads.{is_there}
 -- a byte in front
 flat_first : (f : ℕ → Bytes) (o o₁ o₂ : Out) (c : ℕ) (t : Bytes) → o₂ ≡ emit o₁ (flat f t) → o₁ ≡ emit o (f c) → o₂ ≡ emit o (flat f (c ∷ t))
 unfolding flat
-flat_first f o o₁ o₂ c t h g = rw (emit-append, ← g) h
+flat_first f o o₁ o₂ c t h g = rw (emit_append, ← g) h
 
 led_cons : (sep : ℕ) (d : Bool) (n : Bytes) (ns : List Bytes) → led sep d (n ∷ ns) ≡ (sep ∷ as_dots d n) ++ led sep d ns
 unfolding each
@@ -45,7 +45,7 @@ pub record Slices (f : ℕ → Bytes) (d : Bool) (p : Bytes) (w o : Out) (i : �
 module _ (f : ℕ → Bytes) (d : Bool) (p : Bytes) (w o : Out) (i : ℕ) (inv : Slices f d p w o i) where
   pub slice_next : (c : ℕ) (o' : Out) → o' ≡ emit o (f c) → c ≡ dot_of d (get_or p i 0) → i < length p → Slices f d p w o' (i + 1)
   unfolding flat
-  slice_next c o' g k h = record { keeps = rw g (rw (here p i h, dots_step d (get_or p i 0) (drop (i + 1) p), ← k, emit-append) at inv.keeps) }
+  slice_next c o' g k h = record { keeps = rw g (rw (here p i h, dots_step d (get_or p i 0) (drop (i + 1) p), ← k, emit_append) at inv.keeps) }
 
   pub slice_done : length p ≤ i → o ≡ w
   unfolding flat emit
@@ -81,7 +81,7 @@ module _ (over : Bytes) (i : ℕ) (r : PartAt) (seen : PartSeen over i r) where
     lead_step a l next p o₁ o₂ h g e k =
         let q : led sep d (parts over i) ≡ (sep ∷ as_dots d p) ++ led sep d (parts over next) = rw (k, one_part a l next h) (led_cons sep d (take l (drop a over)) (parts over next)) in
         let z : o₂ ≡ emit o (flat f (sep ∷ as_dots d p)) = flat_first f o o₁ o₂ sep (as_dots d p) g e in
-        record { keeps = rw z (sym (ap (emit o) (flat_append f (sep ∷ as_dots d p) (led sep d (parts over next))) ∙ emit-append o (flat f (sep ∷ as_dots d p)) (flat f (led sep d (parts over next)))) ∙ (rw q at inv.keeps)) }
+        record { keeps = rw z (sym (ap (emit o) (flat_append f (sep ∷ as_dots d p) (led sep d (parts over next))) ∙ emit_append o (flat f (sep ∷ as_dots d p)) (flat f (led sep d (parts over next)))) ∙ (rw q at inv.keeps)) }
 
   -- whether there is one
   pub there_none : r ≡ part.End → false ≡ is_there (parts over i)
@@ -104,7 +104,7 @@ module _ (f : ℕ → Bytes) (over : Bytes) (i : ℕ) (r : PartAt) (seen : PartS
 
   pub path_more : (a l next : ℕ) (p : Bytes) (o₁ o₂ : Out) → r ≡ part.Part a l next → o₂ ≡ emit o₁ (flat f (led (byte ".") false (parts over next))) → o₁ ≡ emit o (flat f (as_dots false p)) → p ≡ take l (drop a over) → o₂ ≡ emit o (flat f (scope_path (parts over i)))
   path_more a l next p o₁ o₂ h g e k =
-      rw (one_part over i r seen a l next h, ← k, flat_each (λ (m : Bytes). byte "." ∷ m) (parts over next)) (flat-two f o o₁ o₂ p (led (byte ".") false (parts over next)) g e)
+      rw (one_part over i r seen a l next h, ← k, flat_each (λ (m : Bytes). byte "." ∷ m) (parts over next)) (flat_two f o o₁ o₂ p (led (byte ".") false (parts over next)) g e)
 
 pub ruleset leads = (rules, part_less, lead_end, lead_step, there_none, there_one, path_end, path_more)
 
@@ -130,17 +130,17 @@ module _ (f : ℕ → Bytes) (over : Bytes) (from : ℕ) (t : Bytes) (o o₁ o�
       element_is (scope_path (parts over from)) t (parts over from) refl ∙ rw (q, ← g, k)
 
   pub hier_dot : (o₂ : Out) → o₃ ≡ emit o₂ (flat f (as_dots true t)) → o₂ ≡ emit o₁ (f (byte ".")) → x && y ≡ true → o₃ ≡ emit o (flat f (element_path (parts over from) t))
-  hier_dot o₂ e₃ e₂ k = rw (hier_is true k) (flat-two f o o₁ o₃ (scope_path (parts over from)) (byte "." ∷ as_dots true t) (flat_first f o₁ o₂ o₃ (byte ".") (as_dots true t) e₃ e₂) e₁)
+  hier_dot o₂ e₃ e₂ k = rw (hier_is true k) (flat_two f o o₁ o₃ (scope_path (parts over from)) (byte "." ∷ as_dots true t) (flat_first f o₁ o₂ o₃ (byte ".") (as_dots true t) e₃ e₂) e₁)
 
   pub hier_bare : o₃ ≡ emit o₁ (flat f (as_dots true t)) → x && y ≡ false → o₃ ≡ emit o (flat f (element_path (parts over from) t))
-  hier_bare e₃ k = rw (hier_is false k) (flat-two f o o₁ o₃ (scope_path (parts over from)) (as_dots true t) e₃ e₁)
+  hier_bare e₃ k = rw (hier_is false k) (flat_two f o o₁ o₃ (scope_path (parts over from)) (as_dots true t) e₃ e₁)
 
 pub ruleset hiers = (rules, hier_dot, hier_bare)
 
 -- ---- a name below the scope, from the top on
 
 dots_append : (d : Bool) (p q : Bytes) → as_dots d (p ++ q) ≡ as_dots d p ++ as_dots d q
-dots_append true p q = flat_append dottedByte p q
+dots_append true p q = flat_append dotted_byte p q
 dots_append false p q = refl
 
 dots_led : (d : Bool) (ns : List Bytes) → as_dots d (each (λ (n : Bytes). ascii "/" ++ n) ns) ≡ led (dot_of d (byte "/")) d ns
@@ -163,7 +163,7 @@ module _ (f : ℕ → Bytes) (d : Bool) (scope : List Bytes) (t : Bytes) (o o₁
   pub below_more : (s' : ℕ) (o₂ o₃ : Out) → o₃ ≡ emit o₂ (flat f (as_dots d t)) → o₂ ≡ emit o₁ (f s') → s' ≡ dot_of d (byte "/") → y ≡ true → o₃ ≡ emit o (flat f (as_dots d (behind_top scope t)))
   below_more s' o₂ o₃ e₃ e₂ q' k =
       rw (slashed_some t (sym g ∙ k), dots_append d (each (λ (n : Bytes). ascii "/" ++ n) scope) (byte "/" ∷ t), dots_step d (byte "/") t)
-      (flat-two f o o₁ o₃ (as_dots d (each (λ (n : Bytes). ascii "/" ++ n) scope)) (dot_of d (byte "/") ∷ as_dots d t) (flat_first f o₁ o₂ o₃ (dot_of d (byte "/")) (as_dots d t) e₃ (rw (← q') e₂)) led_is)
+      (flat_two f o o₁ o₃ (as_dots d (each (λ (n : Bytes). ascii "/" ++ n) scope)) (dot_of d (byte "/") ∷ as_dots d t) (flat_first f o₁ o₂ o₃ (dot_of d (byte "/")) (as_dots d t) e₃ (rw (← q') e₂)) led_is)
 
   pub below_none : y ≡ false → o₁ ≡ emit o (flat f (as_dots d (behind_top scope t)))
   below_none k = rw (slashed_none t (sym g ∙ k), append-nil) led_is
@@ -172,9 +172,9 @@ pub ruleset belows = (rules, below_more, below_none)
 
 module _ (f : ℕ → Bytes) (top : Bytes) (scope : List Bytes) (t : Bytes) (o : Out) where
   pub rooted_all : (o₁ o₂ o₃ : Out) → o₃ ≡ emit o₂ (flat f (as_dots false (behind_top scope t))) → o₂ ≡ emit o₁ (flat f (as_dots false top)) → o₁ ≡ emit o (f (byte "/")) → o₃ ≡ emit o (flat f (rooted top scope t))
-  rooted_all o₁ o₂ o₃ e₃ e₂ e₁ = flat_first f o o₁ o₃ (byte "/") (top ++ behind_top scope t) (flat-two f o₁ o₂ o₃ top (behind_top scope t) e₃ e₂) e₁
+  rooted_all o₁ o₂ o₃ e₃ e₂ e₁ = flat_first f o o₁ o₃ (byte "/") (top ++ behind_top scope t) (flat_two f o₁ o₂ o₃ top (behind_top scope t) e₃ e₂) e₁
 
   pub dots_all : (o₂ o₃ : Out) → o₃ ≡ emit o₂ (flat f (as_dots true (behind_top scope t))) → o₂ ≡ emit o (flat f (as_dots true top)) → o₃ ≡ emit o (flat f (dotted (unrooted (rooted top scope t))))
-  dots_all o₂ o₃ e₃ e₂ = rw (dots_append true top (behind_top scope t)) (flat-two f o o₂ o₃ (as_dots true top) (as_dots true (behind_top scope t)) e₃ e₂)
+  dots_all o₂ o₃ e₃ e₂ = rw (dots_append true top (behind_top scope t)) (flat_two f o o₂ o₃ (as_dots true top) (as_dots true (behind_top scope t)) e₃ e₂)
 
 pub ruleset roots = (rules, rooted_all, dots_all)

@@ -1,7 +1,7 @@
 // A template written with its arguments in their places: see the places of a template in `out`.
 ghost use Rattle.std.specs.Prelude.{◌≡◌, true, [], ◌++◌, ◌≤◌, length, drop};
 ghost use Rattle.out.specs.Emit.{◌▸◌, emit};
-ghost use Rattle.out.specs.Fill.{isTemplate, markText, fill as Fill·fill};
+ghost use Rattle.out.specs.Fill.{is_template, mark_text, fill as Fill·fill};
 ghost use Rattle.scope.specs.Parts.{parts};
 ghost use Rattle.format.specs.Args.{arg_of, letter_of, letter_number, letter_mode};
 
@@ -66,7 +66,7 @@ fn mode(k: u8) -> u8
 // What the mark at i adds where it is none of an argument: a brace, or nothing.
 fn brace(out: &mut [u8], at: usize, t: &[u8], i: usize) -> usize
     requires { i ≤ length t.now }
-    ensures { out.new ▸ result ≡ emit (out.old ▸ at) (markText (λ _. []) (drop i t.now)) }
+    ensures { out.new ▸ result ≡ emit (out.old ▸ at) (mark_text (λ _. []) (drop i t.now)) }
 {
     if t.len() <= i {
         return at;
@@ -98,7 +98,7 @@ pub fn fill(
     d: Arg,
     e: Arg,
 ) -> usize
-    requires { isTemplate 5 t.now ≡ true }
+    requires { is_template 5 t.now ≡ true }
     ensures { out.new ▸ result ≡ emit (out.old ▸ at) (Fill·fill t.now (arg_of job.now (files.now ++ area.now) (parts over.now from) top.now a) (arg_of job.now (files.now ++ area.now) (parts over.now from) top.now b) (arg_of job.now (files.now ++ area.now) (parts over.now from) top.now c) (arg_of job.now (files.now ++ area.now) (parts over.now from) top.now d) (arg_of job.now (files.now ++ area.now) (parts over.now from) top.now e)) }
 {
     write(out, at, t, job, files, area, over, from, top, a, b, c, d, e)
@@ -171,7 +171,7 @@ pub fn fill1(
     top: &[u8],
     a: Arg,
 ) -> usize
-    requires { isTemplate 1 t.now ≡ true }
+    requires { is_template 1 t.now ≡ true }
     ensures { out.new ▸ result ≡ emit (out.old ▸ at) (Fill·fill t.now (arg_of job.now (files.now ++ area.now) (parts over.now from) top.now a) [] [] [] []) }
 {
     let z = fixed(0);
@@ -192,7 +192,7 @@ pub fn fill2(
     a: Arg,
     b: Arg,
 ) -> usize
-    requires { isTemplate 2 t.now ≡ true }
+    requires { is_template 2 t.now ≡ true }
     ensures { out.new ▸ result ≡ emit (out.old ▸ at) (Fill·fill t.now (arg_of job.now (files.now ++ area.now) (parts over.now from) top.now a) (arg_of job.now (files.now ++ area.now) (parts over.now from) top.now b) [] [] []) }
 {
     let z = fixed(0);
@@ -214,7 +214,7 @@ pub fn fill3(
     b: Arg,
     c: Arg,
 ) -> usize
-    requires { isTemplate 3 t.now ≡ true }
+    requires { is_template 3 t.now ≡ true }
     ensures { out.new ▸ result ≡ emit (out.old ▸ at) (Fill·fill t.now (arg_of job.now (files.now ++ area.now) (parts over.now from) top.now a) (arg_of job.now (files.now ++ area.now) (parts over.now from) top.now b) (arg_of job.now (files.now ++ area.now) (parts over.now from) top.now c) [] []) }
 {
     let z = fixed(0);
@@ -237,7 +237,7 @@ pub fn fill4(
     c: Arg,
     d: Arg,
 ) -> usize
-    requires { isTemplate 4 t.now ≡ true }
+    requires { is_template 4 t.now ≡ true }
     ensures { out.new ▸ result ≡ emit (out.old ▸ at) (Fill·fill t.now (arg_of job.now (files.now ++ area.now) (parts over.now from) top.now a) (arg_of job.now (files.now ++ area.now) (parts over.now from) top.now b) (arg_of job.now (files.now ++ area.now) (parts over.now from) top.now c) (arg_of job.now (files.now ++ area.now) (parts over.now from) top.now d) []) }
 {
     let z = fixed(0);

@@ -8,7 +8,7 @@ use mathlib.Core.List.{List, [], ◌∷◌, ◌++◌, flat_map}
 use borrow.Author.Tests.{le-leb, lt-leb}
 use Rattle.text.specs.Ascii.{Bytes, ascii}
 use Rattle.text.specs.Scan.{all}
-use Rattle.out.specs.Emit.{Out, emit, ◌⊕◌, emit-⊕, emit-append}
+use Rattle.out.specs.Emit.{Out, emit, ◌⊕◌, emit-⊕, emit_append}
 use Rattle.out.specs.Items.{each}
 use Rattle.texts.specs.Domains.{domain_glue, domain_line, domain_warnings, domain_fits}
 use Rattle.texts.specs.Isolation.{isolation, processes}
@@ -38,7 +38,7 @@ each_append f (x ∷ xs) ys = rw (each_append f xs ys) (assoc (f x) (each f xs) 
     assoc (b ∷ p) q r = ap (λ (l : Bytes). b ∷ l) (assoc p q r)
 
 emit_each : (o : Out) (xs ys : List Bytes) → emit o (each warning_line (xs ++ ys)) ≡ emit (emit o (each warning_line xs)) (each warning_line ys)
-emit_each o xs ys = ap (emit o) (each_append warning_line xs ys) ∙ emit-append o (each warning_line xs) (each warning_line ys)
+emit_each o xs ys = ap (emit o) (each_append warning_line xs ys) ∙ emit_append o (each warning_line xs) (each warning_line ys)
 
 abbrev pub domain_remarks : Setting → List Bytes
 domain_remarks t = flat_map (domain_warnings t) t.records.domains

@@ -4,7 +4,7 @@ use Rattle.std.specs.Prelude.{ℕ, suc, ◌+◌, ◌≤◌, ◌<◌, min, ◌≡
 use Rattle.std.proofs.Common.{arith, sym, ap, ◌∙◌, append-nil, ltb-true, ltb-false}
 use Rattle.text.specs.Ascii.{Bytes}
 use Rattle.text.specs.Sames.{no_true}
-use Rattle.out.specs.Emit.{Out, ◌▸◌, emit, emit-append}
+use Rattle.out.specs.Emit.{Out, ◌▸◌, emit, emit_append}
 use Rattle.out.specs.Items.{each}
 use Rattle.texts.specs.Texts.{warning_line}
 use Rattle.texts.specs.Laws.{each_append}
@@ -130,7 +130,7 @@ module _ (job mem : Bytes) (warn : Bool) where
                 a.text o
                 ∙ ap (λ (x : Gain). emit (out ▸ c.at) (said warn x)) at_rows
                 ∙ ap (λ (w : Out). emit w (said warn f_so_far)) t.text
-                ∙ sym (emit-append (out₀ ▸ c₀.at) (said warn t.so_far) (said warn f_so_far))
+                ∙ sym (emit_append (out₀ ▸ c₀.at) (said warn t.so_far) (said warn f_so_far))
                 ∙ ap (emit (out₀ ▸ c₀.at)) (sym (said_behind warn t.so_far f_so_far));
             keeps = whole_is;
           }

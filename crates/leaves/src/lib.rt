@@ -5,7 +5,7 @@ ghost use Rattle.std.specs.Prelude.{◌≡◌};
 ghost use Rattle.text.specs.Compare.{same, starts_with, less};
 ghost use Rattle.text.specs.Numbers.{number_of};
 ghost use Rattle.out.specs.Emit.{◌▸◌, emit};
-ghost use Rattle.out.specs.Bytewise.{mangle, dotted, svStr};
+ghost use Rattle.out.specs.Bytewise.{mangle, dotted, sv_str};
 ghost use Rattle.out.specs.Number.{decimal};
 ghost use Rattle.leaves.specs.Sample.{to_number, sample};
 
@@ -59,7 +59,7 @@ pub extern "C" fn leaves_dotted(out: &mut [u8], piece: &[u8]) -> usize
 
 #[unsafe(no_mangle)]
 pub extern "C" fn leaves_sv_str(out: &mut [u8], piece: &[u8]) -> usize
-    ensures { out.new ▸ result ≡ emit (out.old ▸ 0) (svStr piece.now) }
+    ensures { out.new ▸ result ≡ emit (out.old ▸ 0) (sv_str piece.now) }
 {
     out::bytewise::sv_str(out, 0, piece)
 }

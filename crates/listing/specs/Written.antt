@@ -4,12 +4,12 @@ use Rattle.std.proofs.Common.{sym, ap, ◌∙◌, append_assoc, arith, length-ap
 use Rattle.std.proofs.lemmas.List.Edits.{sets-eq}
 use Rattle.text.specs.Ascii.{Bytes}
 use Rattle.out.specs.Emit.{Out, ◌▸◌, emit}
-use Rattle.out.specs.Fits.{emit-sets}
+use Rattle.out.specs.Fits.{emit_sets}
 use Rattle.jobindex.specs.Index.{section}
 
 module _ (text text' p : Bytes) (at r : ℕ) (h : at + length p ≤ length text) (e : text' ▸ r ≡ emit (text ▸ at) p) where
   written : text' ≡ take at text ++ (p ++ drop (at + length p) text)
-  written = ap (λ (o : Out). o.bytes) (e ∙ emit-sets p text at h) ∙ sets-eq p text at h ∙ append_assoc (take at text) p (drop (at + length p) text)
+  written = ap (λ (o : Out). o.bytes) (e ∙ emit_sets p text at h) ∙ sets-eq p text at h ∙ append_assoc (take at text) p (drop (at + length p) text)
 
   front_long : length (take at text) ≡ at
   front_long = length-take-le at text (omega arith)
@@ -24,7 +24,7 @@ module _ (text text' p : Bytes) (at r : ℕ) (h : at + length p ≤ length text)
       rw (z, d) (take_at p (drop (at + length p) text) (length p) refl)
 
   pub place_is_lem : r ≡ at + length p
-  place_is_lem = ap (λ (o : Out). o.at) (e ∙ emit-sets p text at h)
+  place_is_lem = ap (λ (o : Out). o.at) (e ∙ emit_sets p text at h)
 
   pub front_on : take (at + length p) text' ≡ take at text ++ p
   front_on =

@@ -7,7 +7,7 @@ use mathlib.Core.List.{List, [], ◌∷◌, ◌++◌, map, append_assoc, append-
 use lib.ListN.{length, drop, length-set, length-map}
 use Rattle.text.specs.Ascii.{Bytes}
 use Rattle.out.specs.Emit.{Out, emit}
-use Rattle.out.specs.Items.{joined, rest, unless, join-next, join-done}
+use Rattle.out.specs.Items.{joined, rest, unless, join_next, join_done}
 use Rattle.spans.specs.Span.{◌⋯◌, bytes}
 use Rattle.spans.specs.Reach.{Held}
 use Rattle.spans.specs.declared.span.Span.{Span}
@@ -147,7 +147,7 @@ module _ (sep mem : Bytes) (table : List ℕ) (n : ℕ) (w o : Out) (k : ℕ) (i
   pub joins_next : (x : Name) (o₁ o₂ : Out) → o₂ ≡ emit o₁ (name_of mem x) → o₁ ≡ emit o (unless k sep) → x ≡ row_name table k → k < n → Joins sep mem table n w o₂ (k + 1)
   joins_next x o₁ o₂ e₂ e₁ ex h =
       let z : n - k ≡ suc (n - (k + 1)) = omega arith in
-      record { keeps = join-next o o₁ o₂ w sep k 0 (name_of mem x) (names_from mem table (k + 1) (n - (k + 1))) e₁ e₂ (rw (z, names_next mem table k (n - (k + 1)), ← ex) at inv.keeps) }
+      record { keeps = join_next o o₁ o₂ w sep k 0 (name_of mem x) (names_from mem table (k + 1) (n - (k + 1))) e₁ e₂ (rw (z, names_next mem table k (n - (k + 1)), ← ex) at inv.keeps) }
 
   pub joins_done : n ≤ k → o ≡ w
-  joins_done h = let z : n - k ≡ 0 = omega arith in join-done o w sep k (rw (z, names_none mem table k) at inv.keeps)
+  joins_done h = let z : n - k ≡ 0 = omega arith in join_done o w sep k (rw (z, names_none mem table k) at inv.keeps)

@@ -10,7 +10,7 @@ use Rattle.text.specs.Ascii.{Bytes, byte}
 use Rattle.text.specs.Compare.{same, less}
 use Rattle.text.specs.Lists.{here}
 use Rattle.text.specs.Classes.{dot_of}
-use Rattle.out.specs.Emit.{Out, emit, emit-append}
+use Rattle.out.specs.Emit.{Out, emit, emit_append}
 use Rattle.out.specs.Bytewise.{flat, dotted}
 use Rattle.names.specs.Name.{name_of, step_of}
 use Rattle.names.specs.Laws.{dotted_step, dotted_none, shorter, dot_slash, dot_other}
@@ -145,6 +145,6 @@ module _ (mem : Bytes) (f : ℕ → Bytes) (w o : Out) (x : Name) (inv : Puts me
 
   pub puts_step : (b : ℕ) (u : Name) (o' : Out) → p ≡ Byte b u → o' ≡ emit o (f b) → Puts mem f w o' u
   unfolding flat
-  puts_step b u o' h g = record { keeps = rw g (rw (e, h, emit-append) at inv.keeps) }
+  puts_step b u o' h g = record { keeps = rw g (rw (e, h, emit_append) at inv.keeps) }
 
 pub ruleset puts = (rules, shorter, puts_end, puts_step)

@@ -11,8 +11,8 @@ use Rattle.text.specs.Ascii.{Bytes, byte}
 use Rattle.text.specs.Lists.{drop_two, take_two}
 use Rattle.spans.specs.Span.{◌⋯◌, bytes}
 use Rattle.spans.specs.declared.span.Span.{Span}
-use Rattle.out.specs.Emit.{Out, emit, emit-append}
-use Rattle.out.specs.Bytewise.{flat, becomes, mangle, dotted, svStr, flat-two, flat_same}
+use Rattle.out.specs.Emit.{Out, emit, emit_append}
+use Rattle.out.specs.Bytewise.{flat, becomes, mangle, dotted, sv_str, flat_two, flat_same}
 use Rattle.names.specs.Name.{named, entry_of, slash, name_of}
 use Rattle.names.specs.declared.name.Name.{Name}
 
@@ -33,7 +33,7 @@ module _ (o w : Out) (p : Bytes) where
   unfolding becomes
   put_dots e = e
 
-  pub put_string : w ≡ emit o (flat (becomes 3) p) → w ≡ emit o (svStr p)
+  pub put_string : w ≡ emit o (flat (becomes 3) p) → w ≡ emit o (sv_str p)
   unfolding becomes
   put_string e = e
 
@@ -44,7 +44,7 @@ put_plain m o w p e h = rw (h, flat_same) e
 
 pub put_two : (f : ℕ → Bytes) (t a : Bytes) (s : Span) (o o₁ o₂ : Out) (p q : Bytes) (i j k : ℕ) → o₂ ≡ emit o₁ (flat f q) → o₁ ≡ emit o (flat f p)
     → p ≡ take s.len (drop s.at t) → q ≡ take k (drop j a) → j ≡ s.at - length t → k ≡ s.len - i → i ≡ length t - s.at → o₂ ≡ emit o (flat f (bytes (t ++ a) s))
-put_two f t a s o o₁ o₂ p q i j k h g d e x y z = rw (span_two, ← z, ← y, ← x, ← d, ← e) (flat-two f o o₁ o₂ p q h g)
+put_two f t a s o o₁ o₂ p q i j k h g d e x y z = rw (span_two, ← z, ← y, ← x, ← d, ← e) (flat_two f o o₁ o₂ p q h g)
 
 -- the same where there is nothing to write, and where all of it lies in the first
 pub put_nothing : (f : ℕ → Bytes) (mem : Bytes) (s : Span) (o : Out) → s.len ≡ 0 → o ≡ emit o (flat f (bytes mem s))
@@ -64,13 +64,13 @@ module _ (f : ℕ → Bytes) (mem : Bytes) (o o₂ : Out) where
 
   pub put_sep : (b : Bool) (w : Bytes) (o₁ : Out) → o₂ ≡ emit o₁ (flat f w) → o₁ ≡ emit o (f (byte "/")) → b ≡ true → o₂ ≡ emit o (flat f (slash b ++ w))
   unfolding flat
-  put_sep b w o₁ h g e = rw (e, emit-append, ← g) h
+  put_sep b w o₁ h g e = rw (e, emit_append, ← g) h
 
   pub put_bare : (b : Bool) (w : Bytes) → o₂ ≡ emit o (flat f w) → b ≡ false → o₂ ≡ emit o (flat f (slash b ++ w))
   put_bare b w h e = rw e h
 
   pub put_all : (n : Name) (o₁ : Out) → o₂ ≡ emit o₁ (flat f (slash n.sep ++ entry_of n.form (bytes mem n.word))) → o₁ ≡ emit o (flat f (bytes mem n.scope)) → o₂ ≡ emit o (flat f (name_of mem n))
   unfolding name_of
-  put_all n o₁ h g = flat-two f o o₁ o₂ (bytes mem n.scope) (slash n.sep ++ entry_of n.form (bytes mem n.word)) h g
+  put_all n o₁ h g = flat_two f o o₁ o₂ (bytes mem n.scope) (slash n.sep ++ entry_of n.form (bytes mem n.word)) h g
 
 pub ruleset written = (rules, put_plain, put_two, put_nothing, put_first, put_entry, put_word, put_sep, put_bare, put_all)

@@ -4,7 +4,7 @@ use Rattle.std.proofs.Common.{ap, sym, arith, eqb-true, eq-eqb, ne_eqb}
 use Rattle.text.specs.Ascii.{Bytes, byte}
 use Rattle.text.specs.Classes.{dot_of}
 use Rattle.text.specs.Sames.{both, no_true}
-use Rattle.out.specs.Bytewise.{flat, dottedByte, dotted}
+use Rattle.out.specs.Bytewise.{flat, dotted_byte, dotted}
 use Rattle.spans.specs.Span.{bytes}
 use Rattle.names.specs.Name.{name_of, is_word, step_of}
 use Rattle.names.specs.declared.name.Name.{Name}
@@ -18,10 +18,10 @@ pub dot_other : (b : ℕ) → (b ≡ byte "/" → ⊥) → b ≡ dot_of b
 dot_other b h = sym (rw (ne_eqb b (byte "/") h))
 
 pub dotted_step : (b : ℕ) (p : Bytes) → dotted (b ∷ p) ≡ dot_of b ∷ dotted p
-unfolding flat dottedByte
+unfolding flat dotted_byte
 dotted_step b p = go (eqb b (byte "/"))
   where
-    go : (t : Bool) → cond t (byte "." ∷ []) (b ∷ []) ++ flat dottedByte p ≡ cond t (byte ".") b ∷ flat dottedByte p
+    go : (t : Bool) → cond t (byte "." ∷ []) (b ∷ []) ++ flat dotted_byte p ≡ cond t (byte ".") b ∷ flat dotted_byte p
     go true = refl
     go false = refl
 

@@ -6,12 +6,12 @@ use lib.ListN.{length, set, get_or, drop, length-set}
 use borrow.Author.Rules.{rules}
 use borrow.Author.Tests.{lt-ltb}
 use Rattle.text.specs.Ascii.{Bytes}
-use Rattle.out.specs.Emit.{Out, ◌▸◌, emit, emit1, emit-next, emit-done}
+use Rattle.out.specs.Emit.{Out, ◌▸◌, emit, emit1, emit_next, emit_done}
 
 -- one byte stored where there is room
-store-one : (p out : Bytes) (o i : ℕ) → i < length p → o < length out → emit (set out o (get_or p i 0) ▸ (o + 1)) (drop (i + 1) p) ≡ emit (out ▸ o) (drop i p)
+store_one : (p out : Bytes) (o i : ℕ) → i < length p → o < length out → emit (set out o (get_or p i 0) ▸ (o + 1)) (drop (i + 1) p) ≡ emit (out ▸ o) (drop i p)
 unfolding emit1
-store-one p out o i h g = emit-next (out ▸ o) (set out o (get_or p i 0) ▸ (o + 1)) (emit (out ▸ o) (drop i p)) p i h (simp (lt-ltb o (length out) g)) refl
+store_one p out o i h g = emit_next (out ▸ o) (set out o (get_or p i 0) ▸ (o + 1)) (emit (out ▸ o) (drop i p)) p i h (simp (lt-ltb o (length out) g)) refl
 
 -- n bytes stored, one after the other
 record Stored (p out : Bytes) (o i n : ℕ) (mid : Bytes) : Type 0 where
@@ -19,7 +19,7 @@ record Stored (p out : Bytes) (o i n : ℕ) (mid : Bytes) : Type 0 where
   long : length mid ≡ length out
 
 stored_one : (p out : Bytes) (o i : ℕ) → i < length p → o < length out → Stored p out o i 1 (set out o (get_or p i 0))
-stored_one p out o i h g = record { keeps = store-one p out o i h g; long = length-set out o (get_or p i 0) }
+stored_one p out o i h g = record { keeps = store_one p out o i h g; long = length-set out o (get_or p i 0) }
 
 stored_on : (p out : Bytes) (o i n : ℕ) (mid : Bytes) → i + n < length p → o + n < length out → Stored p out o i n mid → Stored p out o i (n + 1) (set mid (o + n) (get_or p (i + n) 0))
 stored_on p out o i n mid h g s =
@@ -27,7 +27,7 @@ stored_on p out o i n mid h g s =
     let b : o + n + 1 ≡ o + (n + 1) = omega arith in
     let l : o + n < length mid = omega (arith, s.long) in
     record {
-      keeps = rw (a, b) at (store-one p mid (o + n) (i + n) h l ∙ s.keeps);
+      keeps = rw (a, b) at (store_one p mid (o + n) (i + n) h l ∙ s.keeps);
       long = length-set mid (o + n) (get_or p (i + n) 0) ∙ s.long;
     }
 
@@ -35,9 +35,9 @@ module _ (p out : Bytes) (o i : ℕ) where
   abbrev store : ℕ → Bytes → Bytes
   store n mid = set mid (o + n) (get_or p (i + n) 0)
 
-  pub stored-eight : i + 8 ≤ length p → o + 8 ≤ length out
+  pub stored_eight : i + 8 ≤ length p → o + 8 ≤ length out
       → emit (store 7 (store 6 (store 5 (store 4 (store 3 (store 2 (store 1 (set out o (get_or p i 0)))))))) ▸ (o + 8)) (drop (i + 8) p) ≡ emit (out ▸ o) (drop i p)
-  stored-eight h g =
+  stored_eight h g =
       (stored_on p out o i 7 _ (omega arith) (omega arith) (stored_on p out o i 6 _ (omega arith) (omega arith) (stored_on p out o i 5 _ (omega arith) (omega arith)
       (stored_on p out o i 4 _ (omega arith) (omega arith) (stored_on p out o i 3 _ (omega arith) (omega arith) (stored_on p out o i 2 _ (omega arith) (omega arith)
       (stored_on p out o i 1 _ (omega arith) (omega arith) (stored_one p out o i (omega arith) (omega arith))))))))).keeps
@@ -51,19 +51,19 @@ module _ (w : Out) (p out : Bytes) (o i : ℕ) (c : Left w p out o i) where
   pub left_there : i < length p → o < length out
   left_there h = omega (arith, c.room)
 
-  pub left-next : i < length p → Left w p (set out o (get_or p i 0)) (o + 1) (i + 1)
-  left-next h = record { keeps = store-one p out o i h (left_there h) ∙ c.keeps; room = rw length-set (omega (arith, c.room)) }
+  pub left_next : i < length p → Left w p (set out o (get_or p i 0)) (o + 1) (i + 1)
+  left_next h = record { keeps = store_one p out o i h (left_there h) ∙ c.keeps; room = rw length-set (omega (arith, c.room)) }
 
-  pub left-done : length p ≤ i → out ▸ o ≡ w
-  left-done h = emit-done (out ▸ o) w p i h c.keeps
+  pub left_done : length p ≤ i → out ▸ o ≡ w
+  left_done h = emit_done (out ▸ o) w p i h c.keeps
 
-  pub left-room : 8 ≤ length p - i → o + 8 ≤ length out
-  left-room h = omega (arith, c.room)
+  pub left_room : 8 ≤ length p - i → o + 8 ≤ length out
+  left_room h = omega (arith, c.room)
 
-  pub left-eight : (out' : Bytes) → 8 ≤ length p - i → length out' ≡ length out → emit (out' ▸ (o + 8)) (drop (i + 8) p) ≡ emit (out ▸ o) (drop i p) → Left w p out' (o + 8) (i + 8)
-  left-eight out' h l e = record { keeps = e ∙ c.keeps; room = rw l (omega (arith, c.room)) }
+  pub left_eight : (out' : Bytes) → 8 ≤ length p - i → length out' ≡ length out → emit (out' ▸ (o + 8)) (drop (i + 8) p) ≡ emit (out ▸ o) (drop i p) → Left w p out' (o + 8) (i + 8)
+  left_eight out' h l e = record { keeps = e ∙ c.keeps; room = rw l (omega (arith, c.room)) }
 
   pub left_end : (z : Out) → z ≡ emit (out ▸ o) (drop i p) → z ≡ w
   left_end z f = f ∙ c.keeps
 
-pub ruleset lefts = (rules, stored-eight, left_there, left-next, left-done, left-room, left-eight, left_end)
+pub ruleset lefts = (rules, stored_eight, left_there, left_next, left_done, left_room, left_eight, left_end)

@@ -9,25 +9,25 @@ use borrow.Author.Rules.{rules}
 use borrow.Author.Tests.{ltb-true, ne_eqb}
 use Rattle.text.specs.Ascii.{Bytes, byte}
 use Rattle.text.specs.Scan.{Free}
-use Rattle.text.specs.Scans.{free_one, free-and, free-found, free_on}
-use Rattle.out.specs.Fill.{isBrace}
+use Rattle.text.specs.Scans.{free_one, free_and, free_found, free_on}
+use Rattle.out.specs.Fill.{is_brace}
 
 -- a byte before the braces in ASCII
 abbrev low : Bytes → ℕ → Bool
 low t i = ltb (get_or t i 0) (byte "{")
 
-low-no : (b : ℕ) → ltb b (byte "{") ≡ true → isBrace b ≡ false
-low-no b t = let h : b < 123 = ltb-true b 123 t in rw (ne_eqb b 123 (λ e. absurd (omega arith)), ne_eqb b 125 (λ e. absurd (omega arith)))
+low_no : (b : ℕ) → ltb b (byte "{") ≡ true → is_brace b ≡ false
+low_no b t = let h : b < 123 = ltb-true b 123 t in rw (ne_eqb b 123 (λ e. absurd (omega arith)), ne_eqb b 125 (λ e. absurd (omega arith)))
 
-plain_here : (t : Bytes) (i : ℕ) → i < length t → Free isBrace t i 1 (low t i)
-plain_here t i h = free_one isBrace t i (low t i) h (low-no (get_or t i 0))
+plain_here : (t : Bytes) (i : ℕ) → i < length t → Free is_brace t i 1 (low t i)
+plain_here t i h = free_one is_brace t i (low t i) h (low_no (get_or t i 0))
 
-plain-on : (t : Bytes) (i n : ℕ) (a : Bool) → i + n < length t → Free isBrace t i n a → Free isBrace t i (n + 1) (a && low t (i + n))
-plain-on t i n a h f = free-and isBrace t i n 1 a (low t (i + n)) f (plain_here t (i + n) h)
+plain_on : (t : Bytes) (i n : ℕ) (a : Bool) → i + n < length t → Free is_brace t i n a → Free is_brace t i (n + 1) (a && low t (i + n))
+plain_on t i n a h f = free_and is_brace t i n 1 a (low t (i + n)) f (plain_here t (i + n) h)
 
-pub plain-eight : (t : Bytes) (i : ℕ) → i + 8 ≤ length t → Free isBrace t i 8 (((((((low t i && low t (i + 1)) && low t (i + 2)) && low t (i + 3)) && low t (i + 4)) && low t (i + 5)) && low t (i + 6)) && low t (i + 7))
-plain-eight t i h =
-    plain-on t i 7 _ (omega arith) (plain-on t i 6 _ (omega arith) (plain-on t i 5 _ (omega arith) (plain-on t i 4 _ (omega arith)
-    (plain-on t i 3 _ (omega arith) (plain-on t i 2 _ (omega arith) (plain-on t i 1 _ (omega arith) (plain_here t i (omega arith))))))))
+pub plain_eight : (t : Bytes) (i : ℕ) → i + 8 ≤ length t → Free is_brace t i 8 (((((((low t i && low t (i + 1)) && low t (i + 2)) && low t (i + 3)) && low t (i + 4)) && low t (i + 5)) && low t (i + 6)) && low t (i + 7))
+plain_eight t i h =
+    plain_on t i 7 _ (omega arith) (plain_on t i 6 _ (omega arith) (plain_on t i 5 _ (omega arith) (plain_on t i 4 _ (omega arith)
+    (plain_on t i 3 _ (omega arith) (plain_on t i 2 _ (omega arith) (plain_on t i 1 _ (omega arith) (plain_here t i (omega arith))))))))
 
-pub ruleset plains = (rules, plain-eight, free-found, free_on)
+pub ruleset plains = (rules, plain_eight, free_found, free_on)

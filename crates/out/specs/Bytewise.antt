@@ -2,47 +2,47 @@
 use Rattle.std.specs.Prelude.{ℕ, ◌+◌, ◌<◌, ◌≤◌, ◌≡◌, refl, cond, [], ◌∷◌, ◌++◌, length, get_or, drop, eqb}
 use Rattle.std.proofs.Common.{add-one, ap, append_assoc, drop_of_length-le, drop-cons}
 use Rattle.text.specs.Ascii.{Bytes, ascii, byte}
-use Rattle.text.specs.Classes.{isAlnum}
-use Rattle.out.specs.Emit.{Out, emit, emit-append}
+use Rattle.text.specs.Classes.{is_alnum}
+use Rattle.out.specs.Emit.{Out, emit, emit_append}
 
 unfoldable pub flat : (ℕ → Bytes) → Bytes → Bytes
 flat f [] = []
 flat f (b ∷ p) = f b ++ flat f p
 
 -- a byte that is no letter or digit becomes `_`
-unfoldable pub mangledByte : ℕ → Bytes
-mangledByte b = cond (isAlnum b) b (byte "_") ∷ []
+unfoldable pub mangled_byte : ℕ → Bytes
+mangled_byte b = cond (is_alnum b) b (byte "_") ∷ []
 
 -- `/` becomes `.`
-unfoldable pub dottedByte : ℕ → Bytes
-dottedByte b = cond (eqb b (byte "/")) (ascii ".") (b ∷ [])
+unfoldable pub dotted_byte : ℕ → Bytes
+dotted_byte b = cond (eqb b (byte "/")) (ascii ".") (b ∷ [])
 
 -- a backslash goes before a backslash and before a quote
-unfoldable pub svByte : ℕ → Bytes
-svByte b = cond (eqb b (byte "\\")) (ascii "\\\\") (cond (eqb b (byte "\"")) (ascii "\\\"") (b ∷ []))
+unfoldable pub sv_byte : ℕ → Bytes
+sv_byte b = cond (eqb b (byte "\\")) (ascii "\\\\") (cond (eqb b (byte "\"")) (ascii "\\\"") (b ∷ []))
 
 abbrev pub mangle : Bytes → Bytes
-mangle p = flat mangledByte p
+mangle p = flat mangled_byte p
 
 abbrev pub dotted : Bytes → Bytes
-dotted p = flat dottedByte p
+dotted p = flat dotted_byte p
 
-abbrev pub svStr : Bytes → Bytes
-svStr p = flat svByte p
+abbrev pub sv_str : Bytes → Bytes
+sv_str p = flat sv_byte p
 
 -- the three by a number, as the writers choose among them: 1 mangled, 2 dotted, 3 for a string of SystemVerilog, else the byte itself
 unfoldable pub becomes : ℕ → ℕ → Bytes
-becomes m b = cond (eqb m 1) (mangledByte b) (cond (eqb m 2) (dottedByte b) (cond (eqb m 3) (svByte b) (b ∷ [])))
+becomes m b = cond (eqb m 1) (mangled_byte b) (cond (eqb m 2) (dotted_byte b) (cond (eqb m 3) (sv_byte b) (b ∷ [])))
 
 -- ---- laws: one turn of a loop that writes f of each byte, and its end; w is the answer
 
-pub flat-next : (f : ℕ → Bytes) (o o' w : Out) (p : Bytes) (i : ℕ) → i < length p → o' ≡ emit o (f (get_or p i 0)) → emit o (flat f (drop i p)) ≡ w → emit o' (flat f (drop (i + 1) p)) ≡ w
+pub flat_next : (f : ℕ → Bytes) (o o' w : Out) (p : Bytes) (i : ℕ) → i < length p → o' ≡ emit o (f (get_or p i 0)) → emit o (flat f (drop i p)) ≡ w → emit o' (flat f (drop (i + 1) p)) ≡ w
 unfolding flat
-flat-next f o o' w p i h e k = rw (e, add-one) (rw (drop-cons p i 0, emit-append) at k)
+flat_next f o o' w p i h e k = rw (e, add-one) (rw (drop-cons p i 0, emit_append) at k)
 
-pub flat-done : (f : ℕ → Bytes) (o w : Out) (p : Bytes) (i : ℕ) → length p ≤ i → emit o (flat f (drop i p)) ≡ w → o ≡ w
+pub flat_done : (f : ℕ → Bytes) (o w : Out) (p : Bytes) (i : ℕ) → length p ≤ i → emit o (flat f (drop i p)) ≡ w → o ≡ w
 unfolding flat emit
-flat-done f o w p i h k = rw (drop_of_length-le p {i = i} h) at k
+flat_done f o w p i h k = rw (drop_of_length-le p {i = i} h) at k
 
 -- two texts, one behind the other
 pub flat_append : (f : ℕ → Bytes) (p q : Bytes) → flat f (p ++ q) ≡ flat f p ++ flat f q
@@ -50,11 +50,11 @@ unfolding flat
 flat_append f [] q = refl
 flat_append f (x ∷ p) q = rw (flat_append f p q, append_assoc)
 
-pub flat-two : (f : ℕ → Bytes) (o o₁ o₂ : Out) (p q : Bytes) → o₂ ≡ emit o₁ (flat f q) → o₁ ≡ emit o (flat f p) → o₂ ≡ emit o (flat f (p ++ q))
-flat-two f o o₁ o₂ p q h g = rw (flat_append, emit-append, ← g) h
+pub flat_two : (f : ℕ → Bytes) (o o₁ o₂ : Out) (p q : Bytes) → o₂ ≡ emit o₁ (flat f q) → o₁ ≡ emit o (flat f p) → o₂ ≡ emit o (flat f (p ++ q))
+flat_two f o o₁ o₂ p q h g = rw (flat_append, emit_append, ← g) h
 
 -- the byte itself in mode 0
-pub flat-same : (p : Bytes) → flat (becomes 0) p ≡ p
+pub flat_same : (p : Bytes) → flat (becomes 0) p ≡ p
 unfolding flat becomes
-flat-same [] = refl
-flat-same (b ∷ p) = ap (λ (r : Bytes). b ∷ r) (flat-same p)
+flat_same [] = refl
+flat_same (b ∷ p) = ap (λ (r : Bytes). b ∷ r) (flat_same p)

@@ -23,19 +23,19 @@ unfoldable pub emit : Out → Bytes → Out
 emit o [] = o
 emit o (b ∷ p) = emit (emit1 o b) p
 
-pub emit-append : (o : Out) (p q : Bytes) → emit o (p ++ q) ≡ emit (emit o p) q
+pub emit_append : (o : Out) (p q : Bytes) → emit o (p ++ q) ≡ emit (emit o p) q
 unfolding emit
-emit-append o [] q = refl
-emit-append o (b ∷ p) q = emit-append (emit1 o b) p q
+emit_append o [] q = refl
+emit_append o (b ∷ p) q = emit_append (emit1 o b) p q
 
 -- One turn of a loop that writes the bytes of p, and its end. t is the answer, which the invariant keeps.
-pub emit-next : (o o' t : Out) (p : Bytes) (i : ℕ) → i < length p → o' ≡ emit1 o (get_or p i 0) → emit o (drop i p) ≡ t → emit o' (drop (i + 1) p) ≡ t
+pub emit_next : (o o' t : Out) (p : Bytes) (i : ℕ) → i < length p → o' ≡ emit1 o (get_or p i 0) → emit o (drop i p) ≡ t → emit o' (drop (i + 1) p) ≡ t
 unfolding emit
-emit-next o o' t p i h e k = rw (e, add-one) (rw (drop-cons p i 0) at k)
+emit_next o o' t p i h e k = rw (e, add-one) (rw (drop-cons p i 0) at k)
 
-pub emit-done : (o t : Out) (p : Bytes) (i : ℕ) → length p ≤ i → emit o (drop i p) ≡ t → o ≡ t
+pub emit_done : (o t : Out) (p : Bytes) (i : ℕ) → length p ≤ i → emit o (drop i p) ≡ t → o ≡ t
 unfolding emit
-emit-done o t p i h k = rw (drop_of_length-le p {i = i} h) at k
+emit_done o t p i h k = rw (drop_of_length-le p {i = i} h) at k
 
 -- `◌++◌` for templates: it does not compute, so that a goal keeps a template's pieces apart
 infixl 65 ◌⊕◌
@@ -44,7 +44,7 @@ p ⊕ q = p ++ q
 
 pub emit-⊕ : (o : Out) (p q : Bytes) → emit o (p ⊕ q) ≡ emit (emit o p) q
 unfolding ◌⊕◌
-emit-⊕ o p q = emit-append o p q
+emit-⊕ o p q = emit_append o p q
 
 -- p was written at o, which gave o': for proofs, where the parameters of a record are found by themselves
 pub record Wrote (o : Out) (p : Bytes) (o' : Out) : Type 0 where
@@ -59,16 +59,16 @@ pub ◌then◌ : {o o' o'' : Out} {p q : Bytes} → Wrote o p o' → Wrote o' q 
 ◌then◌ {o} {o'} {o''} {p} {q} e f = wrote (rw emit-⊕ (rw e.is at f.is))
 
 -- a write keeps the buffer's length
-length-emit1 : (o : Out) (b : ℕ) → length (emit1 o b).bytes ≡ length o.bytes
+length_emit1 : (o : Out) (b : ℕ) → length (emit1 o b).bytes ≡ length o.bytes
 unfolding emit1
-length-emit1 o b =
+length_emit1 o b =
     elim (ltb o.at (length o.bytes)) as (λ t. length (cond t (set o.bytes o.at b ▸ (o.at + 1)) (o.bytes ▸ (length o.bytes + 1))).bytes ≡ length o.bytes)
     [ true ↦ length-set o.bytes o.at b | false ↦ refl ]
 
-pub length-emit : (o : Out) (p : Bytes) → length (emit o p).bytes ≡ length o.bytes
+pub length_emit : (o : Out) (p : Bytes) → length (emit o p).bytes ≡ length o.bytes
 unfolding emit
-length-emit o [] = refl
-length-emit o (b ∷ p) = length-emit (emit1 o b) p ∙ length-emit1 o b
+length_emit o [] = refl
+length_emit o (b ∷ p) = length_emit (emit1 o b) p ∙ length_emit1 o b
 
 pub kept : {o o' : Out} {p : Bytes} → Wrote o p o' → length o'.bytes ≡ length o.bytes
-kept {o} {o'} {p} e = rw e.is (length-emit o p)
+kept {o} {o'} {p} e = rw e.is (length_emit o p)

@@ -4,8 +4,8 @@ use Rattle.std.specs.Prelude.{ℕ, ◌+◌, ◌-◌, ◌≡◌, refl, Bool, true
 use Rattle.text.specs.Ascii.{Bytes, ascii, byte}
 use Rattle.text.specs.Classes.{within}
 use Rattle.text.specs.Scan.{before}
-use Rattle.out.specs.Emit.{Out, emit1, emit, emit-append}
-use Rattle.out.specs.Bytewise.{mangle, dotted, svStr}
+use Rattle.out.specs.Emit.{Out, emit1, emit, emit_append}
+use Rattle.out.specs.Bytewise.{mangle, dotted, sv_str}
 
 -- the argument of a number
 unfoldable pub pick : ℕ → Bytes → Bytes → Bytes → Bytes → Bytes → Bytes
@@ -16,7 +16,7 @@ pick k a b c d e = cond (eqb k 0) a (cond (eqb k 1) b (cond (eqb k 2) c (cond (e
 unfoldable pub arg : Bytes → Bytes → Bytes → Bytes → Bytes → ℕ → Bytes
 arg a b c d e k =
     cond (within (byte "0") (byte "4") k) (pick (k - byte "0") a b c d e)
-    (cond (within (byte "A") (byte "E") k) (svStr (pick (k - byte "A") a b c d e))
+    (cond (within (byte "A") (byte "E") k) (sv_str (pick (k - byte "A") a b c d e))
     (cond (within (byte "a") (byte "e") k) (mangle (pick (k - byte "a") a b c d e))
     (cond (within (byte "p") (byte "t") k) (dotted (pick (k - byte "p") a b c d e)) [])))
 
@@ -62,42 +62,42 @@ example x y = refl
 abbrev pub places : ℕ → ℕ → ℕ → Bool
 places n base k = leb base k && ltb k (base + n)
 
-abbrev pub isArgument : ℕ → ℕ → Bool
-isArgument n k = places n (byte "0") k || (places n (byte "A") k || (places n (byte "a") k || places n (byte "p") k))
+abbrev pub is_argument : ℕ → ℕ → Bool
+is_argument n k = places n (byte "0") k || (places n (byte "A") k || (places n (byte "a") k || places n (byte "p") k))
 
 -- the state: 0 in the text, 1 behind a `{`, 2 behind a letter, 3 behind a `}`
 abbrev pub allowed : ℕ → ℕ → ℕ → Bool
-allowed n s b = cond (eqb s 0) true (cond (eqb s 1) (eqb b (byte "{") || isArgument n b) (eqb b (byte "}")))
+allowed n s b = cond (eqb s 0) true (cond (eqb s 1) (eqb b (byte "{") || is_argument n b) (eqb b (byte "}")))
 
 abbrev pub goes : ℕ → ℕ → ℕ
 goes s b = cond (eqb s 0) (cond (eqb b (byte "{")) 1 (cond (eqb b (byte "}")) 3 0)) (cond (eqb s 1) (cond (eqb b (byte "{")) 0 2) 0)
 
-abbrev pub templateFrom : ℕ → ℕ → Bytes → Bool
-templateFrom n s [] = eqb s 0
-templateFrom n s (b ∷ t) = allowed n s b && templateFrom n (goes s b) t
+abbrev pub template_from : ℕ → ℕ → Bytes → Bool
+template_from n s [] = eqb s 0
+template_from n s (b ∷ t) = allowed n s b && template_from n (goes s b) t
 
-abbrev pub isTemplate : ℕ → Bytes → Bool
-isTemplate n t = templateFrom n 0 t
+abbrev pub is_template : ℕ → Bytes → Bool
+is_template n t = template_from n 0 t
 
-unknown-letter : isTemplate 1 (ascii "a {x} b") ≡ false
-unknown-letter = refl
+unknown_letter : is_template 1 (ascii "a {x} b") ≡ false
+unknown_letter = refl
 
-missing-argument : isTemplate 1 (ascii "{0} {1}") ≡ false
-missing-argument = refl
+missing_argument : is_template 1 (ascii "{0} {1}") ≡ false
+missing_argument = refl
 
 -- ---- a template read in runs: the bytes before a brace, then what the brace begins
 
-abbrev pub isBrace : ℕ → Bool
-isBrace b = eqb b (byte "{") || eqb b (byte "}")
+abbrev pub is_brace : ℕ → Bool
+is_brace b = eqb b (byte "{") || eqb b (byte "}")
 
 -- what the mark at the head of a text adds, and how many bytes it has
-unfoldable pub markText : (ℕ → Bytes) → Bytes → Bytes
-markText a [] = []
-markText a (x ∷ s) = cond (eqb x (byte "}")) (x ∷ []) (cond (eqb (get_or s 0 0) (byte "{")) (byte "{" ∷ []) (a (get_or s 0 0)))
+unfoldable pub mark_text : (ℕ → Bytes) → Bytes → Bytes
+mark_text a [] = []
+mark_text a (x ∷ s) = cond (eqb x (byte "}")) (x ∷ []) (cond (eqb (get_or s 0 0) (byte "{")) (byte "{" ∷ []) (a (get_or s 0 0)))
 
-unfoldable pub markSize : Bytes → ℕ
-markSize [] = 0
-markSize (x ∷ s) = cond (eqb x (byte "}")) 2 (cond (eqb (get_or s 0 0) (byte "{")) 2 3)
+unfoldable pub mark_size : Bytes → ℕ
+mark_size [] = 0
+mark_size (x ∷ s) = cond (eqb x (byte "}")) 2 (cond (eqb (get_or s 0 0) (byte "{")) 2 3)
 
 -- ---- laws
 
@@ -110,9 +110,9 @@ abbrev pub runs : (ℕ → Bytes) → ℕ → Out → Bytes → Out
 runs a s o [] = o
 runs a s o (b ∷ t) = runs a (turns s b) (writes a s o b) t
 
-emit-adds : (a : ℕ → Bytes) (s : ℕ) (o : Out) (b : ℕ) → emit o (adds a s b) ≡ writes a s o b
+emit_adds : (a : ℕ → Bytes) (s : ℕ) (o : Out) (b : ℕ) → emit o (adds a s b) ≡ writes a s o b
 unfolding adds writes emit
-emit-adds a s o b = go (eqb s 0) (eqb s 1) (eqb b (byte "{"))
+emit_adds a s o b = go (eqb s 0) (eqb s 1) (eqb b (byte "{"))
   where
     go : (x y z : Bool) → emit o (cond x (cond z [] (b ∷ [])) (cond y (cond z (b ∷ []) (a b)) [])) ≡ cond x (cond z o (emit1 o b)) (cond y (cond z (emit1 o b) (emit o (a b))) o)
     go true y true = refl
@@ -121,11 +121,11 @@ emit-adds a s o b = go (eqb s 0) (eqb s 1) (eqb b (byte "{"))
     go false true false = refl
     go false false z = refl
 
-emit-filled : (a : ℕ → Bytes) (s : ℕ) (o : Out) (t : Bytes) → emit o (filled a s t) ≡ runs a s o t
+emit_filled : (a : ℕ → Bytes) (s : ℕ) (o : Out) (t : Bytes) → emit o (filled a s t) ≡ runs a s o t
 unfolding filled emit
-emit-filled a s o [] = refl
-emit-filled a s o (b ∷ t) = rw (emit-append, emit-adds) (emit-filled a (turns s b) (writes a s o b) t)
+emit_filled a s o [] = refl
+emit_filled a s o (b ∷ t) = rw (emit_append, emit_adds) (emit_filled a (turns s b) (writes a s o b) t)
 
-pub emit-fill : (o : Out) (t a b c d e : Bytes) → emit o (fill t a b c d e) ≡ runs (arg a b c d e) 0 o t
+pub emit_fill : (o : Out) (t a b c d e : Bytes) → emit o (fill t a b c d e) ≡ runs (arg a b c d e) 0 o t
 unfolding fill
-emit-fill o t a b c d e = emit-filled (arg a b c d e) 0 o t
+emit_fill o t a b c d e = emit_filled (arg a b c d e) 0 o t

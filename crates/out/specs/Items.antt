@@ -6,7 +6,7 @@ use Rattle.std.proofs.Math.Numerals.{add-two}
 use Rattle.std.proofs.Math.ListN.{length-drop}
 use Rattle.std.proofs.Math.Dec.{eqb-suc-zero}
 use Rattle.text.specs.Ascii.{Bytes}
-use Rattle.out.specs.Emit.{Out, emit, emit-append}
+use Rattle.out.specs.Emit.{Out, emit, emit_append}
 
 -- the parts that a list of places and lengths names
 unfoldable pub parts : Bytes → List ℕ → List Bytes
@@ -30,9 +30,9 @@ joined sep (t ∷ ts) = t ++ behind sep ts
 
 -- ---- laws
 
-pub each-cons : {A : Type 0} (f : A → Bytes) (x : A) (xs : List A) → each f (x ∷ xs) ≡ f x ++ each f xs
+pub each_cons : {A : Type 0} (f : A → Bytes) (x : A) (xs : List A) → each f (x ∷ xs) ≡ f x ++ each f xs
 unfolding each
-each-cons f x xs = refl
+each_cons f x xs = refl
 
 pub each_none : {A : Type 0} (f : A → Bytes) (o : Out) → emit o (each f []) ≡ o
 unfolding each emit
@@ -61,11 +61,11 @@ pub record Each (f : Bytes → Bytes) (area l : List ℕ) (w o : Out) (i : ℕ) 
 module _ (f : Bytes → Bytes) (area l : List ℕ) (w o : Out) (i : ℕ) (inv : Each f area l w o i) where
   pub each_next : (x : Bytes) (a n : ℕ) (o' : Out) → o' ≡ emit o (f x) → x ≡ take n (drop a area) → a ≡ get_or l i 0 → n ≡ get_or l (i + 1) 0 → i + 1 < length l → Each f area l w o' (i + 2)
   unfolding each
-  each_next x a n o' e y p q h = record { keeps = rw (e, y, p, q) (rw (parts_next area l i h, emit-append) at inv.keeps) }
+  each_next x a n o' e y p q h = record { keeps = rw (e, y, p, q) (rw (parts_next area l i h, emit_append) at inv.keeps) }
 
-  pub each-done : length l ≤ i + 1 → o ≡ w
+  pub each_done : length l ≤ i + 1 → o ≡ w
   unfolding each emit
-  each-done h = rw (parts_none area (drop i l) (simp length-drop (omega arith))) at inv.keeps
+  each_done h = rw (parts_none area (drop i l) (simp length-drop (omega arith))) at inv.keeps
 
 -- what is left of a join at index i; and sep but at index 0
 unfoldable pub rest : Bytes → ℕ → List Bytes → Bytes
@@ -75,34 +75,34 @@ rest sep (suc i) ts = behind sep ts
 unfoldable pub unless : ℕ → Bytes → Bytes
 unless i s = cond (eqb i 0) [] s
 
-rest-cons : (o : Out) (sep : Bytes) (i : ℕ) (t : Bytes) (ts : List Bytes) → emit o (rest sep i (t ∷ ts)) ≡ emit (emit (emit o (unless i sep)) t) (behind sep ts)
+rest_cons : (o : Out) (sep : Bytes) (i : ℕ) (t : Bytes) (ts : List Bytes) → emit o (rest sep i (t ∷ ts)) ≡ emit (emit (emit o (unless i sep)) t) (behind sep ts)
 unfolding rest joined behind unless emit
-rest-cons o sep zero t ts = rw emit-append
-rest-cons o sep (suc i) t ts = simp (eqb-suc-zero, emit-append)
+rest_cons o sep zero t ts = rw emit_append
+rest_cons o sep (suc i) t ts = simp (eqb-suc-zero, emit_append)
 
 -- one turn of a loop that joins, and its end
-pub join-next : (o o₁ o₂ w : Out) (sep : Bytes) (i k : ℕ) (t : Bytes) (ts : List Bytes) → o₁ ≡ emit o (unless i sep) → o₂ ≡ emit o₁ t
+pub join_next : (o o₁ o₂ w : Out) (sep : Bytes) (i k : ℕ) (t : Bytes) (ts : List Bytes) → o₁ ≡ emit o (unless i sep) → o₂ ≡ emit o₁ t
     → emit o (rest sep i (t ∷ ts)) ≡ w → emit o₂ (rest sep (i + suc k) ts) ≡ w
 unfolding rest
-join-next o o₁ o₂ w sep i k t ts e f h = rw (f, e, add-suc) (rw rest-cons at h)
+join_next o o₁ o₂ w sep i k t ts e f h = rw (f, e, add-suc) (rw rest_cons at h)
 
-pub join-done : (o w : Out) (sep : Bytes) (i : ℕ) → emit o (rest sep i []) ≡ w → o ≡ w
+pub join_done : (o w : Out) (sep : Bytes) (i : ℕ) → emit o (rest sep i []) ≡ w → o ≡ w
 unfolding rest joined behind emit
-join-done o w sep zero h = h
-join-done o w sep (suc i) h = h
+join_done o w sep zero h = h
+join_done o w sep (suc i) h = h
 
 pub record Joins (f : Bytes → Bytes) (sep area l : List ℕ) (w o : Out) (i : ℕ) : Type 0 where
   pub keeps : emit o (rest sep i (map f (parts area (drop i l)))) ≡ w
 
-pub joins-start : (f : Bytes → Bytes) (sep area l : List ℕ) (o : Out) → Joins f sep area l (emit o (joined sep (map f (parts area l)))) o 0
+pub joins_start : (f : Bytes → Bytes) (sep area l : List ℕ) (o : Out) → Joins f sep area l (emit o (joined sep (map f (parts area l)))) o 0
 unfolding rest
-joins-start f sep area l o = record { keeps = refl }
+joins_start f sep area l o = record { keeps = refl }
 
 module _ (f : Bytes → Bytes) (sep area l : List ℕ) (w o : Out) (i : ℕ) (inv : Joins f sep area l w o i) where
-  pub joins-next : (x : Bytes) (a n : ℕ) (o₁ o₂ : Out) → o₂ ≡ emit o₁ (f x) → o₁ ≡ emit o (unless i sep) → x ≡ take n (drop a area) → a ≡ get_or l i 0 → n ≡ get_or l (i + 1) 0 → i + 1 < length l → Joins f sep area l w o₂ (i + 2)
-  joins-next x a n o₁ o₂ e₂ e₁ y p q h =
+  pub joins_next : (x : Bytes) (a n : ℕ) (o₁ o₂ : Out) → o₂ ≡ emit o₁ (f x) → o₁ ≡ emit o (unless i sep) → x ≡ take n (drop a area) → a ≡ get_or l i 0 → n ≡ get_or l (i + 1) 0 → i + 1 < length l → Joins f sep area l w o₂ (i + 2)
+  joins_next x a n o₁ o₂ e₂ e₁ y p q h =
       let g : x ≡ take (get_or l (i + 1) 0) (drop (get_or l i 0) area) = rw (← p, ← q) y in
-      record { keeps = join-next o o₁ o₂ w sep i 1 (f x) (map f (parts area (drop (i + 2) l))) e₁ e₂ (rw (parts_next area l i h, ← g) at inv.keeps) }
+      record { keeps = join_next o o₁ o₂ w sep i 1 (f x) (map f (parts area (drop (i + 2) l))) e₁ e₂ (rw (parts_next area l i h, ← g) at inv.keeps) }
 
-  pub joins-done : length l ≤ i + 1 → o ≡ w
-  joins-done h = join-done o w sep i (rw (parts_none area (drop i l) (simp length-drop (omega arith))) at inv.keeps)
+  pub joins_done : length l ≤ i + 1 → o ≡ w
+  joins_done h = join_done o w sep i (rw (parts_none area (drop i l) (simp length-drop (omega arith))) at inv.keeps)

@@ -1,14 +1,14 @@
 // Texts made byte by byte of another.
 ghost use Rattle.std.specs.Prelude.{◌≡◌};
 ghost use Rattle.out.specs.Emit.{◌▸◌, emit};
-ghost use Rattle.out.specs.Bytewise.{mangledByte, dottedByte, svByte, becomes as Bytewise·becomes, flat as Bytewise·flat, mangle as Bytewise·mangle, dotted as Bytewise·dotted, svStr};
+ghost use Rattle.out.specs.Bytewise.{mangled_byte, dotted_byte, sv_byte, becomes as Bytewise·becomes, flat as Bytewise·flat, mangle as Bytewise·mangle, dotted as Bytewise·dotted, sv_str};
 
 use super::emit::{byte, put_slow};
 use text::class::is_alnum;
 
 // A byte of a mangled name.
 fn mangled_byte(out: &mut [u8], at: usize, b: u8) -> usize
-    ensures { out.new ▸ result ≡ emit (out.old ▸ at) (mangledByte b) }
+    ensures { out.new ▸ result ≡ emit (out.old ▸ at) (mangled_byte b) }
 {
     if is_alnum(b) {
         byte(out, at, b)
@@ -18,7 +18,7 @@ fn mangled_byte(out: &mut [u8], at: usize, b: u8) -> usize
 }
 
 fn dotted_byte(out: &mut [u8], at: usize, b: u8) -> usize
-    ensures { out.new ▸ result ≡ emit (out.old ▸ at) (dottedByte b) }
+    ensures { out.new ▸ result ≡ emit (out.old ▸ at) (dotted_byte b) }
 {
     if b == b'/' {
         byte(out, at, b'.')
@@ -29,7 +29,7 @@ fn dotted_byte(out: &mut [u8], at: usize, b: u8) -> usize
 
 // A byte of a string of SystemVerilog.
 fn sv_byte(out: &mut [u8], at: usize, b: u8) -> usize
-    ensures { out.new ▸ result ≡ emit (out.old ▸ at) (svByte b) }
+    ensures { out.new ▸ result ≡ emit (out.old ▸ at) (sv_byte b) }
 {
     if b == b'\\' {
         put_slow(out, at, b"\\\\")
@@ -84,7 +84,7 @@ pub fn dotted(out: &mut [u8], at: usize, piece: &[u8]) -> usize
 
 // Writes piece with the escapes of a string of SystemVerilog.
 pub fn sv_str(out: &mut [u8], at: usize, piece: &[u8]) -> usize
-    ensures { out.new ▸ result ≡ emit (out.old ▸ at) (svStr piece.now) }
+    ensures { out.new ▸ result ≡ emit (out.old ▸ at) (sv_str piece.now) }
 {
     flat(out, at, 3, piece)
 }

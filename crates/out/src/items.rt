@@ -1,7 +1,7 @@
 // A template for each part of an area.
 ghost use Rattle.std.specs.Prelude.{◌≡◌, true, [], map};
 ghost use Rattle.out.specs.Emit.{◌▸◌, emit};
-ghost use Rattle.out.specs.Fill.{fill, isTemplate};
+ghost use Rattle.out.specs.Fill.{fill, is_template};
 ghost use Rattle.out.specs.Items.{parts, each, joined, unless as Items·unless};
 
 use super::emit::put;
@@ -10,7 +10,7 @@ use text::part::{part, place};
 
 // Writes the template t for each part, one after the other.
 pub fn lines(out: &mut [u8], at: usize, t: &[u8], area: &[u8], spans: &[u32]) -> usize
-    requires { isTemplate 1 t.now ≡ true }
+    requires { is_template 1 t.now ≡ true }
     ensures { out.new ▸ result ≡ emit (out.old ▸ at) (each (λ x. fill t.now x [] [] [] []) (parts area.now spans.now)) }
 {
     let mut o = at;
@@ -32,7 +32,7 @@ pub fn unless(out: &mut [u8], at: usize, i: usize, s: &[u8]) -> usize
 
 // Writes the template t for each part, joined by sep.
 pub fn joins(out: &mut [u8], at: usize, sep: &[u8], t: &[u8], area: &[u8], spans: &[u32]) -> usize
-    requires { isTemplate 1 t.now ≡ true }
+    requires { is_template 1 t.now ≡ true }
     ensures { out.new ▸ result ≡ emit (out.old ▸ at) (joined sep.now (map (λ x. fill t.now x [] [] [] []) (parts area.now spans.now))) }
 {
     let mut o = at;

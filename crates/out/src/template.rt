@@ -2,7 +2,7 @@
 ghost use Rattle.std.specs.Prelude.{◌≡◌, true, [], ◌+◌, ◌≤◌, ◌<◌, length, drop};
 ghost use Rattle.text.specs.Scan.{Ends, Free, before};
 ghost use Rattle.out.specs.Emit.{◌▸◌, emit};
-ghost use Rattle.out.specs.Fill.{pick, arg, isTemplate, isBrace, markText, markSize, fill as Fill·fill};
+ghost use Rattle.out.specs.Fill.{pick, arg, is_template, is_brace, mark_text, mark_size, fill as Fill·fill};
 
 use super::bytewise::{dotted, mangle, sv_str};
 use super::emit::{byte, put};
@@ -60,7 +60,7 @@ fn argument<'a>(
 }
 
 fn is_brace(b: u8) -> bool
-    ensures { result ≡ isBrace b }
+    ensures { result ≡ is_brace b }
 {
     (b == b'{') | (b == b'}')
 }
@@ -68,7 +68,7 @@ fn is_brace(b: u8) -> bool
 // Whether eight bytes of t from i on all stand before the braces in ASCII: then none is a brace.
 fn eight_plain(t: &[u8], i: usize) -> bool
     requires { i + 8 ≤ length t.now }
-    ensures { Free isBrace t.now i 8 result }
+    ensures { Free is_brace t.now i 8 result }
 {
     (t[i] < b'{')
         & (t[i + 1] < b'{')
@@ -83,7 +83,7 @@ fn eight_plain(t: &[u8], i: usize) -> bool
 // Where the run of plain bytes that begins at `at` ends, byte by byte.
 fn run_end_each(t: &[u8], at: usize) -> usize
     requires { at ≤ length t.now }
-    ensures { Ends (at + before isBrace (drop at t.now)) (length t.now) result }
+    ensures { Ends (at + before is_brace (drop at t.now)) (length t.now) result }
 {
     let mut i = at;
     while i < t.len() {
@@ -98,7 +98,7 @@ fn run_end_each(t: &[u8], at: usize) -> usize
 // Where the run of plain bytes that begins at `at` ends.
 pub fn run_end(t: &[u8], at: usize) -> usize
     requires { at ≤ length t.now }
-    ensures { Ends (at + before isBrace (drop at t.now)) (length t.now) result }
+    ensures { Ends (at + before is_brace (drop at t.now)) (length t.now) result }
 {
     let mut i = at;
     while 8 <= t.len() - i {
@@ -123,7 +123,7 @@ fn mark<'a>(
     e: &'a [u8],
 ) -> usize
     requires { i ≤ length t.now }
-    ensures { out.new ▸ result ≡ emit (out.old ▸ at) (markText (arg a.now b.now c.now d.now e.now) (drop i t.now)) }
+    ensures { out.new ▸ result ≡ emit (out.old ▸ at) (mark_text (arg a.now b.now c.now d.now e.now) (drop i t.now)) }
 {
     if t.len() <= i {
         return at;
@@ -141,7 +141,7 @@ fn mark<'a>(
 // Where the mark at i ends.
 pub fn mark_end(t: &[u8], i: usize) -> usize
     requires { i ≤ length t.now }
-    ensures { result ≡ i + markSize (drop i t.now) }
+    ensures { result ≡ i + mark_size (drop i t.now) }
 {
     if t.len() <= i {
         return i;
@@ -166,7 +166,7 @@ pub fn fill<'a>(
     d: &'a [u8],
     e: &'a [u8],
 ) -> usize
-    requires { isTemplate 5 t.now ≡ true }
+    requires { is_template 5 t.now ≡ true }
     ensures { out.new ▸ result ≡ emit (out.old ▸ at) (Fill·fill t.now a.now b.now c.now d.now e.now) }
 {
     write(out, at, t, a, b, c, d, e)
@@ -199,7 +199,7 @@ fn write<'a>(
 
 // With one argument.
 pub fn fill1(out: &mut [u8], at: usize, t: &[u8], a: &[u8]) -> usize
-    requires { isTemplate 1 t.now ≡ true }
+    requires { is_template 1 t.now ≡ true }
     ensures { out.new ▸ result ≡ emit (out.old ▸ at) (Fill·fill t.now a.now [] [] [] []) }
 {
     write(out, at, t, a, b"", b"", b"", b"")
@@ -207,7 +207,7 @@ pub fn fill1(out: &mut [u8], at: usize, t: &[u8], a: &[u8]) -> usize
 
 // With two.
 pub fn fill2<'a>(out: &mut [u8], at: usize, t: &[u8], a: &'a [u8], b: &'a [u8]) -> usize
-    requires { isTemplate 2 t.now ≡ true }
+    requires { is_template 2 t.now ≡ true }
     ensures { out.new ▸ result ≡ emit (out.old ▸ at) (Fill·fill t.now a.now b.now [] [] []) }
 {
     write(out, at, t, a, b, b"", b"", b"")
@@ -222,7 +222,7 @@ pub fn fill3<'a>(
     b: &'a [u8],
     c: &'a [u8],
 ) -> usize
-    requires { isTemplate 3 t.now ≡ true }
+    requires { is_template 3 t.now ≡ true }
     ensures { out.new ▸ result ≡ emit (out.old ▸ at) (Fill·fill t.now a.now b.now c.now [] []) }
 {
     write(out, at, t, a, b, c, b"", b"")
@@ -238,7 +238,7 @@ pub fn fill4<'a>(
     c: &'a [u8],
     d: &'a [u8],
 ) -> usize
-    requires { isTemplate 4 t.now ≡ true }
+    requires { is_template 4 t.now ≡ true }
     ensures { out.new ▸ result ≡ emit (out.old ▸ at) (Fill·fill t.now a.now b.now c.now d.now []) }
 {
     write(out, at, t, a, b, c, d, b"")

@@ -11,7 +11,7 @@ use Rattle.text.specs.Ascii.{Bytes, ascii, byte}
 use Rattle.text.specs.Compare.{same}
 use Rattle.text.specs.Lists.{here}
 use Rattle.text.specs.Scan.{split_at}
-use Rattle.out.specs.Emit.{Out, emit1, emit, emit-append, ◌⊕◌, emit-⊕}
+use Rattle.out.specs.Emit.{Out, emit1, emit, emit_append, ◌⊕◌, emit-⊕}
 use Rattle.out.specs.Bytewise.{flat, becomes, flat_same}
 use Rattle.out.specs.Items.{each}
 use Rattle.jobindex.specs.Index.{section}
@@ -43,11 +43,11 @@ module _ (over : Bytes) (from : ℕ) (t : Bool) (o o₁ : Out) (e : o₁ ≡ emi
 
   pub scope_dot : (o₂ : Out) → o₂ ≡ emit1 o₁ (byte ".") → t ≡ true → o₂ ≡ emit o (scope_stem (parts over from))
   unfolding emit scope_stem
-  scope_dot o₂ g k = rw (stem_is, k, emit-append, ← front) g
+  scope_dot o₂ g k = rw (stem_is, k, emit_append, ← front) g
 
   pub scope_bare : t ≡ false → o₁ ≡ emit o (scope_stem (parts over from))
   unfolding emit scope_stem
-  scope_bare k = rw (stem_is, k, emit-append, ← front)
+  scope_bare k = rw (stem_is, k, emit_append, ← front)
 
 pub ruleset scopes = (rules, scope_dot, scope_bare)
 
@@ -55,7 +55,7 @@ pub ruleset scopes = (rules, scope_dot, scope_bare)
 
 pub line_is_lem : (o : Out) (scope : List Bytes) (before after path : Bytes) → emit o (before ⊕ scope_stem scope ⊕ path ⊕ after) ≡ emit o (line_of before after scope path)
 line_is_lem o scope before after path =
-    rw (emit-⊕, emit-⊕, emit-⊕) (sym (rw (below_stem scope path, emit-append, emit-append, emit-append)))
+    rw (emit-⊕, emit-⊕, emit-⊕) (sym (rw (below_stem scope path, emit_append, emit_append, emit_append)))
 
 -- ---- a line for each of the paths left
 
@@ -80,7 +80,7 @@ module _ (f : Bytes → Bytes) (text : Bytes) (ends : List ℕ) (n : ℕ) where
     left_next path o' m e g p q y h =
         let z : drop k (take n ends) ≡ e ∷ drop (k + 1) (take n ends) = here (take n ends) k (omega (arith, long)) ∙ rw (get_or-take n ends k 0 h, y) in
         let s : section text a e ≡ path = rw (p, q) in
-        record { keeps = rw g (rw (z, s, emit-append) at inv.keeps); few = inv.few }
+        record { keeps = rw g (rw (z, s, emit_append) at inv.keeps); few = inv.few }
 
 pub ruleset lefts = (rules, left_start, left_done, left_next)
 

@@ -12,7 +12,7 @@ use borrow.Author.Tests.{not-true, not-false}
 use Rattle.text.specs.Ascii.{Bytes}
 use Rattle.text.specs.Compare.{same}
 use Rattle.text.specs.Sames.{differ}
-use Rattle.out.specs.Emit.{Out, emit, emit-append}
+use Rattle.out.specs.Emit.{Out, emit, emit_append}
 use Rattle.out.specs.Bytewise.{dotted as Bytewise·dotted}
 use Rattle.names.specs.Name.{name_of}
 use Rattle.names.specs.Laws.{dotted_map}
@@ -92,6 +92,6 @@ pub ruleset sames = (rules, at_fits, end_fits, path_long, path_name, path_tail, 
 
 -- three writes, one behind the other
 pub put_three : (w u v z : Out) (mem : Bytes) (e : Name) (t n : Bytes) → u ≡ emit w (Bytewise·dotted (name_of mem e)) → v ≡ emit u t → z ≡ emit v n → z ≡ emit w (dotted (name_of mem e) ++ (t ++ n))
-put_three w u v z mem e t n eu ev ez = ez ∙ rw (ev, eu, dotted_map (name_of mem e), emit-append, emit-append)
+put_three w u v z mem e t n eu ev ez = ez ∙ rw (ev, eu, dotted_map (name_of mem e), emit_append, emit_append)
 
 pub ruleset writes = (rules, put_three)

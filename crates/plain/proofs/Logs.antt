@@ -4,7 +4,7 @@ use mathlib.Core.Path.{◌≡◌, sym, ap, ◌∙◌}
 use mathlib.Core.Bool.{false}
 use mathlib.Core.List.{List, ◌++◌}
 use Rattle.text.specs.Ascii.{Bytes, ascii}
-use Rattle.out.specs.Emit.{◌▸◌, emit, emit-append}
+use Rattle.out.specs.Emit.{◌▸◌, emit, emit_append}
 use Rattle.spans.specs.Span.{◌⋯◌, bytes}
 use Rattle.spans.specs.declared.span.Span.{Span}
 use Rattle.names.specs.Name.{named, name_of}
@@ -23,8 +23,8 @@ three l l₁ l₂ l₃ i a b e p q z h₁ h₂ h₃ =
     h₃
     ∙ ap (λ o. emit o z) h₂
     ∙ ap (λ o. emit (emit o q) z) h₁
-    ∙ sym (emit-append (emit (l ▸ i) p) q z)
-    ∙ sym (emit-append (l ▸ i) p (q ++ z))
+    ∙ sym (emit_append (emit (l ▸ i) p) q z)
+    ∙ sym (emit_append (l ▸ i) p (q ++ z))
 
 pub puts_said : (mem : Bytes) (words : List ℕ) (n : ℕ) (w : Span) → Reads mem words n (last_positional (words_from mem words n 1)) w → (x : Name) → x ≡ named (0 ⋯ 0) false w 0
     → (log l₁ l₂ l₃ : Bytes) (at a b e : ℕ) → l₁ ▸ a ≡ emit (log ▸ at) (ascii "[UPF] ") → l₂ ▸ b ≡ emit (l₁ ▸ a) (name_of mem x) → l₃ ▸ e ≡ emit (l₂ ▸ b) (ascii "\n") → l₃ ▸ e ≡ emit (log ▸ at) (saying (words_from mem words n 1))

@@ -2,7 +2,7 @@
 use Rattle.std.specs.Prelude.{ℕ, ◌+◌, ◌≤◌, ◌≡◌, refl, Bool, true, cond, List, ◌++◌, length}
 use Rattle.std.proofs.Common.{arith, sym, ap, ◌∙◌}
 use Rattle.text.specs.Ascii.{Bytes, ascii}
-use Rattle.out.specs.Emit.{◌▸◌, emit, emit-append}
+use Rattle.out.specs.Emit.{◌▸◌, emit, emit_append}
 use Rattle.tcl.specs.Arguments.{last_positional}
 use Rattle.args.specs.View.{words_from}
 use Rattle.model.specs.Names.{Command, Named}
@@ -105,7 +105,7 @@ module _ (files area nums words : List ℕ) (n : ℕ) (s : State) (v : Asks file
       record {
         result = reading_done files area nums (left text).log (record { tag = 0; state = log_set s e }) (counted_of s) (left text) refl refl
             (ap (model_of mem (store_of nums s) (log_set s e)) (puts_log mem (store_of nums s) s text ws) ∙ log_model mem (store_of nums s) s e text ws);
-        logged = λ z. g ∙ ap (λ o. emit o (saying ws)) h ∙ sym (emit-append (log₀ ▸ 0) text (saying ws)) ∙ ap (emit (log₀ ▸ 0)) (sym (puts_log mem (store_of nums s) s text ws));
+        logged = λ z. g ∙ ap (λ o. emit o (saying ws)) h ∙ sym (emit_append (log₀ ▸ 0) text (saying ws)) ∙ ap (emit (log₀ ▸ 0)) (sym (puts_log mem (store_of nums s) s text ws));
       }
 
   pub puts_ran : Ran files area area nums nums log log' s (record { tag = 0; state = log_set s e }) (λ text. acted (named_by 1) (line_at files area words n s) (counted_of s) (model_at files area nums s text))

@@ -10,7 +10,7 @@ use Rattle.text.specs.Compare.{same}
 use Rattle.text.specs.Scan.{any}
 use Rattle.text.specs.Sames.{same_eq, same_refl, both}
 use Rattle.out.specs.Bytewise.{dotted}
-use Rattle.out.specs.Emit.{Out, emit, emit-append, wrote, ◌then◌}
+use Rattle.out.specs.Emit.{Out, emit, emit_append, wrote, ◌then◌}
 use Rattle.out.specs.Fill.{fill, filled, adds, turns, arg, pick}
 use Rattle.out.specs.Items.{each}
 use Rattle.design.specs.Lists.{those}
@@ -190,7 +190,7 @@ module _ (job mem : Bytes) (scope : List Bytes) (top : Bytes) (t : Isolations) (
             led = λ _. own;
             seen = shown scope top f row ∷ inv.seen;
             tells = record { tells = λ y. rw (shown_alike scope top (f y.strategy) (f row.strategy) y row, inv.tells.tells y, more y.strategy) (swap (is_like f y.strategy row.strategy) (any (is_like f y.strategy) (numbers_in ports k))) };
-            keeps = rw p (rw (d, emit-append) at opened);
+            keeps = rw p (rw (d, emit_append) at opened);
           }
         where
           swap : (a b : Bool) → a || b ≡ b || a

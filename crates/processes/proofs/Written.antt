@@ -6,8 +6,8 @@ use mathlib.Core.Bool.{Bool, true, false, cond, not}
 use mathlib.Core.List.{List, [], ◌∷◌}
 use borrow.Author.Rules.{rules}
 use Rattle.text.specs.Ascii.{Bytes, ascii}
-use Rattle.out.specs.Emit.{Out, emit, emit-append}
-use Rattle.out.specs.Fill.{fill, isTemplate}
+use Rattle.out.specs.Emit.{Out, emit, emit_append}
+use Rattle.out.specs.Fill.{fill, is_template}
 use Rattle.out.specs.Items.{each}
 use Rattle.design.specs.Lists.{those}
 use Rattle.design.specs.Paths.{element_path}
@@ -68,14 +68,14 @@ row_text tpl scope top f job mem x j e = rw e
 -- ---- each port: what is left to write, written from here, is the answer w
 
 pub record Writes (job mem : Bytes) (scope : List Bytes) (top tpl : Bytes) (t : Isolations) (ports : List ℕ) (n i : ℕ) (w o : Out) (k s : ℕ) : Type 0 where
-  pub template : isTemplate 4 tpl ≡ true
+  pub template : is_template 4 tpl ≡ true
   pub ruled : Ruled mem t ports n
   pub number : i < 32
   pub before : k ≤ n
   pub unlike : s < 32 → are_alike (strategy_at mem t i) (strategy_at mem t s) ≡ false
   pub keeps : emit o (ports_text tpl scope top (strategy_at mem t) i (kept_from job mem ports k (n - k))) ≡ w
 
-pub writes_start : (job mem : Bytes) (scope : List Bytes) (top tpl : Bytes) (t : Isolations) (ports : List ℕ) (n i : ℕ) (o : Out) → isTemplate 4 tpl ≡ true → Ruled mem t ports n → i < 32 → Writes job mem scope top tpl t ports n i (emit o (ports_text tpl scope top (strategy_at mem t) i (kept_in job mem ports n))) o 0 32
+pub writes_start : (job mem : Bytes) (scope : List Bytes) (top tpl : Bytes) (t : Isolations) (ports : List ℕ) (n i : ℕ) (o : Out) → is_template 4 tpl ≡ true → Ruled mem t ports n → i < 32 → Writes job mem scope top tpl t ports n i (emit o (ports_text tpl scope top (strategy_at mem t) i (kept_in job mem ports n))) o 0 32
 writes_start job mem scope top tpl t ports n i o a b c = let z : n - 0 ≡ n = omega arith in record { template = a; ruled = b; number = c; before = omega arith; unlike = λ h. absurd (omega (arith, h)); keeps = rw z }
 
 module _ (job mem : Bytes) (scope : List Bytes) (top tpl : Bytes) (t : Isolations) (ports : List ℕ) (n i : ℕ) (w o : Out) (k s : ℕ) (inv : Writes job mem scope top tpl t ports n i w o k s) where
@@ -107,7 +107,7 @@ module _ (job mem : Bytes) (scope : List Bytes) (top tpl : Bytes) (t : Isolation
 
     pub writes_one : not b ≡ false → (x : Isolated) → x ≡ port_row ports k → (o' : Out) → o' ≡ emit o (port_text tpl scope top (λ (_ : ℕ). strategy_at mem t j) (kept_of job mem x)) → Writes job mem scope top tpl t ports n i w o' (k + 1) s
     unfolding ports_text each
-    writes_one d x p o' q = record { template = inv.template; ruled = inv.ruled; number = inv.number; before = omega arith; unlike = inv.unlike; keeps = rw (q, p, row_text tpl scope top (strategy_at mem t) job mem (port_row ports k) j e) (rw (is_true b d, emit-append) at opened) }
+    writes_one d x p o' q = record { template = inv.template; ruled = inv.ruled; number = inv.number; before = omega arith; unlike = inv.unlike; keeps = rw (q, p, row_text tpl scope top (strategy_at mem t) job mem (port_row ports k) j e) (rw (is_true b d, emit_append) at opened) }
       where
         is_true : (b : Bool) → not b ≡ false → b ≡ true
         is_true true e = refl

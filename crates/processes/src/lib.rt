@@ -4,7 +4,7 @@
 ghost use Rattle.std.specs.Prelude.{◌<◌, ◌≡◌, true, ◌++◌, map};
 ghost use Rattle.text.specs.Scan.{any};
 ghost use Rattle.out.specs.Emit.{◌▸◌, emit};
-ghost use Rattle.out.specs.Fill.{isTemplate};
+ghost use Rattle.out.specs.Fill.{is_template};
 ghost use Rattle.texts.specs.Isolation.{lowered, is_clamp, processes as Isolation·processes};
 ghost use Rattle.scope.specs.Parts.{parts};
 ghost use Rattle.store.specs.View.{isolation_of};
@@ -62,7 +62,7 @@ fn put_port(
     s: Isolation,
     x: Isolated,
 ) -> usize
-    requires { (isTemplate 4 tpl.now ≡ true) × (is_clamp (lowered (isolation_of (files.now ++ area.now) s).clamp) ≡ true) }
+    requires { (is_template 4 tpl.now ≡ true) × (is_clamp (lowered (isolation_of (files.now ++ area.now) s).clamp) ≡ true) }
     ensures { out.new ▸ result ≡ emit (out.old ▸ at) (port_text tpl.now (parts over.now from) top.now (λ _. isolation_of (files.now ++ area.now) s) (kept_of job.now (files.now ++ area.now) x)) }
 {
     let m = s.clamp;
@@ -90,7 +90,7 @@ fn each_port(
     n: usize,
     i: usize,
 ) -> usize
-    requires { (isTemplate 4 tpl.now ≡ true) × (Ruled (files.now ++ area.now) t ports.now n × (i < 32)) }
+    requires { (is_template 4 tpl.now ≡ true) × (Ruled (files.now ++ area.now) t ports.now n × (i < 32)) }
     ensures { out.new ▸ result ≡ emit (out.old ▸ at) (ports_text tpl.now (parts over.now from) top.now (strategy_at (files.now ++ area.now) t) i (kept_in job.now (files.now ++ area.now) ports.now n)) }
 {
     let a = t.all[i];

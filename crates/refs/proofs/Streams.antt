@@ -9,7 +9,7 @@ use borrow.Author.Rules.{rules}
 use borrow.Author.Tests.{eq-eqb, ne_eqb}
 use Rattle.text.specs.Ascii.{Bytes, byte}
 use Rattle.text.specs.Compare.{same}
-use Rattle.out.specs.Emit.{Out, emit, emit-append}
+use Rattle.out.specs.Emit.{Out, emit, emit_append}
 use Rattle.out.specs.Bytewise.{flat}
 use Rattle.refs.specs.Text.{text_of, step_of, dot_of, as_dots}
 use Rattle.refs.specs.Laws.{dots_step, dots_none}
@@ -71,6 +71,6 @@ module _ (job mem : Bytes) (f : ℕ → Bytes) (d : Bool) (w o : Out) (x : Ref) 
 
   pub puts_step : (b c : ℕ) (u : Ref) (o' : Out) → p ≡ Byte b u → o' ≡ emit o (f c) → c ≡ dot_of d b → Puts job mem f d w o' u
   unfolding flat
-  puts_step b c u o' h g k = record { keeps = rw g (rw (e, h, dots_step d b (text_of job mem u), ← k, emit-append) at inv.keeps) }
+  puts_step b c u o' h g k = record { keeps = rw g (rw (e, h, dots_step d b (text_of job mem u), ← k, emit_append) at inv.keeps) }
 
 pub ruleset puts = (rules, shorter, puts_end, puts_step)

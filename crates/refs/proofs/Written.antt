@@ -10,8 +10,8 @@ use borrow.Author.Rules.{rules}
 use Rattle.text.specs.Ascii.{Bytes, byte}
 use Rattle.text.specs.Lists.{take_none}
 use Rattle.text.specs.Sames.{no_true}
-use Rattle.out.specs.Emit.{Out, emit, emit-append}
-use Rattle.out.specs.Bytewise.{flat, becomes, dotted, flat-two, flat_same}
+use Rattle.out.specs.Emit.{Out, emit, emit_append}
+use Rattle.out.specs.Bytewise.{flat, becomes, dotted, flat_two, flat_same}
 use Rattle.names.specs.Name.{name_of, slash, step_of as nameStep}
 use Rattle.names.specs.declared.name.Name.{Name}
 use Rattle.names.specs.declared.name.Step.{Step as NameStep}
@@ -23,16 +23,16 @@ use Rattle.refs.proofs.Firsts.{front_none, front_empty, front_byte}
 
 module _ (f : ℕ → Bytes) (job mem : Bytes) (o o₂ : Out) where
   pub put_last : (n : Name) (at len : ℕ) (q : Bytes) (o₁ : Out) → o₂ ≡ emit o₁ (flat f q) → o₁ ≡ emit o (flat f (name_of mem n)) → q ≡ take len (drop at job) → o₂ ≡ emit o (flat f (name_of mem n ++ take len (drop at job)))
-  put_last n at len q o₁ h g e = rw (← e) (flat-two f o o₁ o₂ (name_of mem n) q h g)
+  put_last n at len q o₁ h g e = rw (← e) (flat_two f o o₁ o₂ (name_of mem n) q h g)
 
   module _ (r : Ref) where
     pub put_sep : (o₀ o₁ : Out) → o₂ ≡ emit o₁ (flat f (name_of mem r.last ++ take r.len (drop r.at job))) → o₁ ≡ emit o₀ (f (byte "/")) → o₀ ≡ emit o (flat f (front_of r.cut r.upto (name_of mem r.name))) → r.sep ≡ true → o₂ ≡ emit o (flat f (text_of job mem r))
     unfolding text_of flat
-    put_sep o₀ o₁ h g e s = rw s (flat-two f o o₀ o₂ (front_of r.cut r.upto (name_of mem r.name)) (byte "/" ∷ (name_of mem r.last ++ take r.len (drop r.at job))) (rw (emit-append, ← g) h) e)
+    put_sep o₀ o₁ h g e s = rw s (flat_two f o o₀ o₂ (front_of r.cut r.upto (name_of mem r.name)) (byte "/" ∷ (name_of mem r.last ++ take r.len (drop r.at job))) (rw (emit_append, ← g) h) e)
 
     pub put_bare : (o₀ : Out) → o₂ ≡ emit o₀ (flat f (name_of mem r.last ++ take r.len (drop r.at job))) → o₀ ≡ emit o (flat f (front_of r.cut r.upto (name_of mem r.name))) → r.sep ≡ false → o₂ ≡ emit o (flat f (text_of job mem r))
     unfolding text_of
-    put_bare o₀ h e s = rw s (flat-two f o o₀ o₂ (front_of r.cut r.upto (name_of mem r.name)) (name_of mem r.last ++ take r.len (drop r.at job)) h e)
+    put_bare o₀ h e s = rw s (flat_two f o o₀ o₂ (front_of r.cut r.upto (name_of mem r.name)) (name_of mem r.last ++ take r.len (drop r.at job)) h e)
 
 -- ---- what stands before the slash
 
@@ -59,7 +59,7 @@ module _ (mem : Bytes) (f : ℕ → Bytes) (w o : Out) (x : Name) (k : ℕ) (inv
 
     pub front_step : 0 < k → (b : ℕ) (u : Name) (o' : Out) → p ≡ NameByte b u → o' ≡ emit o (f b) → Fronts mem f w o' u (k - 1)
     unfolding flat
-    front_step l b u o' h g = let z : k ≡ suc (k - 1) = omega arith in record { keeps = rw g (rw (z, e, h, emit-append) at inv.keeps) }
+    front_step l b u o' h g = let z : k ≡ suc (k - 1) = omega arith in record { keeps = rw g (rw (z, e, h, emit_append) at inv.keeps) }
 
 pub ruleset fronts = (rules, front_all, front_end, front_step)
 

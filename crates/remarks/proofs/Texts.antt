@@ -6,7 +6,7 @@ use mathlib.Core.List.{List, [], ◌∷◌, ◌++◌, append_assoc}
 use borrow.Author.Rules.{rules}
 use borrow.Author.Tests.{not-false}
 use Rattle.text.specs.Ascii.{Bytes, ascii}
-use Rattle.out.specs.Emit.{Out, ◌▸◌, emit, emit-append}
+use Rattle.out.specs.Emit.{Out, ◌▸◌, emit, emit_append}
 use Rattle.out.specs.Fill.{fill, filled, adds, turns, arg, pick}
 use Rattle.out.specs.Items.{each}
 use Rattle.names.specs.Name.{name_of}
@@ -85,8 +85,8 @@ unknown_written job mem scope top n v a o₀ o₁ o₂ o₃ e f g h =
     let s : arg_of job mem scope top a ≡ name_of mem n = ap (arg_of job mem scope top) h ∙ name_arg_lem job mem scope top n in
     let t = fill (ascii "warning: isolation strategy '{0}': clamp value '") (name_of mem n) [] [] [] [] in
     let z : o₁ ≡ emit o₀ t = rw s at g in
-    let y : o₂ ≡ emit o₀ (t ++ lowered (name_of mem v)) = f ∙ ap (λ (o : Out). emit o (lowered (name_of mem v))) z ∙ sym (emit-append o₀ t (lowered (name_of mem v))) in
-    let x : o₃ ≡ emit o₀ ((t ++ lowered (name_of mem v)) ++ ascii "' not simulated\n") = e ∙ ap (λ (o : Out). emit o (ascii "' not simulated\n")) y ∙ sym (emit-append o₀ (t ++ lowered (name_of mem v)) (ascii "' not simulated\n")) in
+    let y : o₂ ≡ emit o₀ (t ++ lowered (name_of mem v)) = f ∙ ap (λ (o : Out). emit o (lowered (name_of mem v))) z ∙ sym (emit_append o₀ t (lowered (name_of mem v))) in
+    let x : o₃ ≡ emit o₀ ((t ++ lowered (name_of mem v)) ++ ascii "' not simulated\n") = e ∙ ap (λ (o : Out). emit o (ascii "' not simulated\n")) y ∙ sym (emit_append o₀ (t ++ lowered (name_of mem v)) (ascii "' not simulated\n")) in
     x ∙ ap (emit o₀) (append_assoc t (lowered (name_of mem v)) (ascii "' not simulated\n") ∙ pieces (name_of mem n) (lowered (name_of mem v)))
 
 pub ruleset unknowns = (rules, unknown_written)

@@ -5,7 +5,7 @@ use mathlib.Core.List.{List, []}
 use lib.ListN.{take, drop}
 use Rattle.text.specs.Ascii.{Bytes, ascii}
 use Rattle.out.specs.Emit.{Out, emit, ◌⊕◌, emit-⊕}
-use Rattle.out.specs.Fill.{fill, turns, arg, pick, writes, format2, format4, emit-fill}
+use Rattle.out.specs.Fill.{fill, turns, arg, pick, writes, format2, format4, emit_fill}
 use Rattle.refs.specs.Text.{job_ref}
 use Rattle.refs.specs.Laws.{job_is}
 use Rattle.refs.specs.declared.Ref.{Ref}
@@ -25,4 +25,4 @@ module _ (job mem : Bytes) (scope : List Bytes) (top : Bytes) where
 
 pub scope_pieces : (o : Out) (path name number nets : Bytes) → emit o (format2 "scope {0} ({1}), " path name ⊕ number ⊕ ascii " supply nets: " ⊕ nets ⊕ ascii "\n") ≡ emit o (format4 "scope {0} ({1}), {2} supply nets: {3}\n" path name number nets)
 unfolding emit writes turns arg pick
-scope_pieces o path name number nets = simp (emit-⊕, emit-fill)
+scope_pieces o path name number nets = simp (emit-⊕, emit_fill)

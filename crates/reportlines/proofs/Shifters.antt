@@ -5,9 +5,9 @@ use mathlib.Core.List.{List, ◌++◌, map}
 use lib.ListN.{take, drop, get_or}
 use borrow.Author.Rules.{rules}
 use Rattle.text.specs.Ascii.{Bytes}
-use Rattle.out.specs.Emit.{Out, emit, emit-append}
+use Rattle.out.specs.Emit.{Out, emit, emit_append}
 use Rattle.out.specs.Fill.{format2}
-use Rattle.out.specs.Items.{each, each-cons, each_none}
+use Rattle.out.specs.Items.{each, each_cons, each_none}
 use Rattle.texts.specs.Texts.{shifter_line}
 use Rattle.store.specs.Strings.{string}
 use Rattle.store.specs.View.{shifter_of}
@@ -34,8 +34,8 @@ module _ (of : Shifter → ℕ) (bound : ℕ) (t : Shifters) (g : Holds of bound
     lines_next d o' e h =
         let x = get_or t.all i d in
         let q : each shifter_line (map (shifter_of mem) (drop i (take t.n t.all))) ≡ shifter_line (shifter_of mem x) ++ each shifter_line (map (shifter_of mem) (drop (i + 1) (take t.n t.all))) =
-        ap (λ (l : List Shifter). each shifter_line (map (shifter_of mem) l)) (holds_next of bound t.n t.all g i d h) ∙ each-cons shifter_line (shifter_of mem x) (map (shifter_of mem) (drop (i + 1) (take t.n t.all))) in
-        record { keeps = rw e (sym (emit-append o (shifter_line (shifter_of mem x)) (each shifter_line (map (shifter_of mem) (drop (i + 1) (take t.n t.all))))) ∙ (ap (emit o) (sym q) ∙ inv.keeps)) }
+        ap (λ (l : List Shifter). each shifter_line (map (shifter_of mem) l)) (holds_next of bound t.n t.all g i d h) ∙ each_cons shifter_line (shifter_of mem x) (map (shifter_of mem) (drop (i + 1) (take t.n t.all))) in
+        record { keeps = rw e (sym (emit_append o (shifter_line (shifter_of mem x)) (each shifter_line (map (shifter_of mem) (drop (i + 1) (take t.n t.all))))) ∙ (ap (emit o) (sym q) ∙ inv.keeps)) }
 
     pub lines_done : t.n ≤ i → o ≡ w
     lines_done h = sym (each_none shifter_line o) ∙ (ap (λ (l : List Shifter). emit o (each shifter_line (map (shifter_of mem) l))) (sym (holds_end of bound t.n t.all g i h)) ∙ inv.keeps)

@@ -8,9 +8,9 @@ use lib.Dec.{leb}
 use lib.ListN.{drop}
 use borrow.Author.Tests.{ne_eqb, le-leb, lt-leb}
 use Rattle.text.specs.Ascii.{Bytes}
-use Rattle.out.specs.Emit.{Out, emit, emit-append}
-use Rattle.out.specs.Fill.{turns, arg, pick, writes, format1, emit-fill}
-use Rattle.out.specs.Items.{each, each-cons}
+use Rattle.out.specs.Emit.{Out, emit, emit_append}
+use Rattle.out.specs.Fill.{turns, arg, pick, writes, format1, emit_fill}
+use Rattle.out.specs.Items.{each, each_cons}
 use Rattle.texts.specs.Texts.{warning_line}
 use Rattle.store.specs.Strings.{string}
 use Rattle.store.specs.View.{warnings_in, text_of, warning_text}
@@ -22,27 +22,27 @@ use Rattle.storedtexts.specs.Rows.{rows_next, rows_end}
 module _ (o : Out) (w : Bytes) where
   line_3 : emit o (format1 "warning: set_domain_supply_net: unknown power domain '{0}'\n" w) ≡ emit o (warning_line (format1 "set_domain_supply_net: unknown power domain '{0}'" w))
   unfolding emit writes turns arg pick
-  line_3 = simp emit-fill
+  line_3 = simp emit_fill
 
   line_4 : emit o (format1 "warning: set_isolation {0}: -no_isolation, ignored\n" w) ≡ emit o (warning_line (format1 "set_isolation {0}: -no_isolation, ignored" w))
   unfolding emit writes turns arg pick
-  line_4 = simp emit-fill
+  line_4 = simp emit_fill
 
   line_5 : emit o (format1 "warning: set_isolation_control: unknown isolation strategy '{0}'\n" w) ≡ emit o (warning_line (format1 "set_isolation_control: unknown isolation strategy '{0}'" w))
   unfolding emit writes turns arg pick
-  line_5 = simp emit-fill
+  line_5 = simp emit_fill
 
   line_6 : emit o (format1 "warning: add_pst_state: unknown PST '{0}'\n" w) ≡ emit o (warning_line (format1 "add_pst_state: unknown PST '{0}'" w))
   unfolding emit writes turns arg pick
-  line_6 = simp emit-fill
+  line_6 = simp emit_fill
 
   line_7 : emit o (format1 "warning: '{0}' parsed but not simulated\n" w) ≡ emit o (warning_line (format1 "'{0}' parsed but not simulated" w))
   unfolding emit writes turns arg pick
-  line_7 = simp emit-fill
+  line_7 = simp emit_fill
 
   line_8 : emit o (format1 "warning: unsupported UPF command '{0}' ignored\n" w) ≡ emit o (warning_line (format1 "unsupported UPF command '{0}' ignored" w))
   unfolding emit writes turns arg pick
-  line_8 = simp emit-fill
+  line_8 = simp emit_fill
 
 module _ (o : Out) (w : Bytes) (o' : Out) (k : ℕ) where
   pub warn_3 : o' ≡ emit o (format1 "warning: set_domain_supply_net: unknown power domain '{0}'\n" w) → k ≡ 3 → o' ≡ emit o (warning_line (text_of k w))
@@ -108,5 +108,5 @@ module _ (mem : Bytes) (nums : List ℕ) (rows : ℕ) (w o : Out) (i : ℕ) (inv
     unfolding warning_text
     lines_next o' e k =
         let q : each warning_line (map (warning_text mem) (warnings_in (drop i (rows_in nums rows)))) ≡ warning_line (warning_text mem r) ++ each warning_line (map (warning_text mem) (warnings_in (drop (i + 1) (rows_in nums rows)))) =
-        ap (λ (l : List Row). each warning_line (map (warning_text mem) l)) (left_is true (le-leb 3 r.kind k)) ∙ each-cons warning_line (warning_text mem r) (map (warning_text mem) (warnings_in (drop (i + 1) (rows_in nums rows)))) in
-        record { keeps = rw e (sym (emit-append o (warning_line (warning_text mem r)) (each warning_line (map (warning_text mem) (warnings_in (drop (i + 1) (rows_in nums rows)))))) ∙ (ap (emit o) (sym q) ∙ inv.keeps)) }
+        ap (λ (l : List Row). each warning_line (map (warning_text mem) l)) (left_is true (le-leb 3 r.kind k)) ∙ each_cons warning_line (warning_text mem r) (map (warning_text mem) (warnings_in (drop (i + 1) (rows_in nums rows)))) in
+        record { keeps = rw e (sym (emit_append o (warning_line (warning_text mem r)) (each warning_line (map (warning_text mem) (warnings_in (drop (i + 1) (rows_in nums rows)))))) ∙ (ap (emit o) (sym q) ∙ inv.keeps)) }

@@ -3,7 +3,7 @@
 
 ghost use Rattle.std.specs.Prelude.{◌≡◌, true, [], ◌++◌};
 ghost use Rattle.out.specs.Emit.{◌▸◌, emit};
-ghost use Rattle.out.specs.Fill.{isTemplate, fill};
+ghost use Rattle.out.specs.Fill.{is_template, fill};
 ghost use Rattle.store.specs.Strings.{string};
 
 use clamps::stored;
@@ -19,7 +19,7 @@ pub fn put(out: &mut [u8], at: usize, files: &[u8], area: &[u8], s: Stored) -> u
 
 // Writes the template t with a stored string in its places.
 pub fn fill1(out: &mut [u8], at: usize, t: &[u8], files: &[u8], area: &[u8], s: Stored) -> usize
-    requires { isTemplate 1 t.now ≡ true }
+    requires { is_template 1 t.now ≡ true }
     ensures { out.new ▸ result ≡ emit (out.old ▸ at) (fill t.now (string (files.now ++ area.now) s) [] [] [] []) }
 {
     nametexts::fill1(out, at, t, files, area, stored(s))
@@ -35,7 +35,7 @@ pub fn fill2(
     s: Stored,
     u: Stored,
 ) -> usize
-    requires { isTemplate 2 t.now ≡ true }
+    requires { is_template 2 t.now ≡ true }
     ensures { out.new ▸ result ≡ emit (out.old ▸ at) (fill t.now (string (files.now ++ area.now) s) (string (files.now ++ area.now) u) [] [] []) }
 {
     nametexts::fill2(out, at, t, files, area, stored(s), stored(u))

@@ -7,7 +7,7 @@ use mathlib.Core.List.{List, [], ◌++◌, append-nil}
 use borrow.Author.Rules.{rules}
 use Rattle.text.specs.Ascii.{Bytes, ascii}
 use Rattle.text.specs.Sames.{no_true}
-use Rattle.out.specs.Emit.{Out, ◌▸◌, emit, emit-append}
+use Rattle.out.specs.Emit.{Out, ◌▸◌, emit, emit_append}
 use Rattle.names.specs.Name.{name_of}
 use Rattle.names.specs.declared.name.Name.{Name}
 use Rattle.refs.specs.Text.{no_name}
@@ -92,7 +92,7 @@ module _ (job mem : Bytes) (warn : Bool) (c : Cover) (out : Bytes) (number : ℕ
             m.text
             ∙ ap (λ (y : Bytes). emit (out₁ ▸ a.at) (said_by warn y [])) line_is_lem
             ∙ ap (λ (o : Out). emit o (said_by warn w [])) (gained.text h)
-            ∙ sym (emit-append (out ▸ c.at) (said warn g) (said_by warn w []))
+            ∙ sym (emit_append (out ▸ c.at) (said warn g) (said_by warn w []))
             ∙ ap (emit (out ▸ c.at)) (sym (said_behind warn g (line_gain w g.rows)));
         refused = λ n. absurd (no_true (sym v ∙ n));
       }

@@ -4,10 +4,10 @@ use native.Mathlib.Omega.{arith}
 use mathlib.Core.Path.{◌≡◌, sym, ap, ◌∙◌}
 use mathlib.Core.List.{List, [], ◌∷◌}
 use Rattle.text.specs.Ascii.{Bytes}
-use Rattle.out.specs.Emit.{Out, emit, emit-append}
+use Rattle.out.specs.Emit.{Out, emit, emit_append}
 use Rattle.out.specs.Bytewise.{dotted}
 use Rattle.out.specs.Fill.{fill}
-use Rattle.out.specs.Items.{each, each-cons, each_none}
+use Rattle.out.specs.Items.{each, each_cons, each_none}
 use Rattle.names.specs.Name.{name_of}
 use Rattle.names.specs.declared.name.Name.{Name}
 use Rattle.nametable.specs.Table.{row_name, names_from, table_names, names_next, names_none}
@@ -51,7 +51,7 @@ module _ (f : Bytes → Bytes) (mem : Bytes) (table : List ℕ) (n : ℕ) (w o :
   each_next x o' e ex h =
       let z : n - k ≡ suc (n - (k + 1)) = omega arith in
       let l : names_from mem table k (n - k) ≡ name_of mem x ∷ names_from mem table (k + 1) (n - (k + 1)) = rw (z, ex) (names_next mem table k (n - (k + 1))) in
-      record { keeps = rw e (sym (ap (emit o) (each-cons f (name_of mem x) (names_from mem table (k + 1) (n - (k + 1)))) ∙ emit-append o (f (name_of mem x)) (each f (names_from mem table (k + 1) (n - (k + 1))))) ∙ (rw l at inv.keeps)) }
+      record { keeps = rw e (sym (ap (emit o) (each_cons f (name_of mem x) (names_from mem table (k + 1) (n - (k + 1)))) ∙ emit_append o (f (name_of mem x)) (each f (names_from mem table (k + 1) (n - (k + 1))))) ∙ (rw l at inv.keeps)) }
 
   pub each_done : n ≤ k → o ≡ w
   each_done h = let z : names_from mem table k (n - k) ≡ [] = let y : n - k ≡ 0 = omega arith in rw y (names_none mem table k) in sym (each_none f o) ∙ (rw z at inv.keeps)

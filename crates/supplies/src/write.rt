@@ -1,7 +1,7 @@
 // What glue and package have for each supply net.
 ghost use Rattle.std.specs.Prelude.{◌≡◌, true, [], ◌++◌, ◌≤◌};
 ghost use Rattle.out.specs.Emit.{◌▸◌, emit};
-ghost use Rattle.out.specs.Fill.{isTemplate};
+ghost use Rattle.out.specs.Fill.{is_template};
 ghost use Rattle.out.specs.Items.{each};
 ghost use Rattle.names.specs.Name.{name_of};
 ghost use Rattle.nametable.specs.Table.{table_names};
@@ -84,7 +84,7 @@ fn case_text(
     top: &[u8],
     x: Name,
 ) -> usize
-    requires { isTemplate 4 t.now ≡ true }
+    requires { is_template 4 t.now ≡ true }
     ensures { out.new ▸ result ≡ emit (out.old ▸ at) (case_of t.now top.now (parts over.now from) (name_of (files.now ++ area.now) x)) }
 {
     fill4(
@@ -118,7 +118,7 @@ fn cases(
     table: &[u32],
     n: usize,
 ) -> usize
-    requires { (n ≤ 65536) × (isTemplate 4 t.now ≡ true) }
+    requires { (n ≤ 65536) × (is_template 4 t.now ≡ true) }
     ensures { out.new ▸ result ≡ emit (out.old ▸ at) (each (case_of t.now top.now (parts over.now from)) (table_names (files.now ++ area.now) table.now n)) }
 {
     let mut o = at;

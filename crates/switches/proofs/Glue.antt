@@ -5,9 +5,9 @@ use mathlib.Core.Path.{◌≡◌, refl, sym, ap, ap₂, ◌∙◌}
 use mathlib.Core.List.{List, [], ◌∷◌, ◌++◌, map}
 use lib.ListN.{length, take, drop, get_or}
 use Rattle.text.specs.Ascii.{Bytes, ascii}
-use Rattle.out.specs.Emit.{Out, emit, emit-append, emit-⊕, ◌⊕◌}
-use Rattle.out.specs.Fill.{fill, arg, pick, turns, writes, emit-fill}
-use Rattle.out.specs.Items.{each, each-cons, each_none}
+use Rattle.out.specs.Emit.{Out, emit, emit_append, emit-⊕, ◌⊕◌}
+use Rattle.out.specs.Fill.{fill, arg, pick, turns, writes, emit_fill}
+use Rattle.out.specs.Items.{each, each_cons, each_none}
 use Rattle.spans.specs.Span.{bytes}
 use Rattle.spans.specs.declared.span.Span.{Span}
 use Rattle.tcl.specs.Lists.{list}
@@ -52,7 +52,7 @@ arg_whole long v u w e = rw e w
 
 state_pieces : (o : Out) (a b z d on : Bytes) → emit (emit (emit (emit (emit (emit (emit o (fill (ascii "  assign upf__{b} = (") a b z d [])) on) (fill (ascii ") ? upf__{a} : ((") a b z d [])) on) (fill (ascii ") === 1'b0 ? 1'b0 : 1'bx);\n  always @* upf__{b}_v = (") a b z d [])) on) (fill (ascii ") ? upf__{a}_v : 0.0;\n  logic [1:0] upf_swst__{d} = 2'd3;\n") a b z d []) ≡ emit o (state_text a b on d)
 unfolding emit writes turns arg pick
-state_pieces o a b z d on = simp emit-fill
+state_pieces o a b z d on = simp emit_fill
 
 pub state_all : (a b z d on : Bytes) (o o₁ o₂ o₃ o₄ o₅ o₆ o₇ : Out) → o₁ ≡ emit o (fill (ascii "  assign upf__{b} = (") a b z d []) → o₂ ≡ emit o₁ on → o₃ ≡ emit o₂ (fill (ascii ") ? upf__{a} : ((") a b z d []) → o₄ ≡ emit o₃ on → o₅ ≡ emit o₄ (fill (ascii ") === 1'b0 ? 1'b0 : 1'bx);\n  always @* upf__{b}_v = (") a b z d []) → o₆ ≡ emit o₅ on → o₇ ≡ emit o₆ (fill (ascii ") ? upf__{a}_v : 0.0;\n  logic [1:0] upf_swst__{d} = 2'd3;\n") a b z d []) → o₇ ≡ emit o (state_text a b on d)
 state_all a b z d on o o₁ o₂ o₃ o₄ o₅ o₆ o₇ e₁ e₂ e₃ e₄ e₅ e₆ e₇ = rw (e₇, e₆, e₅, e₄, e₃, e₂, e₁) (state_pieces o a b z d on)
@@ -61,7 +61,7 @@ state_all a b z d on o o₁ o₂ o₃ o₄ o₅ o₆ o₇ e₁ e₂ e₃ e₄ e�
 
 signal_pieces : (o : Out) (a z c d on : Bytes) → emit (emit (emit (emit (emit o (fill (ascii "  always @({0}) begin\n    if ((") a z c d [])) on) (fill (ascii ") === 1'b1) begin if (upf_swst__{c} != 2'd1) $display(\"[UPF] Time: %0t, Power switch '{2}': control '{3}' = %b, state FULL_ON\", $time, {0}); upf_swst__{c} = 2'd1; end\n    else if ((") a z c d [])) on) (fill (ascii ") === 1'b0) begin if (upf_swst__{c} != 2'd0) $display(\"[UPF] Time: %0t, Power switch '{2}': control '{3}' = %b, state OFF\", $time, {0}); upf_swst__{c} = 2'd0; end\n    else begin if (upf_swst__{c} != 2'd2) $display(\"[UPF] Time: %0t, Power switch '{2}': control '{3}' = %b, state UNDETERMINED\", $time, {0}); upf_swst__{c} = 2'd2; end\n  end\n") a z c d []) ≡ emit o (signal_text a on c d)
 unfolding emit writes turns arg pick
-signal_pieces o a z c d on = simp emit-fill
+signal_pieces o a z c d on = simp emit_fill
 
 pub signal_all : (a z c d on : Bytes) (o o₁ o₂ o₃ o₄ o₅ : Out) → o₁ ≡ emit o (fill (ascii "  always @({0}) begin\n    if ((") a z c d []) → o₂ ≡ emit o₁ on → o₃ ≡ emit o₂ (fill (ascii ") === 1'b1) begin if (upf_swst__{c} != 2'd1) $display(\"[UPF] Time: %0t, Power switch '{2}': control '{3}' = %b, state FULL_ON\", $time, {0}); upf_swst__{c} = 2'd1; end\n    else if ((") a z c d []) → o₄ ≡ emit o₃ on → o₅ ≡ emit o₄ (fill (ascii ") === 1'b0) begin if (upf_swst__{c} != 2'd0) $display(\"[UPF] Time: %0t, Power switch '{2}': control '{3}' = %b, state OFF\", $time, {0}); upf_swst__{c} = 2'd0; end\n    else begin if (upf_swst__{c} != 2'd2) $display(\"[UPF] Time: %0t, Power switch '{2}': control '{3}' = %b, state UNDETERMINED\", $time, {0}); upf_swst__{c} = 2'd2; end\n  end\n") a z c d []) → o₅ ≡ emit o (signal_text a on c d)
 signal_all a z c d on o o₁ o₂ o₃ o₄ o₅ e₁ e₂ e₃ e₄ e₅ = rw (e₅, e₄, e₃, e₂, e₁) (signal_pieces o a z c d on)
@@ -96,7 +96,7 @@ module _ (f : Control → Bytes) (mem : Bytes) (table : List ℕ) (n : ℕ) (w o
   pub turns_next : (o' : Out) → o' ≡ emit o (f (control_at mem table i)) → i + 1 < n → Turns f mem table n w o' (i + 2)
   turns_next o' e h =
       let left = controls_of (names_from mem table (i + 2) (n - (i + 2))) in
-      record { keeps = rw e (sym (emit-append o (f (control_at mem table i)) (each f left)) ∙ ap (emit o) (sym (each-cons f (control_at mem table i) left)) ∙ (rw (controls_next mem table n i h) at inv.keeps)); low = omega arith }
+      record { keeps = rw e (sym (emit_append o (f (control_at mem table i)) (each f left)) ∙ ap (emit o) (sym (each_cons f (control_at mem table i) left)) ∙ (rw (controls_next mem table n i h) at inv.keeps)); low = omega arith }
 
   pub turns_done : n ≤ i + 1 → o ≡ w
   turns_done h = sym (each_none f o) ∙ (rw (controls_end mem table n i h) at inv.keeps)
@@ -176,7 +176,7 @@ module _ {A B : Type 0} (g : B → Bytes) (h : A → B) (all : List A) (n : ℕ)
   pub eaches_next : (d : A) (o' : Out) → o' ≡ emit o (g (h (get_or all i d))) → i < n → Eaches g h all n w o' (i + 1)
   eaches_next d o' e l =
       let left = map h (drop (i + 1) (take n all)) in
-      record { keeps = rw e (sym (emit-append o (g (h (get_or all i d))) (each g left)) ∙ ap (emit o) (sym (each-cons g (h (get_or all i d)) left)) ∙ (rw (sized_next n all s i d l) at inv.keeps)) }
+      record { keeps = rw e (sym (emit_append o (g (h (get_or all i d))) (each g left)) ∙ ap (emit o) (sym (each_cons g (h (get_or all i d)) left)) ∙ (rw (sized_next n all s i d l) at inv.keeps)) }
 
   pub eaches_done : n ≤ i → o ≡ w
   eaches_done l = sym (each_none g o) ∙ (rw (sized_end n all s i l) at inv.keeps)

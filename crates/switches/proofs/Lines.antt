@@ -6,8 +6,8 @@ use mathlib.Core.List.{List, [], ◌++◌, map}
 use lib.ListN.{get_or}
 use Rattle.text.specs.Ascii.{Bytes, ascii}
 use Rattle.out.specs.Emit.{Out, emit}
-use Rattle.out.specs.Fill.{fill, format2, format4, arg, pick, turns, writes, emit-fill}
-use Rattle.out.specs.Items.{joined, rest, unless, join-next, join-done}
+use Rattle.out.specs.Fill.{fill, format2, format4, arg, pick, turns, writes, emit_fill}
+use Rattle.out.specs.Items.{joined, rest, unless, join_next, join_done}
 use Rattle.tcl.specs.Lists.{list}
 use Rattle.names.specs.Name.{name_of}
 use Rattle.names.specs.declared.name.Name.{Name}
@@ -27,7 +27,7 @@ use Rattle.switches.proofs.Glue.{controls_next, controls_end, Eaches, eaches_nex
 
 pair_pieces : (o : Out) (p s : Bytes) → emit (emit (emit o p) (ascii "=")) s ≡ emit o (format2 "{0}={1}" p s)
 unfolding emit writes turns arg pick
-pair_pieces o p s = sym (emit-fill o (ascii "{0}={1}") p s [] [] [])
+pair_pieces o p s = sym (emit_fill o (ascii "{0}={1}") p s [] [] [])
 
 pub pair_all : (mem : Bytes) (table : List ℕ) (i : ℕ) (o o₁ o₂ o₃ : Out) (p s : Name) → o₃ ≡ emit o₂ (name_of mem s) → o₂ ≡ emit o₁ (ascii "=") → o₁ ≡ emit o (name_of mem p) → p ≡ row_name table i → s ≡ row_name table (i + 1) → o₃ ≡ emit o (pair_text (control_at mem table i))
 pair_all mem table i o o₁ o₂ o₃ p s e₃ e₂ e₁ ep es = rw (e₃, e₂, e₁, ep, es) (pair_pieces o (name_of mem (row_name table i)) (name_of mem (row_name table (i + 1))))
@@ -43,10 +43,10 @@ pairs_start sep mem table n o = let e : n - 0 ≡ n = omega arith in record { ke
 module _ (sep mem : Bytes) (table : List ℕ) (n : ℕ) (w o : Out) (i : ℕ) (inv : Pairs sep mem table n w o i) where
   pub pairs_next : (o₁ o₂ : Out) → o₂ ≡ emit o₁ (pair_text (control_at mem table i)) → o₁ ≡ emit o (unless i sep) → i + 1 < n → Pairs sep mem table n w o₂ (i + 2)
   pairs_next o₁ o₂ e₂ e₁ h =
-      record { keeps = join-next o o₁ o₂ w sep i 1 (pair_text (control_at mem table i)) (map pair_text (controls_of (names_from mem table (i + 2) (n - (i + 2))))) e₁ e₂ (rw (controls_next mem table n i h) at inv.keeps); low = omega arith }
+      record { keeps = join_next o o₁ o₂ w sep i 1 (pair_text (control_at mem table i)) (map pair_text (controls_of (names_from mem table (i + 2) (n - (i + 2))))) e₁ e₂ (rw (controls_next mem table n i h) at inv.keeps); low = omega arith }
 
   pub pairs_done : n ≤ i + 1 → o ≡ w
-  pairs_done h = join-done o w sep i (rw (controls_end mem table n i h) at inv.keeps)
+  pairs_done h = join_done o w sep i (rw (controls_end mem table n i h) at inv.keeps)
 
   pub pairs_index : n ≤ 65536 → i + 1 < 2 ^ 64
   pairs_index h = omega (arith, inv.low)
@@ -64,7 +64,7 @@ few_rows mem w table count t = omega (arith, t.few)
 
 line_pieces : (o : Out) (a b c d : Bytes) → emit (emit (emit o (fill (ascii "power switch {0}: {1} -> {2} controlled by ") a b c [] [])) d) (ascii "\n") ≡ emit o (format4 "power switch {0}: {1} -> {2} controlled by {3}\n" a b c d)
 unfolding emit writes turns arg pick
-line_pieces o a b c d = simp emit-fill
+line_pieces o a b c d = simp emit_fill
 
 module _ (job mem : Bytes) (scope : List Bytes) (top : Bytes) (w : Switch) (table : List ℕ) (count : ℕ) (t : Controlled mem w table count) where
   controlled_is : controlled (switch_of mem [] w) ≡ joined (ascii ",") (map pair_text (controls_of (table_names mem table count)))

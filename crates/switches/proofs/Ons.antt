@@ -6,8 +6,8 @@ use mathlib.Core.List.{List, [], ◌∷◌, ◌++◌, map}
 use lib.ListN.{length}
 use Rattle.text.specs.Ascii.{Bytes, ascii}
 use Rattle.out.specs.Emit.{Out, emit}
-use Rattle.out.specs.Fill.{format1, arg, pick, turns, writes, emit-fill}
-use Rattle.out.specs.Items.{joined, rest, unless, join-next, join-done}
+use Rattle.out.specs.Fill.{format1, arg, pick, turns, writes, emit_fill}
+use Rattle.out.specs.Items.{joined, rest, unless, join_next, join_done}
 use Rattle.spans.specs.Span.{bytes}
 use Rattle.spans.specs.declared.span.Span.{Span}
 use Rattle.tcl.specs.Lists.{list}
@@ -30,7 +30,7 @@ use Rattle.switches.specs.Asked.{Ons}
 
 one_pieces : (o : Out) (x : Bytes) → emit (emit (emit o (ascii "(")) x) (ascii ")") ≡ emit o (format1 "({0})" x)
 unfolding emit writes turns arg pick
-one_pieces o x = sym (emit-fill o (ascii "({0})") x [] [] [] [])
+one_pieces o x = sym (emit_fill o (ascii "({0})") x [] [] [] [])
 
 pub on_one : (s : Setting) (cs : List Control) (mem : Bytes) (v : Span) (o o₁ o₂ o₃ : Out) (e : Name) (end : ℕ) → o₃ ≡ emit o₂ (ascii ")") → o₂ ≡ emit o₁ (condition s cs (name_of mem e)) → o₁ ≡ emit o (ascii "(") → Known mem (nth 2 (list (bytes mem v))) end e → o₃ ≡ emit o (on_text s cs (on_of (bytes mem v)))
 on_one s cs mem v o o₁ o₂ o₃ e end e₃ e₂ e₁ k = rw (e₃, e₂, e₁, k.is) (one_pieces o (condition s cs (nth 2 (list (bytes mem v)))))
@@ -50,10 +50,10 @@ module _ (s : Setting) (cs : List Control) (mem : Bytes) (nums : List ℕ) (firs
       let z : n - k ≡ suc (n - (k + 1)) = omega arith in
       let y : first + k + 1 ≡ first + (k + 1) = omega arith in
       let l : ons_from mem nums (first + k) (n - k) ≡ on_of (bytes mem u) ∷ ons_from mem nums (first + (k + 1)) (n - (k + 1)) = rw (z, eu, ev) (ons_cons mem nums (first + k) (n - (k + 1)) ∙ rw y) in
-      record { keeps = join-next o o₁ o₂ w sep k 0 (on_text s cs (on_of (bytes mem u))) (map (on_text s cs) (ons_from mem nums (first + (k + 1)) (n - (k + 1)))) e₁ e₂ (rw l at inv.keeps) }
+      record { keeps = join_next o o₁ o₂ w sep k 0 (on_text s cs (on_of (bytes mem u))) (map (on_text s cs) (ons_from mem nums (first + (k + 1)) (n - (k + 1)))) e₁ e₂ (rw l at inv.keeps) }
 
   pub ons_done : n ≤ k → o ≡ w
-  ons_done h = let z : n - k ≡ 0 = omega arith in join-done o w sep k (rw (z, ons_none mem nums (first + k)) at inv.keeps)
+  ons_done h = let z : n - k ≡ 0 = omega arith in join_done o w sep k (rw (z, ons_none mem nums (first + k)) at inv.keeps)
 
 module _ (files area nums : List ℕ) (first n count : ℕ) (a : Ons files area nums first n count) where
   pub ons_small : length (files ++ area) < 2 ^ 32

@@ -7,8 +7,8 @@ use mathlib.Core.List.{List, [], ◌∷◌, ◌++◌, map, flat_map}
 use lib.ListN.{length, take, drop, get_or, length-append}
 use Rattle.text.specs.Ascii.{Bytes, ascii}
 use Rattle.text.specs.Compare.{same}
-use Rattle.out.specs.Emit.{Out, emit, emit-append}
-use Rattle.out.specs.Fill.{fill, format3, arg, pick, turns, writes, emit-fill}
+use Rattle.out.specs.Emit.{Out, emit, emit_append}
+use Rattle.out.specs.Fill.{fill, format3, arg, pick, turns, writes, emit_fill}
 use Rattle.out.specs.Items.{each, each_none}
 use Rattle.spans.specs.Span.{bytes}
 use Rattle.spans.specs.declared.span.Span.{Span}
@@ -45,7 +45,7 @@ use Rattle.clamps.specs.Values.{stored_name}
 
 port_pieces : (o : Out) (x y z : Bytes) → emit o (fill (ascii "warning: power switch '{0}': on_state uses input port '{1}' (expected '{2}')\n") x y z [] []) ≡ emit o (warning_line (format3 "power switch '{0}': on_state uses input port '{1}' (expected '{2}')" x y z))
 unfolding emit writes turns arg pick
-port_pieces o x y z = simp emit-fill
+port_pieces o x y z = simp emit_fill
 
 pub port_told : (job mem : Bytes) (scope : List Bytes) (top : Bytes) (s : Stored) (port expected : Name) (o o' : Out) (n : ℕ) (a b c : Arg) (x : Name) → o' ≡ emit o (fill (ascii "warning: power switch '{0}': on_state uses input port '{1}' (expected '{2}')\n") (arg_of job mem scope top a) (arg_of job mem scope top b) (arg_of job mem scope top c) [] []) → a ≡ name_arg x → x ≡ stored_name s → b ≡ name_arg port → c ≡ name_arg expected → Told 1 o n (format3 "power switch '{0}': on_state uses input port '{1}' (expected '{2}')" (string mem s) (name_of mem port) (name_of mem expected) ∷ []) o' (n + 1)
 port_told job mem scope top s port expected o o' n a b c x e ea ex eb ec =
@@ -110,7 +110,7 @@ module _ {A : Type 0} (f : A → List Bytes) (all : List A) (o₀ : Out) (n₀ :
       let z : flat_map f left ≡ f x ++ l = ap (flat_map f) e ∙ flat_cons f x left' in
       let c : n + length (f x ++ l) ≡ n₀ + length (flat_map f all) = rw z at inv.count in
       record {
-        text = ap (λ (q : Out). emit q (each warning_line l)) t.text ∙ sym (ap (emit o) (each_append warning_line (f x) l) ∙ emit-append o (each warning_line (f x)) (each warning_line l)) ∙ (rw z at inv.text);
+        text = ap (λ (q : Out). emit q (each warning_line l)) t.text ∙ sym (ap (emit o) (each_append warning_line (f x) l) ∙ emit_append o (each warning_line (f x)) (each warning_line l)) ∙ (rw z at inv.text);
         count = omega (arith, c, t.count, length-append (f x) l);
       }
 

@@ -10,8 +10,8 @@ use borrow.Author.Tests.{eq-eqb, ne_eqb}
 use Rattle.text.specs.Ascii.{Bytes, ascii}
 use Rattle.text.specs.Classes.{is_digit, is_variable}
 use Rattle.text.specs.Scan.{all, before}
-use Rattle.out.specs.Emit.{Out, emit, emit-append, wrote, kept}
-use Rattle.out.specs.Fill.{fill, format1, arg, pick, turns, writes, emit-fill}
+use Rattle.out.specs.Emit.{Out, emit, emit_append, wrote, kept}
+use Rattle.out.specs.Fill.{fill, format1, arg, pick, turns, writes, emit_fill}
 use Rattle.out.specs.Items.{each, each_none}
 use Rattle.tcl.specs.Substitution.{no_variable}
 use Rattle.names.specs.Name.{name_of, step_of}
@@ -48,7 +48,7 @@ told_one o o' n w e = record { text = e ∙ ap (emit o) (sym (one_warning w)); c
 pub told_then : (a b c : ℕ) (o o₁ o₂ : Out) (n n₁ n₂ : ℕ) (ws vs : List Bytes) → Told a o n ws o₁ n₁ → Told b o₁ n₁ vs o₂ n₂ → a + b ≤ c → Told c o n (ws ++ vs) o₂ n₂
 told_then a b c o o₁ o₂ n n₁ n₂ ws vs p q h =
     record {
-      text = q.text ∙ ap (λ (x : Out). emit x (each warning_line vs)) p.text ∙ sym (ap (emit o) (each_append warning_line ws vs) ∙ emit-append o (each warning_line ws) (each warning_line vs));
+      text = q.text ∙ ap (λ (x : Out). emit x (each warning_line vs)) p.text ∙ sym (ap (emit o) (each_append warning_line ws vs) ∙ emit_append o (each warning_line ws) (each warning_line vs));
       count = omega (arith, p.count, q.count, length-append ws vs);
       few = omega (arith, p.few, q.few);
     }
@@ -64,7 +64,7 @@ more_fits n h = omega arith
 
 word_pieces : (o : Out) (x : Bytes) → emit o (fill (ascii "warning: power switch state uses unknown control port '{0}'\n") x [] [] [] []) ≡ emit o (warning_line (format1 "power switch state uses unknown control port '{0}'" x))
 unfolding emit writes turns arg pick
-word_pieces o x = simp emit-fill
+word_pieces o x = simp emit_fill
 
 module _ (job mem : Bytes) (scope : List Bytes) (table : List ℕ) (count k : ℕ) (x : Name) (w : Ref) (ew : w ≡ front_ref x k) (r : ℕ) (seen : ControlSeen mem table count (text_of job mem w) r) (o : Out) (n : ℕ) where
   port_is : text_of job mem w ≡ take k (name_of mem x)
@@ -134,7 +134,7 @@ module _ (s : Setting) (cs : List Control) (mem : Bytes) (e : Name) (o₀ : Out)
             let z : unknowns s cs 0 (name_of mem x) ≡ v ++ l = rw (ey, at_byte) (unknowns_word s cs b (name_of mem u) (sym et ∙ d) k size_is) in
             let c : n + length (v ++ l) ≡ n₀ + length (unknowns s cs 0 (name_of mem e)) = rw z at inv.count in
             record {
-              text = ap (λ (q : Out). emit q (each warning_line l)) w.text ∙ sym (ap (emit o) (each_append warning_line v l) ∙ emit-append o (each warning_line v) (each warning_line l)) ∙ (rw z at inv.text);
+              text = ap (λ (q : Out). emit q (each warning_line l)) w.text ∙ sym (ap (emit o) (each_append warning_line v l) ∙ emit_append o (each warning_line v) (each warning_line l)) ∙ (rw z at inv.text);
               count = omega (arith, c, w.count, length-append v l);
               most = inv.most;
             }

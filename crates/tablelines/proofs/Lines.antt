@@ -7,9 +7,9 @@ use lib.ListN.{length, take, drop, get_or, length-map}
 use lib.Seq.{length-take-le, get_or-take}
 use borrow.Author.Rules.{rules}
 use Rattle.text.specs.Ascii.{Bytes, ascii}
-use Rattle.out.specs.Emit.{Out, emit, emit-append, ◌⊕◌, emit-⊕}
-use Rattle.out.specs.Fill.{turns, arg, pick, writes, format1, format3, emit-fill}
-use Rattle.out.specs.Items.{each, each-cons, each_none}
+use Rattle.out.specs.Emit.{Out, emit, emit_append, ◌⊕◌, emit-⊕}
+use Rattle.out.specs.Fill.{turns, arg, pick, writes, format1, format3, emit_fill}
+use Rattle.out.specs.Items.{each, each_cons, each_none}
 use Rattle.spans.specs.Reach.{held_by, reach_end}
 use Rattle.tcl.specs.Lists.{list}
 use Rattle.names.specs.Scoped.{scoped}
@@ -32,7 +32,7 @@ use Rattle.tablelines.specs.Tables.{table_text, OfStates, OfTable, OfTables}
 
 pub table_pieces : (o : Out) (name supplies states : Bytes) → emit o (format1 "PST {0} over [" name ⊕ supplies ⊕ ascii "]: " ⊕ states ⊕ ascii "\n") ≡ emit o (format3 "PST {0} over [{1}]: {2}\n" name supplies states)
 unfolding emit writes turns arg pick
-table_pieces o name supplies states = simp (emit-⊕, emit-fill)
+table_pieces o name supplies states = simp (emit-⊕, emit_fill)
 
 module _ (files area : Bytes) (nums : List ℕ) (rows k : ℕ) (x : Table) (g : OfTable files area nums rows k x) where
   pub table_states : OfStates files area nums rows k
@@ -127,8 +127,8 @@ module _ (files area : Bytes) (nums : List ℕ) (rows : ℕ) (t : Tables) (g : O
           let q : each table_line (numbered made i (drop i (take t.n t.all))) ≡ table_line (made i x) ++ each table_line (numbered made (i + 1) (drop (i + 1) (take t.n t.all))) =
           ap (λ (l : List Table). each table_line (numbered made i l)) (holds_next of (length mem) t.n t.all g.holds i d h)
           ∙ ap (each table_line) (numbered_first made i x (drop (i + 1) (take t.n t.all)))
-          ∙ each-cons table_line (made i x) (numbered made (i + 1) (drop (i + 1) (take t.n t.all))) in
-          record { keeps = rw e (sym (emit-append o (table_line (made i x)) (each table_line (numbered made (i + 1) (drop (i + 1) (take t.n t.all))))) ∙ (ap (emit o) (sym q) ∙ inv.keeps)) }
+          ∙ each_cons table_line (made i x) (numbered made (i + 1) (drop (i + 1) (take t.n t.all))) in
+          record { keeps = rw e (sym (emit_append o (table_line (made i x)) (each table_line (numbered made (i + 1) (drop (i + 1) (take t.n t.all))))) ∙ (ap (emit o) (sym q) ∙ inv.keeps)) }
 
   pub lines_done : (w o : Out) → Lines mem nums rows t w o i → t.n ≤ i → o ≡ w
   lines_done w o inv h =

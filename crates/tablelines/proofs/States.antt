@@ -8,8 +8,8 @@ use lib.ListN.{length, drop}
 use borrow.Author.Rules.{rules}
 use Rattle.text.specs.Ascii.{Bytes, ascii}
 use Rattle.out.specs.Emit.{Out, emit, ◌⊕◌, emit-⊕}
-use Rattle.out.specs.Fill.{turns, arg, pick, writes, format2, emit-fill}
-use Rattle.out.specs.Items.{joined, rest, unless, join-next, join-done}
+use Rattle.out.specs.Fill.{turns, arg, pick, writes, format2, emit_fill}
+use Rattle.out.specs.Items.{joined, rest, unless, join_next, join_done}
 use Rattle.spans.specs.Span.{◌⋯◌, bytes}
 use Rattle.spans.specs.Reach.{held_by, reach_end}
 use Rattle.spans.specs.declared.span.Span.{Span}
@@ -32,7 +32,7 @@ use Rattle.tablelines.specs.Tables.{state_text, is_state, state_of, OfState, OfS
 
 values_cut : (o : Out) (name vs : Bytes) → emit o (name ⊕ ascii "={" ⊕ vs ⊕ ascii "}") ≡ emit o (format2 "{0}={{{1}}}" name vs)
 unfolding emit writes turns arg pick
-values_cut o name vs = simp (emit-⊕, emit-fill)
+values_cut o name vs = simp (emit-⊕, emit_fill)
 
 pub values_pieces : (o : Out) (name : Bytes) (values : List Bytes) → emit o (name ⊕ ascii "={" ⊕ joined (ascii " ") values ⊕ ascii "}") ≡ emit o (state_text name values)
 values_pieces o name values = values_cut o name (joined (ascii " ") values)
@@ -111,10 +111,10 @@ module _ (files area : Bytes) (nums : List ℕ) (rows k : ℕ) (g : OfStates fil
       pub joins_next : (o₁ o₂ : Out) → o₂ ≡ emit o₁ (table_state (state_of (files ++ area) r)) → o₁ ≡ emit o (unless n sep) → Joins sep (files ++ area) nums rows k w o₂ (n + 1) (i + 1)
       joins_next o₁ o₂ e₂ e₁ =
           record {
-            keeps = join-next o o₁ o₂ w sep n 0 (table_state (state_of (files ++ area) r)) (map table_state (left_of (files ++ area) nums rows k (i + 1))) e₁ e₂ (rw (now_left, q) at inv.keeps);
+            keeps = join_next o o₁ o₂ w sep n 0 (table_state (state_of (files ++ area) r)) (map table_state (left_of (files ++ area) nums rows k (i + 1))) e₁ e₂ (rw (now_left, q) at inv.keeps);
             few = both_few.1;
           }
 
 pub joins_done : (sep mem : Bytes) (nums : List ℕ) (rows k : ℕ) (w o : Out) (n i : ℕ) → Joins sep mem nums rows k w o n i → rows ≤ i → o ≡ w
 unfolding flat_map
-joins_done sep mem nums rows k w o n i inv h = join-done o w sep n (rw (rows_end nums rows i h) at inv.keeps)
+joins_done sep mem nums rows k w o n i inv h = join_done o w sep n (rw (rows_end nums rows i h) at inv.keeps)

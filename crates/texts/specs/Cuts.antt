@@ -10,7 +10,7 @@ use Rattle.text.specs.Classes.{is_alnum}
 use Rattle.text.specs.Compare.{same}
 use Rattle.text.specs.Scan.{all, split_at}
 use Rattle.text.specs.Sames.{both, no_true}
-use Rattle.out.specs.Bytewise.{flat, mangledByte, mangle}
+use Rattle.out.specs.Bytewise.{flat, mangled_byte, mangle}
 use Rattle.out.specs.Fill.{pick, arg, adds, turns, filled, fill}
 use Rattle.out.specs.Items.{each}
 use Rattle.design.specs.Lists.{those}
@@ -111,7 +111,7 @@ check_skipped d c u n h =
 
 -- `mangle` leaves letters, digits and `_`
 pub mangled_one : (n : Bytes) → on_one_line (mangle n) ≡ true
-unfolding all flat mangledByte
+unfolding all flat mangled_byte
 mangled_one [] = refl
 mangled_one (b ∷ n) = go (is_alnum b) refl (mangled_one n)
   where

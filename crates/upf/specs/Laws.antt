@@ -8,7 +8,7 @@ use Rattle.text.specs.Ascii.{Bytes}
 use Rattle.text.specs.Compare.{same}
 use Rattle.text.specs.Scan.{any}
 use Rattle.text.specs.Sames.{no_true, both, same_refl, same_eq}
-use Rattle.out.specs.Clear.{clearedFrom, cleared-all}
+use Rattle.out.specs.Clear.{cleared_from, cleared_all}
 use Rattle.joblines.specs.Job.{Module, Job}
 use Rattle.joblines.specs.Parse.{Parsed, parse}
 use Rattle.jobindex.specs.Index.{module_row, name_at, job_of}
@@ -246,16 +246,16 @@ pub relent : (n : ℕ) (s p : List ℕ) → length p ≡ length (take n s) → l
 relent n s p h = omega (arith, h, length-append p (drop n s), length-append (take n s) (drop n s), ap length (take-append-drop n s))
 
 -- ---- and all is cleared
-cleared_to : (t buf₀ buf : Bytes) (n : ℕ) → Fronts t buf n → length buf ≡ length buf₀ → clearedFrom n buf ≡ held (length buf₀) t
+cleared_to : (t buf₀ buf : Bytes) (n : ℕ) → Fronts t buf n → length buf ≡ length buf₀ → cleared_from n buf ≡ held (length buf₀) t
 cleared_to t buf₀ buf n f k = cleared_held t buf n f ∙ ap (λ (x : ℕ). held x t) k
 
-zeros : (s₀ s : List ℕ) → length s ≡ length s₀ → clearedFrom 0 s ≡ replicate (length s₀) 0
-zeros s₀ s k = cleared-all s ∙ ap (λ (x : ℕ). replicate x 0) k
+zeros : (s₀ s : List ℕ) → length s ≡ length s₀ → cleared_from 0 s ≡ replicate (length s₀) 0
+zeros s₀ s k = cleared_all s ∙ ap (λ (x : ℕ). replicate x 0) k
 
 pub ran : (job files₀ files₁ files₂ area₀ area₁ area₂ : Bytes) (nums₀ nums₁ nums₂ : List ℕ) (glue₀ glue₁ glue₂ pkg₀ pkg₁ pkg₂ report₀ report₁ report₂ log₀ log₁ log₂ : Bytes) (r : Code)
     → Answered job (length files₀) (length area₀) (length nums₀) glue₀ glue₁ pkg₀ pkg₁ report₀ report₁ log₀ log₁ r
     → length files₁ ≡ length files₀ → length area₁ ≡ length area₀ → length nums₁ ≡ length nums₀ → length glue₁ ≡ length glue₀ → length pkg₁ ≡ length pkg₀ → length report₁ ≡ length report₀ → length log₁ ≡ length log₀
-    → files₂ ≡ clearedFrom 0 files₁ → area₂ ≡ clearedFrom 0 area₁ → nums₂ ≡ clearedFrom 0 nums₁ → glue₂ ≡ clearedFrom r.glue glue₁ → pkg₂ ≡ clearedFrom r.pkg pkg₁ → report₂ ≡ clearedFrom r.report report₁ → log₂ ≡ clearedFrom r.log log₁
+    → files₂ ≡ cleared_from 0 files₁ → area₂ ≡ cleared_from 0 area₁ → nums₂ ≡ cleared_from 0 nums₁ → glue₂ ≡ cleared_from r.glue glue₁ → pkg₂ ≡ cleared_from r.pkg pkg₁ → report₂ ≡ cleared_from r.report report₁ → log₂ ≡ cleared_from r.log log₁
     → Ran job files₀ files₂ area₀ area₂ nums₀ nums₂ glue₀ glue₂ pkg₀ pkg₂ report₀ report₂ log₀ log₂ r
 ran job files₀ files₁ files₂ area₀ area₁ area₂ nums₀ nums₁ nums₂ glue₀ glue₁ glue₂ pkg₀ pkg₁ pkg₂ report₀ report₁ report₂ log₀ log₁ log₂ r t kf ka kn kg kp kr kl ef ea en eg ep er el =
     record {

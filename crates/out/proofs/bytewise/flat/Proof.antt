@@ -3,7 +3,7 @@ use Prim.Native.Nat.{◌≤◌, ◌-◌}
 use mathlib.Core.Path.{◌≡◌, refl}
 use lib.ListN.{length, drop}
 use Rattle.out.specs.Emit.{◌▸◌, emit}
-use Rattle.out.specs.Bytewise.{becomes, flat, flat-next, flat-done}
+use Rattle.out.specs.Bytewise.{becomes, flat, flat_next, flat_done}
 use Rattle.out.proofs.bytewise.flat.Statement.{statement}
 use Rattle.out.proofs.bytewise.flat.Tie as tie
 
@@ -20,10 +20,10 @@ loop-again : tie.Need-loop-preserved invariant-loop decreases-loop
 loop-again c =
     let at-becomes = c.before.before in
     let at_test = at-becomes.before.before.before in
-    (search rules, cc, flat-next _ _ _ _ _ _ at_test.loop-test.true at-becomes.becomes.ensures at_test.before.loop.invariant.2)
+    (search rules, cc, flat_next _ _ _ _ _ _ at_test.loop-test.true at-becomes.becomes.ensures at_test.before.loop.invariant.2)
 
 returns : tie.Need-returns invariant-loop decreases-loop
-returns c = flat-done _ _ _ _ _ c.loop-test.false c.before.loop.invariant.2
+returns c = flat_done _ _ _ _ _ c.loop-test.false c.before.loop.invariant.2
 
 pub flat-spec : {M : Type 1} → statement M
 flat-spec =

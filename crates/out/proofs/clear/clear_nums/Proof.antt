@@ -1,4 +1,4 @@
-use Rattle.out.specs.Clear.{clearedFrom, Clears, clears-start, clears-next, clears-done}
+use Rattle.out.specs.Clear.{cleared_from, Clears, clears_start, clears_next, clears_done}
 use lib.ListN.{length-set}
 use Prim.Native.Nat.{◌-◌}
 use mathlib.Core.Path.{◌≡◌}
@@ -8,7 +8,7 @@ use Rattle.out.proofs.clear.clear_nums.Statement.{statement}
 use Rattle.out.proofs.clear.clear_nums.Tie as tie
 
 abbrev invariant-loop : tie.invariant-loop
-invariant-loop s₀ at i₀ s i = (length s ≡ length s₀) × Clears (clearedFrom at s₀) s i
+invariant-loop s₀ at i₀ s i = (length s ≡ length s₀) × Clears (cleared_from at s₀) s i
 
 abbrev decreases-loop : tie.decreases-loop
 decreases-loop s₀ at i₀ s i = length s₀ - i
@@ -19,11 +19,11 @@ clear-nums-spec =
     (tie.spec
     invariant-loop
     decreases-loop
-    (λ c. search (rules, clears-start, clears-next, clears-done, length-set))  -- loop-holds
-    (λ c. search (rules, clears-start, clears-next, clears-done, length-set))  -- mul-s
-    (λ c. search (rules, clears-start, clears-next, clears-done, length-set))  -- slice-write-s
-    (λ c. search (rules, clears-start, clears-next, clears-done, length-set))  -- add-i
-    (λ c. search (rules, clears-start, clears-next, clears-done, length-set))  -- loop-less
-    (λ c. search (rules, clears-start, clears-next, clears-done, length-set))  -- loop-again
-    (λ c. search (rules, clears-start, clears-next, clears-done, length-set))  -- same-length
-    (λ c. search (rules, clears-start, clears-next, clears-done, length-set)))  -- returns
+    (λ c. search (rules, clears_start, clears_next, clears_done, length-set))  -- loop-holds
+    (λ c. search (rules, clears_start, clears_next, clears_done, length-set))  -- mul-s
+    (λ c. search (rules, clears_start, clears_next, clears_done, length-set))  -- slice-write-s
+    (λ c. search (rules, clears_start, clears_next, clears_done, length-set))  -- add-i
+    (λ c. search (rules, clears_start, clears_next, clears_done, length-set))  -- loop-less
+    (λ c. search (rules, clears_start, clears_next, clears_done, length-set))  -- loop-again
+    (λ c. search (rules, clears_start, clears_next, clears_done, length-set))  -- same-length
+    (λ c. search (rules, clears_start, clears_next, clears_done, length-set)))  -- returns

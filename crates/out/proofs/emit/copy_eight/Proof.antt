@@ -1,5 +1,5 @@
 -- `out::emit::copy_eight` meets its contract. Assumes nothing.
-use Rattle.out.proofs.Eights.{stored-eight}
+use Rattle.out.proofs.Eights.{stored_eight}
 use lib.ListN.{length-set}
 use borrow.Author.Rules.{rules}
 use Rattle.out.proofs.emit.copy_eight.Statement.{statement}
@@ -40,4 +40,4 @@ copy-eight-spec =
     (λ c. search rules)  -- add-out-7
     (λ c. simp length-set (search rules))  -- slice-write-out-8
     (λ c. simp length-set)  -- same-length
-    (λ c. search stored-eight))  -- returns
+    (λ c. search stored_eight))  -- returns

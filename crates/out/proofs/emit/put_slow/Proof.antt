@@ -2,7 +2,7 @@ use borrow.Author.Rules.{rules}
 use Prim.Native.Nat.{◌≤◌, ◌-◌}
 use mathlib.Core.Path.{◌≡◌, refl}
 use lib.ListN.{length, drop}
-use Rattle.out.specs.Emit.{◌▸◌, emit, emit-next, emit-done}
+use Rattle.out.specs.Emit.{◌▸◌, emit, emit_next, emit_done}
 use Rattle.out.proofs.emit.put_slow.Statement.{statement}
 use Rattle.out.proofs.emit.put_slow.Tie as tie
 
@@ -32,13 +32,13 @@ loop-less c = search rules
 loop-again : tie.Need-loop-preserved invariant-loop decreases-loop
 loop-again c =
     let l = c.before.before.before.before.before in
-    (search rules, cc, emit-next _ _ _ _ _ l.loop-test.true c.before.before.byte.ensures l.before.loop.invariant.2)
+    (search rules, cc, emit_next _ _ _ _ _ l.loop-test.true c.before.before.byte.ensures l.before.loop.invariant.2)
 
 same_length : tie.Need-same-length invariant-loop decreases-loop
 same_length c = search rules
 
 returns : tie.Need-returns invariant-loop decreases-loop
-returns c = emit-done _ _ _ _ c.loop-test.false c.before.loop.invariant.2
+returns c = emit_done _ _ _ _ c.loop-test.false c.before.loop.invariant.2
 
 pub put-slow-spec : {M : Type 1} → statement M
 put-slow-spec =

@@ -3,7 +3,7 @@ use mathlib.Core.Path.{refl}
 use Rattle.out.specs.Emit.{◌▸◌, emit}
 use Rattle.out.specs.Fill.{fill}
 use mathlib.Core.List.{map}
-use Rattle.out.specs.Items.{parts, joined, Joins, joins-start, joins-next, joins-done}
+use Rattle.out.specs.Items.{parts, joined, Joins, joins_start, joins_next, joins_done}
 use Prim.Native.Nat.{◌≤◌, ◌-◌}
 use mathlib.Core.Path.{◌≡◌}
 use lib.ListN.{length}
@@ -23,7 +23,7 @@ joins-spec =
     (tie.spec
     invariant-loop
     decreases-loop
-    (λ c. (search rules, (refl, joins-start _ _ _ _ _)))  -- loop-holds
+    (λ c. (search rules, (refl, joins_start _ _ _ _ _)))  -- loop-holds
     (λ c. search rules)  -- add-loop
     (λ c κs. search rules)  -- unless-requires
     (λ c κs. search rules)  -- place-requires
@@ -33,6 +33,6 @@ joins-spec =
     (λ c κs. search rules)  -- fill1-requires
     (λ c. search rules)  -- add-i
     (λ c. search rules)  -- loop-less
-    (λ c. (search rules, (cc, search joins-next)))  -- loop-again
+    (λ c. (search rules, (cc, search joins_next)))  -- loop-again
     (λ c. search rules)  -- same-length
-    (λ c. search joins-done))  -- returns
+    (λ c. search joins_done))  -- returns

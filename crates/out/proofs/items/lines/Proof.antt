@@ -2,7 +2,7 @@ use mathlib.Core.List.{[]}
 use mathlib.Core.Path.{refl}
 use Rattle.out.specs.Emit.{◌▸◌, emit}
 use Rattle.out.specs.Fill.{fill}
-use Rattle.out.specs.Items.{parts, each, Each, each_next, each-done}
+use Rattle.out.specs.Items.{parts, each, Each, each_next, each_done}
 use Prim.Native.Nat.{◌≤◌, ◌-◌}
 use mathlib.Core.Path.{◌≡◌}
 use lib.ListN.{length}
@@ -33,4 +33,4 @@ lines-spec =
     (λ c. search rules)  -- loop-less
     (λ c. (search rules, (cc, search each_next)))  -- loop-again
     (λ c. search rules)  -- same-length
-    (λ c. search each-done))  -- returns
+    (λ c. search each_done))  -- returns

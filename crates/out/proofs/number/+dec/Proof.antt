@@ -5,7 +5,7 @@ use native.Mathlib.Omega.{arith}
 use borrow.Fn.Kinds.{In}
 use borrow.Fn.PlainCycle.{Measures, is, falls, and}
 use Rattle.out.specs.Emit.{emit}
-use Rattle.out.specs.Number.{dec as dec_of, dec-small, dec-more}
+use Rattle.out.specs.Number.{dec as dec_of, dec_small, dec_more}
 use Rattle.out.proofs.number.dec.Reads as dec
 use Rattle.out.proofs.number.dec.Kinds as dec-kinds
 use Rattle.out.proofs.number.+dec.Lts-dec as dec-lts
@@ -30,13 +30,13 @@ dec-returns t c = rw c.if1.true
 dec-returns-2 : (t : ℕ) → dec-lts.Need-returns-2 (byte-Reads.Asked, byte-Reads.Learnt, dec-below t, dec.Post) (dec-at t) dec.Post
 dec-returns-2 t c =
     let k = c.before.before.before.before in
-    c.before.before.byte.ensures ∙ sym (dec-small _ _ _ k.before.if1.false k.if2.true)
+    c.before.before.byte.ensures ∙ sym (dec_small _ _ _ k.before.if1.false k.if2.true)
 
 dec-returns-3 : (t : ℕ) → dec-lts.Need-returns-3 (byte-Reads.Asked, byte-Reads.Learnt, dec-below t, dec.Post) (dec-at t) dec.Post
 dec-returns-3 t c =
     let d = c.before.before.before.before.before.before in
     let k = d.before.before in
-    (rw d.dec.ensures at c.before.before.byte2.ensures) ∙ sym (dec-more _ _ _ k.before.if1.false k.if2.false)
+    (rw d.dec.ensures at c.before.before.byte2.ensures) ∙ sym (dec_more _ _ _ k.before.if1.false k.if2.false)
 
 pub +dec-spec : {M : Type 1} → statement M
 +dec-spec =

@@ -1,4 +1,4 @@
-use Rattle.out.proofs.Bytes.{arg_plain, arg-string, arg-mangled, arg-dotted, arg-none}
+use Rattle.out.proofs.Bytes.{arg_plain, arg_string, arg_mangled, arg_dotted, arg_none}
 use native.Mathlib.Omega.{arith}
 use borrow.Author.Rules.{rules}
 use Rattle.out.proofs.template.argument.Statement.{statement}
@@ -18,15 +18,15 @@ argument-spec =
     (λ c κs. search rules)  -- picked-requires-2
     (λ c κs. search rules)  -- sv-str-requires
     (λ c. search rules)  -- same-length-2
-    (λ c. search arg-string)  -- returns-2
+    (λ c. search arg_string)  -- returns-2
     (λ c. omega (arith, within_low 97 101 c.before.before.before.before.before.before.before.before.before.args.k c.if3.true))  -- sub-picked-3
     (λ c κs. search rules)  -- picked-requires-3
     (λ c κs. search rules)  -- mangle-requires
     (λ c. search rules)  -- same-length-3
-    (λ c. search arg-mangled)  -- returns-3
+    (λ c. search arg_mangled)  -- returns-3
     (λ c. omega (arith, within_low 112 116 c.before.before.before.before.before.before.before.before.before.before.args.k c.if4.true))  -- sub-picked-4
     (λ c κs. search rules)  -- picked-requires-4
     (λ c κs. search rules)  -- dotted-requires
     (λ c. search rules)  -- same-length-4
-    (λ c. search arg-dotted)  -- returns-4
-    (λ c. search arg-none))  -- returns-5
+    (λ c. search arg_dotted)  -- returns-4
+    (λ c. search arg_none))  -- returns-5

@@ -1,5 +1,5 @@
 -- `out::template::eight_plain` meets its contract. Assumes nothing.
-use Rattle.out.proofs.Plains.{plain-eight}
+use Rattle.out.proofs.Plains.{plain_eight}
 use borrow.Author.Rules.{rules}
 use Rattle.out.proofs.template.eight_plain.Statement.{statement}
 use Rattle.out.proofs.template.eight_plain.Tie as tie
@@ -23,4 +23,4 @@ eight-plain-spec =
     (λ c. search rules)  -- shared-slice-read-result-7
     (λ c. search rules)  -- add-result-7
     (λ c. search rules)  -- shared-slice-read-result-8
-    (λ c. search plain-eight))  -- returns
+    (λ c. search plain_eight))  -- returns

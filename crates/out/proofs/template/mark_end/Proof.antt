@@ -1,4 +1,4 @@
-use Rattle.out.specs.Marks.{size_none, size-shut, size-doubled, size-argument}
+use Rattle.out.specs.Marks.{size_none, size_shut, size_doubled, size_argument}
 use borrow.Author.Rules.{rules}
 use Rattle.out.proofs.template.mark_end.Statement.{statement}
 use Rattle.out.proofs.template.mark_end.Tie as tie
@@ -10,10 +10,10 @@ mark-end-spec =
     (λ c. search size_none)  -- returns
     (λ c. search rules)  -- shared-slice-read-if2
     (λ c. search rules)  -- add-result
-    (λ c. search size-shut)  -- returns-2
+    (λ c. search size_shut)  -- returns-2
     (λ c. search rules)  -- add-peek
     (λ c κs. search rules)  -- peek-requires
     (λ c. search rules)  -- add-result-2
-    (λ c. size-doubled _ _ c.before.before.before.before.if1.false c.before.before.if2.false _ c.before.peek.ensures c.if3.true)  -- returns-3
+    (λ c. size_doubled _ _ c.before.before.before.before.if1.false c.before.before.if2.false _ c.before.peek.ensures c.if3.true)  -- returns-3
     (λ c. search rules)  -- add-result-3
-    (λ c. size-argument _ _ c.before.before.before.before.if1.false c.before.before.if2.false _ c.before.peek.ensures c.if3.false))  -- returns-4
+    (λ c. size_argument _ _ c.before.before.before.before.if1.false c.before.before.if2.false _ c.before.peek.ensures c.if3.false))  -- returns-4

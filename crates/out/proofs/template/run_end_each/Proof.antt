@@ -1,6 +1,6 @@
 -- `out::template::run_end_each` meets its contract. Assumes nothing.
 use Rattle.text.specs.Scan.{before}
-use Rattle.out.specs.Fill.{isBrace}
+use Rattle.out.specs.Fill.{is_brace}
 use Prim.Native.Nat.{◌+◌, ◌≤◌, ◌-◌}
 use mathlib.Core.Path.{◌≡◌}
 use lib.ListN.{length, drop}
@@ -9,7 +9,7 @@ use Rattle.out.proofs.template.run_end_each.Statement.{statement}
 use Rattle.out.proofs.template.run_end_each.Tie as tie
 
 abbrev invariant-loop : tie.invariant-loop
-invariant-loop t at i₀ i = (i ≤ length t) × (at + before isBrace (drop at t) ≡ i + before isBrace (drop i t))
+invariant-loop t at i₀ i = (i ≤ length t) × (at + before is_brace (drop at t) ≡ i + before is_brace (drop i t))
 
 abbrev decreases-loop : tie.decreases-loop
 decreases-loop t at i₀ i = length t - i

@@ -1,6 +1,6 @@
 use Rattle.out.specs.Emit.{◌▸◌, emit}
 use Rattle.out.specs.Fill.{fill, arg}
-use Rattle.out.specs.Marks.{Fills, fills-start, fills-turn, fills-less, fills-done}
+use Rattle.out.specs.Marks.{Fills, fills_start, fills_turn, fills_less, fills_done}
 use Prim.Native.Nat.{◌-◌}
 use mathlib.Core.Path.{◌≡◌}
 use lib.ListN.{length}
@@ -20,7 +20,7 @@ write_spec =
     (tie.spec
     invariant-loop
     decreases-loop
-    (λ c. search (rules, fills-start))  -- loop-holds
+    (λ c. search (rules, fills_start))  -- loop-holds
     (λ c κs. search rules)  -- run-end-requires
     (λ c. search rules)  -- sub-run
     (λ c. search rules)  -- part-run-start
@@ -28,7 +28,7 @@ write_spec =
     (λ c κs. search rules)  -- put-requires
     (λ c κs. search rules)  -- mark-requires
     (λ c κs. search rules)  -- mark-end-requires
-    (λ c. search (rules, fills-less))  -- loop-less
-    (λ c. (cc, search fills-turn))  -- loop-again
+    (λ c. search (rules, fills_less))  -- loop-less
+    (λ c. (cc, search fills_turn))  -- loop-again
     (λ c. search rules)  -- same-length
-    (λ c. search fills-done))  -- returns
+    (λ c. search fills_done))  -- returns
