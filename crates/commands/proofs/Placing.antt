@@ -170,7 +170,7 @@ module _ (files : List ℕ) (base : ℕ) (t : List ℕ) (f : Filed files base t)
   pub word_plain : (l₀ l whole : List ℕ) (o limit : ℕ) (r : Place) → Placed files l₀ l o limit (substitute vs whole) (cond (has_dollar whole) (substitute vs whole) []) r → whole ≡ take (s.len + 1) (drop s.at t) → (c ≡ byte "{" → ⊥) → (c ≡ byte "\"" → ⊥) → (c ≡ byte "[" → ⊥) → Placed files l₀ l o limit (value vs (written_at t s)) (result vs (written_at t s)) r
   unfolding written_at kind_of
   word_plain l₀ l whole o limit r p a x y z =
-      let other : written_at t s ≡ plain (take (s.len + 1) (drop s.at t)) = rw (← k, ne_eqb c (byte "{") x, ne_eqb c (byte "\"") y, ne_eqb c (byte "[") z) (go (eqb c (byte "\n") || eqb c (byte ";")) (isSpace c) (eqb c (byte "#") && false)) in
+      let other : written_at t s ≡ plain (take (s.len + 1) (drop s.at t)) = rw (← k, ne_eqb c (byte "{") x, ne_eqb c (byte "\"") y, ne_eqb c (byte "[") z) (go (eqb c (byte "\n") || eqb c (byte ";")) (is_space c) (eqb c (byte "#") && false)) in
       rw (other, ← a) p
     where
       go : (u v w : Bool) → as_written (cond u Kind.ends (cond v Kind.blank (cond w Kind.comment Kind.other))) t s ≡ plain (take (s.len + 1) (drop s.at t))

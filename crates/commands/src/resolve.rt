@@ -5,7 +5,7 @@ ghost use Rattle.spans.specs.Frame.{last_end};
 ghost use Rattle.tcl.specs.Substitution.{value, has_dollar, substitute as Substitution·substitute};
 ghost use Rattle.substitution.specs.Stored.{variables};
 ghost use Rattle.substitution.specs.Written.{written};
-ghost use Rattle.commands.specs.Reading.{result};
+ghost use Rattle.commands.specs.Reading.{result as result_bytes};
 ghost use Rattle.commands.specs.Stored.{Filed, written_at, written_words, Placed, Resolves};
 
 use spans::span::{Span, minus, pair};
@@ -33,7 +33,7 @@ fn to_area(
     limit: usize,
 ) -> Place
     requires { (m ≤ o) × ((o ≤ limit) × (limit ≤ length area.old)) }
-    ensures* { λ r. ⌜ Placed files.now area.old area.new o limit (Substitution·substitute (variables (files.now ++ take m area.old) vars.now nv) (written quoted body.now)) (Substitution·substitute (variables (files.now ++ take m area.old) vars.now nv) (written quoted body.now)) r ⌝ }
+    ensures { Placed files.now area.old area.new o limit (Substitution·substitute (variables (files.now ++ take m area.old) vars.now nv) (written quoted body.now)) (Substitution·substitute (variables (files.now ++ take m area.old) vars.now nv) (written quoted body.now)) result }
 {
     match substitute(files, vars, nv, body, quoted, area, m, o, limit) {
         Put::Full => Place::Full,
@@ -60,7 +60,7 @@ fn plain_word(
     limit: usize,
 ) -> Place
     requires { (body.now ≡ take (length body.now) (drop at files.now)) × ((at + length body.now ≤ length files.now) × ((m ≤ o) × ((o ≤ limit) × (limit ≤ length area.old)))) }
-    ensures* { λ r. ⌜ Placed files.now area.old area.new o limit (Substitution·substitute (variables (files.now ++ take m area.old) vars.now nv) body.now) (cond (has_dollar body.now) (Substitution·substitute (variables (files.now ++ take m area.old) vars.now nv) body.now) []) r ⌝ }
+    ensures { Placed files.now area.old area.new o limit (Substitution·substitute (variables (files.now ++ take m area.old) vars.now nv) body.now) (cond (has_dollar body.now) (Substitution·substitute (variables (files.now ++ take m area.old) vars.now nv) body.now) []) result }
 {
     if find(body, 0, b'$') < body.len() {
         return to_area(files, vars, nv, body, false, area, m, o, limit);
@@ -88,7 +88,7 @@ fn word(
     limit: usize,
 ) -> Place
     requires { Filed files.now base text.now × ((s.at + s.len ≤ length text.now) × ((m ≤ o) × ((o ≤ limit) × (limit ≤ length area.old)))) }
-    ensures* { λ r. ⌜ Placed files.now area.old area.new o limit (value (variables (files.now ++ take m area.old) vars.now nv) (written_at text.now s)) (result (variables (files.now ++ take m area.old) vars.now nv) (written_at text.now s)) r ⌝ }
+    ensures { Placed files.now area.old area.new o limit (value (variables (files.now ++ take m area.old) vars.now nv) (written_at text.now s)) (result_bytes (variables (files.now ++ take m area.old) vars.now nv) (written_at text.now s)) result }
 {
     let c = peek(text, s.at);
     let whole = part(text, s.at, s.len + 1);
@@ -138,7 +138,7 @@ pub fn resolve(
     n: usize,
 ) -> Resolved
     requires { Filed files.now base text.now × ((last_end (pairs words.old 0 n) ≤ length text.now) × ((2 * n ≤ length words.old) × ((n ≤ 128) × ((length files.now + length area.old < 2 ^ 32) × ((at ≤ limit) × (limit ≤ length area.old)))))) }
-    ensures* { λ r. ⌜ Resolves files.now area.old area.new words.old words.new (variables (files.now ++ take at area.old) vars.now nv) at limit (written_words text.now words.old 0 n) n r ⌝ }
+    ensures { Resolves files.now area.old area.new words.old words.new (variables (files.now ++ take at area.old) vars.now nv) at limit (written_words text.now words.old 0 n) n result }
 {
     let mut k = 0;
     let mut o = at;

@@ -88,7 +88,7 @@ flat_mem {A} {B} f (x ∷ l) {b} m = go (append_cases (f x) m) (flat_mem f l)
     go (inl n) ih = (x, here refl, n)
     go (inr n) ih = let r = ih n in (r.0, there r.1, r.2)
 
-pub mem_flat : {A B : Type 0} (f : A → List B) {l : List A} {a : A} {b : B} → Mem a l → Mem b (f a) → Mem b (flat_map f l)
+pub mem_flat : {A B : Type 0} (f : A → List B) {a : A} {b : B} {l : List A} → Mem a l → Mem b (f a) → Mem b (flat_map f l)
 unfolding flat_map
 mem_flat f {a = a} {b = b} (here {x = x} {xs = l} e) n = on-left (flat_map f l) (rw e at n)
 mem_flat f {a = a} {b = b} (there {x = x} {xs = l} m) n = on-right (f x) (mem_flat f m n)

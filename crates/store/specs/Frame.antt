@@ -64,7 +64,7 @@ warning_within : (f : Row → ℕ) (r : Row) {rs : List Row} {m : ℕ} → f r �
 warning_within f r p true b = one_more p b
 warning_within f r p false b = b
 
-pub warnings_within : (f : Row → ℕ) {rs : List Row} {m : ℕ} → Within f m rs → Within f m (warnings_in rs)
+pub warnings_within : (f : Row → ℕ) {m : ℕ} {rs : List Row} → Within f m rs → Within f m (warnings_in rs)
 unfolding warnings_in
 warnings_within f none_left = none_left
 warnings_within f (one_more {x = r} {xs = rs} p b) = warning_within f r p (leb 3 r.kind) (warnings_within f b)

@@ -100,7 +100,7 @@ unfolding flat_map
 flat_same f g e none_left h = refl
 flat_same f g e (one_more {x = x} {xs = xs} p b) h = rw (h x p, flat_same f g e b h)
 
-pub numbered_same : {A B : Type 0} (f g : ℕ → A → B) (e : A → ℕ) (k : ℕ) {n : ℕ} {l : List A} → Within e n l → ((j : ℕ) (x : A) → e x ≤ n → g j x ≡ f j x) → numbered g k l ≡ numbered f k l
+pub numbered_same : {A B : Type 0} (f g : ℕ → A → B) (e : A → ℕ) {n : ℕ} (k : ℕ) {l : List A} → Within e n l → ((j : ℕ) (x : A) → e x ≤ n → g j x ≡ f j x) → numbered g k l ≡ numbered f k l
 unfolding numbered
 numbered_same f g e k none_left h = refl
 numbered_same f g e k (one_more {x = x} {xs = xs} p b) h = rw (h k x p, numbered_same f g e (k + 1) b h)
