@@ -16,10 +16,16 @@ import sys
 
 NAME = r"[^\s(){}\[\],;.:]"
 SIGNATURE = re.compile(r"^(\s*)((?:pub |abbrev |unfoldable )*)((?:%s+\s+)*?%s+)\s+:(?=\s|$)" % (NAME, NAME))
-TOKEN = re.compile(r"[A-Za-z_][A-Za-z0-9_'′-]*[A-Za-z0-9_'′]|[A-Za-z_]")
+TOKEN = re.compile(r"[A-Za-z_][A-Za-z0-9_'′₀-₉-]*[A-Za-z0-9_'′₀-₉]|[A-Za-z_]")
 OLD = re.compile(r"[a-z][A-Za-z0-9_'-]*$")
 # a law whose file takes the function itself from a library
 BESIDE = {"flat-map": "flat_map_lem"}
+# names whose signatures have another form
+MORE = {
+    "onSome": "on_some", "namePut": "name_put", "recordText": "record_text", "nameStep": "name_step", "declKind": "decl_kind",
+    "tableNamed": "table_named", "intentAfter": "intent_after", "intentRead": "intent_read", "inFiles": "in_files", "logRead": "log_read",
+    "Due-step": "DueStep", "map-same₂": "map_same₂", "g₁-is": "g₁_is", "not_lF": "not_lf", "notLF": "not_lf",
+}
 
 
 def files(*endings):
@@ -87,7 +93,7 @@ def table(found):
                 raise SystemExit(f"respell: {name}: {to} is taken")
             if to != name:
                 turned[name] = to
-    return turned | BESIDE
+    return turned | BESIDE | MORE
 
 
 def own(module, crates):

@@ -16,7 +16,7 @@ use Rattle.text.specs.Ascii.{Bytes}
 use Rattle.joblines.specs.Job.{Inst, Module}
 use Rattle.jobindex.specs.Index.{num, module_row, rows}
 use Rattle.lookup.specs.Rows.{modules}
-use Rattle.design.specs.Lists.{onSome, is_in}
+use Rattle.design.specs.Lists.{on_some, is_in}
 use Rattle.design.specs.Paths.{child_path}
 use Rattle.walk.specs.Walk.{entered, own, corruptible, modules_entered, sum_over}
 use Rattle.modtable.specs.Table.{ways_at, way_place, Way, way_in, way_name, Down, down_in, ways_down, Tabled}
@@ -50,23 +50,23 @@ module _ {A B : Type 0} (a : ℕ → A) (b : ℕ → B) where
 -- ---- the instances that are entered
 
 module _ (d : List Module) where
-  lists_down : (f : Module → Bytes → List Bytes) (is : List Inst) → flat_map (λ (i : Inst). onSome (entered d i) [] λ m. f m i.name) is ≡ flat_map (λ (w : Way). f w.into w.name) (ways_down d is)
+  lists_down : (f : Module → Bytes → List Bytes) (is : List Inst) → flat_map (λ (i : Inst). on_some (entered d i) [] λ m. f m i.name) is ≡ flat_map (λ (w : Way). f w.into w.name) (ways_down d is)
   unfolding flat_map ways_down
   lists_down f [] = refl
   lists_down f (i ∷ is) = go (entered d i) (lists_down f is)
     where
-      go : (o : Option Module) → flat_map (λ (i : Inst). onSome (entered d i) [] λ m. f m i.name) is ≡ flat_map (λ (w : Way). f w.into w.name) (ways_down d is)
-          → onSome o [] (λ m. f m i.name) ++ flat_map (λ (i : Inst). onSome (entered d i) [] λ m. f m i.name) is ≡ flat_map (λ (w : Way). f w.into w.name) (onSome o (ways_down d is) λ m. record { name = i.name; into = m } ∷ ways_down d is)
+      go : (o : Option Module) → flat_map (λ (i : Inst). on_some (entered d i) [] λ m. f m i.name) is ≡ flat_map (λ (w : Way). f w.into w.name) (ways_down d is)
+          → on_some o [] (λ m. f m i.name) ++ flat_map (λ (i : Inst). on_some (entered d i) [] λ m. f m i.name) is ≡ flat_map (λ (w : Way). f w.into w.name) (on_some o (ways_down d is) λ m. record { name = i.name; into = m } ∷ ways_down d is)
       go none h = h
       go (some m) h = ap (λ (y : List Bytes). f m i.name ++ y) h
 
-  sums_down : (f : Module → Bytes → ℕ) (is : List Inst) → sum_over (λ (i : Inst). onSome (entered d i) 0 λ m. f m i.name) is ≡ sum_over (λ (w : Way). f w.into w.name) (ways_down d is)
+  sums_down : (f : Module → Bytes → ℕ) (is : List Inst) → sum_over (λ (i : Inst). on_some (entered d i) 0 λ m. f m i.name) is ≡ sum_over (λ (w : Way). f w.into w.name) (ways_down d is)
   unfolding sum_over ways_down
   sums_down f [] = refl
   sums_down f (i ∷ is) = go (entered d i) (sums_down f is)
     where
-      go : (o : Option Module) → sum_over (λ (i : Inst). onSome (entered d i) 0 λ m. f m i.name) is ≡ sum_over (λ (w : Way). f w.into w.name) (ways_down d is)
-          → onSome o 0 (λ m. f m i.name) + sum_over (λ (i : Inst). onSome (entered d i) 0 λ m. f m i.name) is ≡ sum_over (λ (w : Way). f w.into w.name) (onSome o (ways_down d is) λ m. record { name = i.name; into = m } ∷ ways_down d is)
+      go : (o : Option Module) → sum_over (λ (i : Inst). on_some (entered d i) 0 λ m. f m i.name) is ≡ sum_over (λ (w : Way). f w.into w.name) (ways_down d is)
+          → on_some o 0 (λ m. f m i.name) + sum_over (λ (i : Inst). on_some (entered d i) 0 λ m. f m i.name) is ≡ sum_over (λ (w : Way). f w.into w.name) (on_some o (ways_down d is) λ m. record { name = i.name; into = m } ∷ ways_down d is)
       go none h = omega (arith, h)
       go (some m) h = ap (λ y. f m i.name + y) h
 
@@ -75,7 +75,7 @@ module _ (d : List Module) where
   ways_short n [] h w m = absurd (not-nil m)
   ways_short n (i ∷ is) h w m = go (entered d i) (ways_short n is (λ x y. h x (there y)) w) m
     where
-      go : (o : Option Module) → (Mem w (ways_down d is) → length w.name ≤ n) → Mem w (onSome o (ways_down d is) λ m. record { name = i.name; into = m } ∷ ways_down d is) → length w.name ≤ n
+      go : (o : Option Module) → (Mem w (ways_down d is) → length w.name ≤ n) → Mem w (on_some o (ways_down d is) λ m. record { name = i.name; into = m } ∷ ways_down d is) → length w.name ≤ n
       go none r m = r m
       go (some x) r m = ⊎_elim (λ e. omega (arith, ap (λ (y : Way). length y.name) e, h i (here refl))) r (cases_cons m)
 

@@ -6,7 +6,7 @@ use Rattle.text.specs.Scan.{any, is}
 use Rattle.joblines.specs.Job.{Conn, Module}
 use Rattle.jobindex.specs.declared.Span.{Span as Part}
 use Rattle.lines.specs.Cursors.{spanned}
-use Rattle.design.specs.Lists.{onSome}
+use Rattle.design.specs.Lists.{on_some}
 use Rattle.design.specs.Ports.{output_ports}
 use Rattle.design.specs.Paths.{parts}
 use Rattle.model.specs.Scope.{up}
@@ -36,11 +36,11 @@ port_aims e conns sub ps = map (output_aim e conns sub) ps
 
 -- all output ports of the instance that an element is
 abbrev pub output_aims : List Module → Module → Bytes → List Aim
-output_aims d m e = onSome (instance_at d m (parts e)) [] λ x. port_aims e x.conns x.sub (output_ports x.sub)
+output_aims d m e = on_some (instance_at d m (parts e)) [] λ x. port_aims e x.conns x.sub (output_ports x.sub)
 
 -- the port behind the last slash
 abbrev pub slash_aims : List Module → Module → Bytes → List Aim
-slash_aims d m e = onSome (instance_at d m (parts (up e))) [] λ x. port_aim (parts (up e)) e x.conns x.sub (last_part (parts e)) ∷ []
+slash_aims d m e = on_some (instance_at d m (parts (up e))) [] λ x. port_aim (parts (up e)) e x.conns x.sub (last_part (parts e)) ∷ []
 
 -- "An element with `/` is an instance and a port."
 abbrev pub element_aims : List Module → Module → Bytes → List Aim

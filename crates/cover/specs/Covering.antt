@@ -7,7 +7,7 @@ use Rattle.std.proofs.Math.Option.{Option, none, some}
 use Rattle.text.specs.Ascii.{Bytes, ascii, byte}
 use Rattle.text.specs.Scan.{any, is}
 use Rattle.out.specs.Fill.{format3, fill, filled, adds, turns, arg, pick}
-use Rattle.design.specs.Lists.{onSome, is_in}
+use Rattle.design.specs.Lists.{on_some, is_in}
 use Rattle.design.specs.Ports.{output_ports}
 use Rattle.design.specs.Paths.{parts}
 use Rattle.model.specs.Records.{Isolation}
@@ -40,7 +40,7 @@ aims_append s (t ∷ ts) us = ap (λ (l : List Aim). aims_by (key_of t) (resolve
 -- ---- of an element
 
 module _ (s : Setting) where
-  comes_aims : (key : Bytes) (ps : List Bytes) (o : Option Bytes) → aims_by key (onSome o Resolved.not_plain_lem λ n. Resolved.net (below_parent (front_parts ps) n)) ≡ record { key = key; net = net_below ps o } ∷ []
+  comes_aims : (key : Bytes) (ps : List Bytes) (o : Option Bytes) → aims_by key (on_some o Resolved.not_plain_lem λ n. Resolved.net (below_parent (front_parts ps) n)) ≡ record { key = key; net = net_below ps o } ∷ []
   comes_aims key ps none = refl
   comes_aims key ps (some n) = refl
 
@@ -55,7 +55,7 @@ module _ (s : Setting) where
   unfolding target_aims
   outputs_aims e = ap (target_aims s) (outputs_is s e) ∙ go (instance_at s.design s.base (parts e)) refl
     where
-      go : (o : Option Instance) → instance_at s.design s.base (parts e) ≡ o → target_aims s (onSome o [] λ x. map (λ p. aimed e p) (output_ports x.sub)) ≡ onSome o [] λ x. port_aims e x.conns x.sub (output_ports x.sub)
+      go : (o : Option Instance) → instance_at s.design s.base (parts e) ≡ o → target_aims s (on_some o [] λ x. map (λ p. aimed e p) (output_ports x.sub)) ≡ on_some o [] λ x. port_aims e x.conns x.sub (output_ports x.sub)
       go none h = refl
       go (some x) h = ports_aims e x h (output_ports x.sub)
 
@@ -65,7 +65,7 @@ module _ (s : Setting) where
       let k : key_of (aimed (up e) (last_part (parts e))) ≡ e = up_is e h in
       rw (append-nil (aims_by (key_of (aimed (up e) (last_part (parts e)))) (resolved s (aimed (up e) (last_part (parts e))))), k, resolved_is s (aimed (up e) (last_part (parts e)))) (go (instance_at s.design s.base (parts (up e))))
     where
-      go : (o : Option Instance) → aims_by e (onSome o Resolved.absent λ x. comes (parts (up e)) (last_part (parts e)) x.conns x.sub) ≡ onSome o [] λ x. port_aim (parts (up e)) e x.conns x.sub (last_part (parts e)) ∷ []
+      go : (o : Option Instance) → aims_by e (on_some o Resolved.absent λ x. comes (parts (up e)) (last_part (parts e)) x.conns x.sub) ≡ on_some o [] λ x. port_aim (parts (up e)) e x.conns x.sub (last_part (parts e)) ∷ []
       go none = refl
       go (some x) = comes_aims e (parts (up e)) (actual_of x.conns x.sub (last_part (parts e)))
 

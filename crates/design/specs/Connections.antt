@@ -8,7 +8,7 @@ use Rattle.text.specs.Compare.{same}
 use Rattle.text.specs.Scan.{any}
 use Rattle.joblines.specs.Job.{Conn, Inst, Module}
 use Rattle.joblines.specs.Lines.{when}
-use Rattle.design.specs.Lists.{onSome}
+use Rattle.design.specs.Lists.{on_some}
 use Rattle.design.specs.Ports.{port_order}
 
 -- "NET `-` means not a plain identifier"
@@ -37,7 +37,7 @@ is_star (Conn.pos net) = false
 -- the first connection of the port decides, `otherwise` where there is none
 unfoldable pub decided : Bytes → Option Bytes → List Bytes → List Conn → Option Bytes
 decided port otherwise order [] = otherwise
-decided port otherwise order (c ∷ cs) = onSome (says_of port order c) (decided port otherwise (tail order) cs) λ net. net
+decided port otherwise order (c ∷ cs) = on_some (says_of port order c) (decided port otherwise (tail order) cs) λ net. net
 
 -- `star` is looked at last: it connects the port to the net of its own name
 abbrev pub output_actual : Inst → Module → Bytes → Option Bytes

@@ -11,7 +11,7 @@ use Rattle.fields.specs.Fields.{empty}
 use Rattle.joblines.specs.Job.{Inst, Module}
 use Rattle.joblines.specs.Parse.{Parsed, accepted, refused}
 use Rattle.joblines.specs.Examples.{run}
-use Rattle.design.specs.Lists.{onSome, first, those, add_new, add_all}
+use Rattle.design.specs.Lists.{on_some, first, those, add_new, add_all}
 use Rattle.design.specs.Lookup.{module_named, instance_named, module_at}
 use Rattle.design.specs.Search.{Search, among_instances, search_from, search_type}
 use Rattle.design.specs.Ports.{port_order, directed, output_ports, input_ports, losable}
@@ -37,7 +37,7 @@ names s = split_at (byte " ") (ascii s)
 -- the design's module of a name
 unfoldable pub the : List Module → String → Module
 unfolding first same
-the d n = onSome (module_named d (ascii n)) (record { name = []; style = empty; ports = []; decls = []; insts = [] }) λ m. m
+the d n = on_some (module_named d (ascii n)) (record { name = []; style = empty; ports = []; decls = []; insts = [] }) λ m. m
 
 -- ---- ports and losable names
 

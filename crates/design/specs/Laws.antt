@@ -19,7 +19,7 @@ use Rattle.text.specs.Ascii.{Bytes}
 use Rattle.text.specs.Compare.{same}
 use Rattle.text.specs.Scan.{any}
 use Rattle.text.specs.Sames.{no_true, same_eq, same_refl}
-use Rattle.design.specs.Lists.{onSome, first, those, is_in, add_new, add_all}
+use Rattle.design.specs.Lists.{on_some, first, those, is_in, add_new, add_all}
 
 -- ---- a test, with its equation
 
@@ -99,14 +99,14 @@ unfolding flat_map
 flat_same f g [] h = refl
 flat_same f g (x ∷ l) h = rw (h x (here refl), flat_same f g l (λ a m. h a (there m)))
 
-pub some_mem : {A B : Type 0} (o : Option A) (f : A → List B) {b : B} → Mem b (onSome o [] f) → (a : A) × (o ≡ some a) × Mem b (f a)
+pub some_mem : {A B : Type 0} (o : Option A) (f : A → List B) {b : B} → Mem b (on_some o [] f) → (a : A) × (o ≡ some a) × Mem b (f a)
 some_mem none f m = absurd (not-nil m)
 some_mem (some a) f m = (a, refl, m)
 
-pub mem_some : {A B : Type 0} {o : Option A} (f : A → List B) {a : A} {b : B} → o ≡ some a → Mem b (f a) → Mem b (onSome o [] f)
+pub mem_some : {A B : Type 0} {o : Option A} (f : A → List B) {a : A} {b : B} → o ≡ some a → Mem b (f a) → Mem b (on_some o [] f)
 mem_some f e m = rw e m
 
-pub some_of : {A B : Type 0} (o : Option A) (f : A → Option B) {b : B} → onSome o none f ≡ some b → (a : A) × (o ≡ some a) × (f a ≡ some b)
+pub some_of : {A B : Type 0} (o : Option A) (f : A → Option B) {b : B} → on_some o none f ≡ some b → (a : A) × (o ≡ some a) × (f a ≡ some b)
 some_of none f e = let z : ◌≡◌ {A = ℕ} 0 1 = cc in absurd (omega arith)
 some_of (some a) f e = (a, refl, e)
 

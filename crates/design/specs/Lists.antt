@@ -7,9 +7,9 @@ use Rattle.text.specs.Compare.{same}
 use Rattle.text.specs.Scan.{any}
 
 -- what is made of a value, and what stands where there is none
-abbrev pub onSome {ℓ} : {A : Type 0} {B : Type ℓ} → Option A → B → (A → B) → B
-onSome none b f = b
-onSome (some a) b f = f a
+abbrev pub on_some {ℓ} : {A : Type 0} {B : Type ℓ} → Option A → B → (A → B) → B
+on_some none b f = b
+on_some (some a) b f = f a
 
 -- the first that passes the test
 unfoldable pub first : {A : Type 0} → (A → Bool) → List A → Option A

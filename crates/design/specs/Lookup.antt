@@ -5,7 +5,7 @@ use Rattle.std.proofs.Math.Option.{Option, none, some}
 use Rattle.text.specs.Ascii.{Bytes}
 use Rattle.text.specs.Compare.{same}
 use Rattle.joblines.specs.Job.{Inst, Module}
-use Rattle.design.specs.Lists.{onSome, first}
+use Rattle.design.specs.Lists.{on_some, first}
 
 -- "Instances of plain generate regions stand in source order.": the instances of a module are its `inst` lines, in order
 abbrev pub instances : Module → List Inst
@@ -24,6 +24,6 @@ instance_named m n = first (λ i. same i.name n) (instances m)
 unfoldable pub module_at : List Module → Module → List Bytes → Option Module
 module_at d m [] = some m
 module_at d m (n ∷ ns) =
-    onSome (instance_named m n) none λ i.
-    onSome (module_named d i.type) none λ m'.
+    on_some (instance_named m n) none λ i.
+    on_some (module_named d i.type) none λ m'.
     module_at d m' ns

@@ -18,7 +18,7 @@ use Rattle.text.specs.Ascii.{Bytes}
 use Rattle.text.specs.Compare.{same}
 use Rattle.fields.specs.Fields.{Dir, input, output, Style, Kind, net, variable, body}
 use Rattle.joblines.specs.Job.{Port, Decl, Inst, Module}
-use Rattle.design.specs.Lists.{onSome, those, is_in}
+use Rattle.design.specs.Lists.{on_some, those, is_in}
 use Rattle.design.specs.Lookup.{module_named, instance_named, module_at}
 use Rattle.design.specs.Ports.{taken, directed, header_ports, body_port, body_ports, is_output, outputs, output_ports, input_ports, is_signal, signals, losable}
 use Rattle.design.specs.Laws.{is_in_out, out_is_in, map_mem, mem_flat, flat_mem, those_mem, mem_those, first_mem, some_of, add_all_new, add_all_inv}
@@ -114,6 +114,6 @@ pub module_at_mem : (d : List Module) (m : Module) (ns : List Bytes) {m' : Modul
 unfolding module_at
 module_at_mem d m [] {m'} at e = cast {a = m'} {b = m} (cc) at
 module_at_mem d m (n ∷ ns) at e =
-    let i = some_of (instance_named m n) (λ (i : Inst). onSome (module_named d i.type) none (λ m'. module_at d m' ns)) e in
+    let i = some_of (instance_named m n) (λ (i : Inst). on_some (module_named d i.type) none (λ m'. module_at d m' ns)) e in
     let k = some_of (module_named d i.0.type) (λ m'. module_at d m' ns) i.2 in
     module_at_mem d k.0 ns (named_mem d i.0.type k.1) k.2

@@ -7,7 +7,7 @@ use Rattle.text.specs.Ascii.{Bytes}
 use Rattle.text.specs.Compare.{same}
 use Rattle.joblines.specs.Job.{Inst, Module}
 use Rattle.design.specs.Limits.{search_depth}
-use Rattle.design.specs.Lists.{onSome}
+use Rattle.design.specs.Lists.{on_some}
 use Rattle.design.specs.Lookup.{instances, module_named}
 
 -- what a search comes to: the instance names down to the one found, if any, and how many calls were made
@@ -28,13 +28,13 @@ under n s = record { found = map (λ (ns : List Bytes). n ∷ ns) s.found; calls
 
 -- a search that goes on only where the one before it found nothing; the calls of both count then
 abbrev pub or_else : Search → Search → Search
-or_else s r = onSome s.found (record { found = r.found; calls = s.calls + r.calls }) λ ns. s
+or_else s r = on_some s.found (record { found = r.found; calls = s.calls + r.calls }) λ ns. s
 
 -- an instance: it is of the type, or what is searched is its module, if that is listed. `down` is the call for a module
 abbrev pub at_instance : List Module → Bytes → (Module → Search) → Inst → Search
 at_instance d type down i =
     cond (same i.type type) (record { found = some (i.name ∷ []); calls = 0 })
-    (onSome (module_named d i.type) nothing λ m. under i.name (down m))
+    (on_some (module_named d i.type) nothing λ m. under i.name (down m))
 
 unfoldable pub among_instances : List Module → Bytes → (Module → Search) → List Inst → Search
 among_instances d type down [] = nothing

@@ -7,7 +7,7 @@ use Rattle.out.specs.Emit.{Out, emit}
 use Rattle.out.specs.Fill.{format2}
 use Rattle.out.specs.Items.{each}
 use Rattle.joblines.specs.Job.{Module}
-use Rattle.design.specs.Lists.{onSome, those}
+use Rattle.design.specs.Lists.{on_some, those}
 use Rattle.design.specs.Lookup.{module_at}
 use Rattle.design.specs.Paths.{filled_parts}
 use Rattle.model.specs.Records.{Domain as Domainʳ}
@@ -25,7 +25,7 @@ use Rattle.domainlists.specs.Seen.{elements_few}
 
 -- whether an element leads to a module
 abbrev pub is_there : List Module → Module → Bytes → Bool
-is_there d base e = onSome (module_at d base (filled_parts e)) false λ m. true
+is_there d base e = on_some (module_at d base (filled_parts e)) false λ m. true
 
 abbrev pub missing_text : Bytes → Bytes → Bytes
 missing_text name e = format2 "power domain '{0}': element '{1}' not found" name e

@@ -18,7 +18,7 @@ use Rattle.fields.specs.declared.Dims.{Dims}
 use Rattle.joblines.specs.Job.{Inst, Module}
 use Rattle.jobindex.specs.Index.{num, module_row}
 use Rattle.jobindex.specs.declared.Span.{Span}
-use Rattle.design.specs.Lists.{first, onSome, those}
+use Rattle.design.specs.Lists.{first, on_some, those}
 use Rattle.design.specs.Lookup.{module_named, instance_named, module_at}
 use Rattle.design.specs.Paths.{filled_parts}
 use Rattle.lines.specs.Cursors.{spanned, inst_is, InstSeen, Stepped}
@@ -209,13 +209,13 @@ module _ (job : Bytes) (index : List ℕ) (count : ℕ) where
       abbrev after : Module → Option Module
       after m' = module_at (modules job index count) m' (filled (others (parts t)))
 
-      one_down : target ≡ onSome (type_below (module_row job index m) t) none (λ n. onSome (module_named (modules job index count) n) none after)
+      one_down : target ≡ on_some (type_below (module_row job index m) t) none (λ n. on_some (module_named (modules job index count) n) none after)
       one_down =
           let f = filled_first t b (name_of mem u) begins (unslashed_first s b (name_of mem u) (sym et ∙ begins)) in
-          let a : module_at (modules job index count) (module_row job index m) (filled (parts t)) ≡ onSome (below (modules job index count) (module_row job index m) (first_part (parts t))) none after = rw f (at_more (modules job index count) (module_row job index m) (first_part (parts t)) (filled (others (parts t)))) in
+          let a : module_at (modules job index count) (module_row job index m) (filled (parts t)) ≡ on_some (below (modules job index count) (module_row job index m) (first_part (parts t))) none after = rw f (at_more (modules job index count) (module_row job index m) (first_part (parts t)) (filled (others (parts t)))) in
           keeps_on ∙ (a ∙ go (instance_named (module_row job index m) (first_part (parts t))))
         where
-          go : (o : Option Inst) → onSome (onSome o none λ i. module_named (modules job index count) i.type) none after ≡ onSome (map (λ (i : Inst). i.type) o) none (λ n. onSome (module_named (modules job index count) n) none after)
+          go : (o : Option Inst) → on_some (on_some o none λ i. module_named (modules job index count) i.type) none after ≡ on_some (map (λ (i : Inst). i.type) o) none (λ n. on_some (module_named (modules job index count) n) none after)
           go none = refl
           go (some i) = refl
 
@@ -229,7 +229,7 @@ module _ (job : Bytes) (index : List ℕ) (count : ℕ) where
         here : DownIs job mem (module_row job index m) t (down.Inst at w x)
         here = rw h at seen.is
 
-        on_row : target ≡ onSome (row_is job index row) none after
+        on_row : target ≡ on_some (row_is job index row) none after
         on_row = one_down ∙ rw (here.0, ← ep, named.says)
 
         pub going_unlisted : row ≡ 0 → ModuleSeen job index count target 0

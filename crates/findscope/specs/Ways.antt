@@ -19,7 +19,7 @@ use Rattle.fields.specs.Names.{name_bytes, name_some, name_short}
 use Rattle.joblines.specs.Job.{Inst, Module}
 use Rattle.design.specs.AcceptedNames.{Named, AllNamed, no_some}
 use Rattle.design.specs.Laws.{first_mem}
-use Rattle.design.specs.Lists.{onSome}
+use Rattle.design.specs.Lists.{on_some}
 use Rattle.design.specs.Lookup.{module_named}
 use Rattle.design.specs.Search.{Search, nothing, under, at_instance, among_instances, search_from}
 use Rattle.texts.specs.Scope.{override_parts}
@@ -40,7 +40,7 @@ unfolding all
 names_more n ns h g = rw (h, g)
 
 module _ (d : List Module) (kind : Bytes) (down : Module → Search) (h : (m : Module) → Mem m d → (ns : List Bytes) → (down m).found ≡ some ns → AllNames ns) where
-  below_named : (n : Bytes) → is_name n ≡ true → (m : Option Module) → ((x : Module) → m ≡ some x → Mem x d) → (ns : List Bytes) → (onSome m nothing (λ x. under n (down x))).found ≡ some ns → AllNames ns
+  below_named : (n : Bytes) → is_name n ≡ true → (m : Option Module) → ((x : Module) → m ≡ some x → Mem x d) → (ns : List Bytes) → (on_some m nothing (λ x. under n (down x))).found ≡ some ns → AllNames ns
   below_named n g none f ns e = absurd (no_some e)
   below_named n g (some x) f ns e = go (down x).found refl e
     where
@@ -51,7 +51,7 @@ module _ (d : List Module) (kind : Bytes) (down : Module → Search) (h : (m : M
   one_named : (i : Inst) → is_name i.name ≡ true → (ns : List Bytes) → (at_instance d kind down i).found ≡ some ns → AllNames ns
   one_named i g ns e = go (same i.type kind) e
     where
-      go : (b : Bool) → (cond b (record { found = some (i.name ∷ []); calls = 0 }) (onSome (module_named d i.type) nothing λ m. under i.name (down m))).found ≡ some ns → AllNames ns
+      go : (b : Bool) → (cond b (record { found = some (i.name ∷ []); calls = 0 }) (on_some (module_named d i.type) nothing λ m. under i.name (down m))).found ≡ some ns → AllNames ns
       go true k = let z : i.name ∷ [] ≡ ns = cc in subst AllNames z (names_more i.name [] g names_none)
       go false k = below_named i.name g (module_named d i.type) (λ x q. first_mem (λ (m : Module). same m.name i.type) d q) ns k
 
@@ -61,7 +61,7 @@ module _ (d : List Module) (kind : Bytes) (down : Module → Search) (h : (m : M
   among_named (i ∷ is) g ns e = go (at_instance d kind down i).found refl e (λ k. among_named is (λ x m. g x (there m)) ns k)
     where
       go : (o : Option (List Bytes)) → (at_instance d kind down i).found ≡ o
-          → (onSome o (record { found = (among_instances d kind down is).found; calls = (at_instance d kind down i).calls + (among_instances d kind down is).calls }) (λ ms. at_instance d kind down i)).found ≡ some ns
+          → (on_some o (record { found = (among_instances d kind down is).found; calls = (at_instance d kind down i).calls + (among_instances d kind down is).calls }) (λ ms. at_instance d kind down i)).found ≡ some ns
           → ((among_instances d kind down is).found ≡ some ns → AllNames ns) → AllNames ns
       go none q k ih = ih k
       go (some ms) q k ih = one_named i (g i (here refl)) ns k

@@ -45,14 +45,14 @@ module _ (job : Bytes) (nums : List ℕ) (count k : ℕ) (files area path : Byte
           let i : Isolated t job (files ++ area) s.isolations false o out₁ ports c = iso path from top t st in
           let few : length (texts.isolation t).ports ≤ 256 = i.few go in
           let d : DomainsTold t (texts.isolation t).ports g₁ glue (out₁ ▸ c.at) report₁ u = subst (λ (ps : List texts.Isolated). DomainsTold t ps g₁ glue (out₁ ▸ c.at) report₁ u) (i.ports_are go) (told t st) in
-          let g₁-is : g₁ ≡ emit (emit (emit (emit (glue₀ ▸ 0) first_line) (net_blocks t)) (each (switch_glue t) t.records.switches)) (texts.processes (texts.isolation t).ports) =
+          let g₁_is : g₁ ≡ emit (emit (emit (emit (glue₀ ▸ 0) first_line) (net_blocks t)) (each (switch_glue t) t.records.switches)) (texts.processes (texts.isolation t).ports) =
           gf count k t st ∙ ap (λ (ps : List texts.Isolated). emit (emit (emit (emit (glue₀ ▸ 0) first_line) (net_blocks t)) (each (switch_glue t) t.records.switches)) (texts.processes ps)) (i.ports_are go) in
           let w : Warns t (emit (emit (report₁ ▸ u.report) (each shifter_line t.records.shifters)) (each table_line t.records.tables)) report x = tl t st few (i.count go) in
           rw e
           (staged_fits glue₀ glue pkg₀ pkg report₀ report (record { number = 0; glue = u.glue; pkg = end; report = x.at }) t (all_within t ((told t st).fits on) few (w.few h))
           record {
             number_is = refl;
-            glue_is = glue_pieces t (glue₀ ▸ 0) (emit (glue₀ ▸ 0) first_line) (emit (emit (glue₀ ▸ 0) first_line) (net_blocks t)) (emit (emit (emit (glue₀ ▸ 0) first_line) (net_blocks t)) (each (switch_glue t) t.records.switches)) g₁ (glue ▸ u.glue) refl refl refl g₁-is (d.glue_is on);
+            glue_is = glue_pieces t (glue₀ ▸ 0) (emit (glue₀ ▸ 0) first_line) (emit (emit (glue₀ ▸ 0) first_line) (net_blocks t)) (emit (emit (emit (glue₀ ▸ 0) first_line) (net_blocks t)) (each (switch_glue t) t.records.switches)) g₁ (glue ▸ u.glue) refl refl refl g₁_is (d.glue_is on);
             pkg_is = ep;
             report_is = report_pieces t (report₀ ▸ 0) (emit (report₀ ▸ 0) (scope_line t)) o (out₁ ▸ c.at) (report₁ ▸ u.report) (emit (report₁ ▸ u.report) (each shifter_line t.records.shifters)) (emit (emit (report₁ ▸ u.report) (each shifter_line t.records.shifters)) (each table_line t.records.tables)) (report ▸ x.at) refl er (i.text go) (d.report_is on) refl refl w.text;
           })

@@ -17,7 +17,7 @@ use Rattle.spans.specs.Reach.{Held, reach_end}
 use Rattle.spans.specs.declared.span.Span.{Span}
 use Rattle.tcl.specs.Lists.{list}
 use Rattle.joblines.specs.Job.{Module}
-use Rattle.design.specs.Lists.{onSome}
+use Rattle.design.specs.Lists.{on_some}
 use Rattle.names.specs.Name.{name_of}
 use Rattle.names.specs.Scoped.{scoped}
 use Rattle.names.specs.declared.name.Name.{Name}
@@ -103,7 +103,7 @@ applies_is : (mem : Bytes) (x : Isolation) → or_else (maybe_of mem x.applies) 
 unfolding isolation_of
 applies_is mem x = go (maybe_of mem x.applies)
   where
-    go : (o : Option Bytes) → or_else o (ascii "outputs") ≡ onSome o (ascii "outputs") λ a. a
+    go : (o : Option Bytes) → or_else o (ascii "outputs") ≡ on_some o (ascii "outputs") λ a. a
     go none = refl
     go (some a) = refl
 

@@ -23,7 +23,7 @@ use Rattle.store.specs.declared.stored.Maybe.TheVariants.{Not, Given}
 use Rattle.made.specs.Made.{reach_of}
 use Rattle.readfacts.specs.Few.{Few}
 use Rattle.readfacts.specs.Kept.{reading_few, few_more}
-use Rattle.held.specs.Held.{model_at, counted_of, reading_of, log_of as logRead, Held}
+use Rattle.held.specs.Held.{model_at, counted_of, reading_of, log_of as log_read, Held}
 use Rattle.held.specs.Grows.{bounded_more}
 use Rattle.held.specs.Laws.{end_low, whole_model}
 use Rattle.job.specs.Reader.{JobRead}
@@ -119,7 +119,7 @@ module _ (job : Bytes) (nums nums' : List ℕ) (head : Header) (p : accepted (jo
   s = o.state
 
   abbrev text : Bytes
-  text = logRead (reading j)
+  text = log_read (reading j)
 
   come : reading_of files area nums' text o ≡ reading j
   come = rw (reading_is job nums head v) at w.comes.result

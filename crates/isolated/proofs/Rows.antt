@@ -6,7 +6,7 @@ use mathlib.Core.Bool.{false}
 use mathlib.Core.List.{List}
 use borrow.Author.Rules.{rules}
 use Rattle.names.specs.declared.name.Name.{Name}
-use Rattle.nametable.specs.Table.{row_name, Stores, row_put as namePut}
+use Rattle.nametable.specs.Table.{row_name, Stores, row_put as name_put}
 use Rattle.refs.specs.Text.{no_name}
 use Rattle.refs.specs.declared.Ref.{Ref}
 use Rattle.isolated.specs.Table.{parts_row, counts_row, isolated_of, port_row, names_put, numbers_put, port_put, Fits, port_ref}
@@ -19,10 +19,10 @@ module _ (x : Isolated) (f : Fits x) (n : Name) where
   pub counts_stores : n ≡ counts_row x → Stores n
   counts_stores e = rw e (record { scope_at = f.strategy; scope_len = f.upto; word_at = omega arith; word_len = omega arith })
 
-pub names_put_lem : (t u v : List ℕ) (k : ℕ) (x : Isolated) → u ≡ namePut t (4 * k) x.element → v ≡ namePut u (4 * k + 1) x.last → v ≡ names_put t k x
+pub names_put_lem : (t u v : List ℕ) (k : ℕ) (x : Isolated) → u ≡ name_put t (4 * k) x.element → v ≡ name_put u (4 * k + 1) x.last → v ≡ names_put t k x
 names_put_lem t u v k x e f = rw (f, e)
 
-pub numbers_put_lem : (t u v : List ℕ) (k : ℕ) (x : Isolated) (p q : Name) → u ≡ namePut t (4 * k + 2) p → v ≡ namePut u (4 * k + 3) q → p ≡ parts_row x → q ≡ counts_row x → v ≡ numbers_put t k x
+pub numbers_put_lem : (t u v : List ℕ) (k : ℕ) (x : Isolated) (p q : Name) → u ≡ name_put t (4 * k + 2) p → v ≡ name_put u (4 * k + 3) q → p ≡ parts_row x → q ≡ counts_row x → v ≡ numbers_put t k x
 numbers_put_lem t u v k x p q e f g h = rw (f, e, g, h)
 
 pub port_put_lem : (t u v : List ℕ) (k : ℕ) (x : Isolated) → u ≡ names_put t k x → v ≡ numbers_put u k x → v ≡ port_put t k x

@@ -6,7 +6,7 @@ use Rattle.std.proofs.Math.Path.{refl, ap}
 use Rattle.text.specs.Ascii.{Bytes}
 use Rattle.names.specs.Name.{name_of, named}
 use Rattle.names.specs.declared.name.Name.{Name}
-use Rattle.nametable.specs.Table.{form_at, tag_of, row_name, row_put as namePut, other_row, row_back, same_row}
+use Rattle.nametable.specs.Table.{form_at, tag_of, row_name, row_put as name_put, other_row, row_back, same_row}
 use Rattle.refs.specs.Text.{text_of}
 use Rattle.isolated.specs.Table.{parts_row, counts_row, port_row, names_put, port_put, Kept, kept_of, kept_from, kept_in}
 use Rattle.isolated.specs.declared.Isolated.{Isolated}
@@ -36,7 +36,7 @@ kept_last job mem t k (suc n) =
 
 -- ---- a port put
 
-name_long : (t : List ℕ) (j : ℕ) (n : Name) → length (namePut t j n) ≡ length t
+name_long : (t : List ℕ) (j : ℕ) (n : Name) → length (name_put t j n) ≡ length t
 name_long t j n = simp length-set
 
 module _ (t : List ℕ) (k : ℕ) (x : Isolated) where
@@ -44,7 +44,7 @@ module _ (t : List ℕ) (k : ℕ) (x : Isolated) where
   t2 = names_put t k x
 
   abbrev t3 : List ℕ
-  t3 = namePut t2 (4 * k + 2) (parts_row x)
+  t3 = name_put t2 (4 * k + 2) (parts_row x)
 
   -- the rows before it are as they were
   before_row : (i : ℕ) → i < 4 * k → row_name (port_put t k x) i ≡ row_name t i
@@ -52,7 +52,7 @@ module _ (t : List ℕ) (k : ℕ) (x : Isolated) where
   before_row i h =
       other_row t3 (4 * k + 3) (counts_row x) i (omega arith)
       ∙ other_row t2 (4 * k + 2) (parts_row x) i (omega arith)
-      ∙ other_row (namePut t (4 * k) x.element) (4 * k + 1) x.last i (omega arith)
+      ∙ other_row (name_put t (4 * k) x.element) (4 * k + 1) x.last i (omega arith)
       ∙ other_row t (4 * k) x.element i (omega arith)
 
   before_port : (j : ℕ) → j < k → port_row (port_put t k x) j ≡ port_row t j
@@ -65,11 +65,11 @@ module _ (t : List ℕ) (k : ℕ) (x : Isolated) where
   before_all job mem i (suc m) h = rw (before_port i (omega arith), before_all job mem (i + 1) m (omega arith))
 
   module _ (h : 20 * k + 20 ≤ length t) where
-    long1 : length (namePut t (4 * k) x.element) ≡ length t
+    long1 : length (name_put t (4 * k) x.element) ≡ length t
     long1 = name_long t (4 * k) x.element
 
     long2 : length t2 ≡ length t
-    long2 = name_long (namePut t (4 * k) x.element) (4 * k + 1) x.last ∙ long1
+    long2 = name_long (name_put t (4 * k) x.element) (4 * k + 1) x.last ∙ long1
 
     long3 : length t3 ≡ length t
     long3 = name_long t2 (4 * k + 2) (parts_row x) ∙ long2
@@ -86,7 +86,7 @@ module _ (t : List ℕ) (k : ℕ) (x : Isolated) where
     unfolding port_put
     last_back mem =
         ap (name_of mem) (other_row t3 (4 * k + 3) (counts_row x) (4 * k + 1) (omega arith) ∙ other_row t2 (4 * k + 2) (parts_row x) (4 * k + 1) (omega arith))
-        ∙ same_row mem (namePut t (4 * k) x.element) (4 * k + 1) x.last (omega (arith, long1))
+        ∙ same_row mem (name_put t (4 * k) x.element) (4 * k + 1) x.last (omega (arith, long1))
 
     element_back : (mem : Bytes) → name_of mem (row_name (port_put t k x) (4 * k)) ≡ name_of mem x.element
     unfolding port_put
@@ -94,7 +94,7 @@ module _ (t : List ℕ) (k : ℕ) (x : Isolated) where
         ap (name_of mem)
         (other_row t3 (4 * k + 3) (counts_row x) (4 * k) (omega arith)
         ∙ other_row t2 (4 * k + 2) (parts_row x) (4 * k) (omega arith)
-        ∙ other_row (namePut t (4 * k) x.element) (4 * k + 1) x.last (4 * k) (omega arith))
+        ∙ other_row (name_put t (4 * k) x.element) (4 * k + 1) x.last (4 * k) (omega arith))
         ∙ same_row mem t (4 * k) x.element (omega arith)
 
     port_back : (job mem : Bytes) → kept_of job mem (port_row (port_put t k x) k) ≡ kept_of job mem x

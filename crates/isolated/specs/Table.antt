@@ -4,7 +4,7 @@ use Rattle.text.specs.Ascii.{Bytes}
 use Rattle.spans.specs.Span.{◌⋯◌}
 use Rattle.names.specs.Name.{named}
 use Rattle.names.specs.declared.name.Name.{Name}
-use Rattle.nametable.specs.Table.{row_name, Stores, row_put as namePut}
+use Rattle.nametable.specs.Table.{row_name, Stores, row_put as name_put}
 use Rattle.refs.specs.Text.{no_name, text_of}
 use Rattle.refs.specs.declared.Ref.{Ref}
 use Rattle.isolated.specs.declared.Isolated.{Isolated}
@@ -36,10 +36,10 @@ port_row t k = isolated_of (row_name t (4 * k)) (row_name t (4 * k + 1)) (row_na
 
 -- a table with a port put into row k
 abbrev pub names_put : List ℕ → ℕ → Isolated → List ℕ
-names_put t k x = namePut (namePut t (4 * k) x.element) (4 * k + 1) x.last
+names_put t k x = name_put (name_put t (4 * k) x.element) (4 * k + 1) x.last
 
 abbrev pub numbers_put : List ℕ → ℕ → Isolated → List ℕ
-numbers_put t k x = namePut (namePut t (4 * k + 2) (parts_row x)) (4 * k + 3) (counts_row x)
+numbers_put t k x = name_put (name_put t (4 * k + 2) (parts_row x)) (4 * k + 3) (counts_row x)
 
 unfoldable pub port_put : List ℕ → ℕ → Isolated → List ℕ
 port_put t k x = numbers_put (names_put t k x) k x

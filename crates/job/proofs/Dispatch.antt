@@ -53,46 +53,46 @@ module _ (job index index' : List ℕ) (from end : ℕ) (d : Due) (head : Header
   abbrev rest : Bytes
   rest = drop (end + 1) job
 
-  abbrev Due-step : Type 0
-  Due-step = Stepped job index index' from (read_line (due_of job d) (job_now job index d head o) line rest) r
+  abbrev DueStep : Type 0
+  DueStep = Stepped job index index' from (read_line (due_of job d) (job_now job index d head o) line rest) r
 
-  pub step_top : d ≡ due.Top → Stepped job index index' from (first_of (top_line ∷ []) (job_of job index head) line rest) r → Due-step
+  pub step_top : d ≡ due.Top → Stepped job index index' from (first_of (top_line ∷ []) (job_of job index head) line rest) r → DueStep
   unfolding read_line
   step_top e s = rw e s
 
-  pub step_override : d ≡ due.Override → Stepped job index index' from (first_of (override_line ∷ []) (job_of job index head) line rest) r → Due-step
+  pub step_override : d ≡ due.Override → Stepped job index index' from (first_of (override_line ∷ []) (job_of job index head) line rest) r → DueStep
   unfolding read_line
   step_override e s = rw e s
 
-  pub step_start : d ≡ due.Start → Stepped job index index' from (first_of (start_line ∷ []) (job_of job index head) line rest) r → Due-step
+  pub step_start : d ≡ due.Start → Stepped job index index' from (first_of (start_line ∷ []) (job_of job index head) line rest) r → DueStep
   unfolding read_line
   step_start e s = rw e s
 
-  pub step_file : d ≡ due.File → Stepped job index index' from (first_of (file_line ∷ []) (job_of job index head) line rest) r → Due-step
+  pub step_file : d ≡ due.File → Stepped job index index' from (first_of (file_line ∷ []) (job_of job index head) line rest) r → DueStep
   unfolding read_line
   step_file e s = rw e s
 
-  pub step_bytes : (a l : ℕ) → d ≡ due.Bytes a l → Stepped job index index' from (first_of (bytes_line (bytes_at job a l) ∷ []) (job_of job index head) line rest) r → Due-step
+  pub step_bytes : (a l : ℕ) → d ≡ due.Bytes a l → Stepped job index index' from (first_of (bytes_line (bytes_at job a l) ∷ []) (job_of job index head) line rest) r → DueStep
   unfolding read_line
   step_bytes a l e s = rw e s
 
-  pub step_more : d ≡ due.More → Stepped job index index' from (first_of (file_line ∷ module_line ∷ []) (job_of job index head) line rest) r → Due-step
+  pub step_more : d ≡ due.More → Stepped job index index' from (first_of (file_line ∷ module_line ∷ []) (job_of job index head) line rest) r → DueStep
   unfolding read_line
   step_more e s = rw e s
 
-  pub step_style : (a l : ℕ) → d ≡ due.Style a l → Stepped job index index' from (first_of (style_line (bytes_at job a l) ∷ []) (job_of job index head) line rest) r → Due-step
+  pub step_style : (a l : ℕ) → d ≡ due.Style a l → Stepped job index index' from (first_of (style_line (bytes_at job a l) ∷ []) (job_of job index head) line rest) r → DueStep
   unfolding read_line
   step_style a l e s = rw e s
 
-  pub step_ports : d ≡ due.Ports → Stepped job index index' from (first_of (port_line ∷ decl_line ∷ inst_line ∷ module_line ∷ end_line ∷ []) (job_in job index head o) line rest) r → Due-step
+  pub step_ports : d ≡ due.Ports → Stepped job index index' from (first_of (port_line ∷ decl_line ∷ inst_line ∷ module_line ∷ end_line ∷ []) (job_in job index head o) line rest) r → DueStep
   unfolding read_line
   step_ports e s = rw e s
 
-  pub step_decls : d ≡ due.Decls → Stepped job index index' from (first_of (decl_line ∷ inst_line ∷ module_line ∷ end_line ∷ []) (job_in job index head o) line rest) r → Due-step
+  pub step_decls : d ≡ due.Decls → Stepped job index index' from (first_of (decl_line ∷ inst_line ∷ module_line ∷ end_line ∷ []) (job_in job index head o) line rest) r → DueStep
   unfolding read_line
   step_decls e s = rw e s
 
-  pub step_insts : d ≡ due.Insts → Stepped job index index' from (first_of (conn_line ∷ inst_line ∷ module_line ∷ end_line ∷ []) (job_in job index head o) line rest) r → Due-step
+  pub step_insts : d ≡ due.Insts → Stepped job index index' from (first_of (conn_line ∷ inst_line ∷ module_line ∷ end_line ∷ []) (job_in job index head o) line rest) r → DueStep
   unfolding read_line
   step_insts e s = rw e s
 

@@ -6,7 +6,7 @@ use Rattle.text.specs.Ascii.{Bytes}
 use Rattle.joblines.specs.Job.{Inst, Module}
 use Rattle.joblines.specs.Sections.{insts_in}
 use Rattle.jobindex.specs.Index.{num, row_at, section, module_row, rows}
-use Rattle.design.specs.Lists.{onSome}
+use Rattle.design.specs.Lists.{on_some}
 use Rattle.design.specs.Lookup.{module_named, instance_named, module_at}
 use Rattle.lines.specs.Cursors.{inst_is}
 use Rattle.lines.specs.declared.InstAt.{InstAt}
@@ -56,16 +56,16 @@ pub record InstanceSeen (job : Bytes) (index : List ℕ) (k : ℕ) (name : Bytes
 
 -- ---- one instance down
 abbrev pub below : List Module → Module → Bytes → Option Module
-below d m n = onSome (instance_named m n) none λ i. module_named d i.type
+below d m n = on_some (instance_named m n) none λ i. module_named d i.type
 
 pub at_none : (d : List Module) (m : Module) → module_at d m [] ≡ some m
 unfolding module_at
 at_none d m = refl
 
-pub at_more : (d : List Module) (m : Module) (n : Bytes) (ns : List Bytes) → module_at d m (n ∷ ns) ≡ onSome (below d m n) none λ m'. module_at d m' ns
+pub at_more : (d : List Module) (m : Module) (n : Bytes) (ns : List Bytes) → module_at d m (n ∷ ns) ≡ on_some (below d m n) none λ m'. module_at d m' ns
 unfolding module_at
 at_more d m n ns = go (instance_named m n)
   where
-    go : (o : Option Inst) → onSome o none (λ i. onSome (module_named d i.type) none λ m'. module_at d m' ns) ≡ onSome (onSome o none λ i. module_named d i.type) none λ m'. module_at d m' ns
+    go : (o : Option Inst) → on_some o none (λ i. on_some (module_named d i.type) none λ m'. module_at d m' ns) ≡ on_some (on_some o none λ i. module_named d i.type) none λ m'. module_at d m' ns
     go none = refl
     go (some i) = refl

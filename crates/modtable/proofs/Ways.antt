@@ -24,7 +24,7 @@ use Rattle.lines.specs.Cursors.{spanned, inst_is, InstSeen, Stepped}
 use Rattle.lines.specs.declared.InstAt.{InstAt}
 use Rattle.lines.specs.declared.InstAt.TheVariants as inst
 use Rattle.lookup.specs.Rows.{modules, row_is, ModuleSeen, insts_from, insts_end, insts_are}
-use Rattle.design.specs.Lists.{onSome}
+use Rattle.design.specs.Lists.{on_some}
 use Rattle.design.specs.Lookup.{module_named}
 use Rattle.walk.specs.Walk.{entered}
 use Rattle.modtable.specs.Table.{Way, ways_at, way_place, way_in, ways_down, low_of, part_put}
@@ -57,7 +57,7 @@ unfolding ways_down
 ways_fewer d [] = omega arith
 ways_fewer d (i ∷ is) = go (entered d i) (ways_fewer d is)
   where
-    go : (o : Option Module) → length (ways_down d is) ≤ length is → length (onSome o (ways_down d is) λ m. record { name = i.name; into = m } ∷ ways_down d is) ≤ suc (length is)
+    go : (o : Option Module) → length (ways_down d is) ≤ length is → length (on_some o (ways_down d is) λ m. record { name = i.name; into = m } ∷ ways_down d is) ≤ suc (length is)
     go none h = omega arith
     go (some m) h = omega arith
 

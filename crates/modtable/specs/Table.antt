@@ -6,7 +6,7 @@ use Rattle.joblines.specs.Job.{Inst, Module}
 use Rattle.jobindex.specs.Index.{num, bytes_at, module_row, rows}
 use Rattle.jobindex.specs.declared.Span.{Span}
 use Rattle.lookup.specs.Rows.{modules}
-use Rattle.design.specs.Lists.{onSome}
+use Rattle.design.specs.Lists.{on_some}
 use Rattle.design.specs.Ports.{losable}
 use Rattle.walk.specs.Walk.{entered}
 
@@ -73,7 +73,7 @@ input_in job inputs i = part_at job inputs (2 * i)
 -- "The walk goes down from a module into its instances with D 0 whose module is listed"
 unfoldable pub ways_down : List Module → List Inst → List Way
 ways_down d [] = []
-ways_down d (i ∷ is) = onSome (entered d i) (ways_down d is) λ m. record { name = i.name; into = m } ∷ ways_down d is
+ways_down d (i ∷ is) = on_some (entered d i) (ways_down d is) λ m. record { name = i.name; into = m } ∷ ways_down d is
 
 pub record ModuleTabled (job : Bytes) (index : List ℕ) (count : ℕ) (table : List ℕ) (k : ℕ) : Type 0 where
   pub names : names_of job table k ≡ losable (module_row job index k)

@@ -3,7 +3,7 @@ use Rattle.std.specs.Prelude.{ℕ, ◌+◌, ◌-◌, ◌*◌, ◌≤◌, ◌<◌
 use Rattle.std.proofs.Common.{zero-add, arith, sym, ap, ◌∙◌, take-take}
 use Rattle.text.specs.Ascii.{Bytes}
 use Rattle.out.specs.Emit.{emit}
-use Rattle.spans.specs.Reach.{reach_held, filed as inFiles}
+use Rattle.spans.specs.Reach.{reach_held, filed as in_files}
 use Rattle.tcl.specs.Join.{join}
 use Rattle.tcl.specs.Commands.{commands}
 use Rattle.jobindex.specs.Index.{path_at, body_at, rows, Indexed}
@@ -66,7 +66,7 @@ module _ (job files₀ area₀ nums₀ : List ℕ) (count first : ℕ) (v : Star
       store_is = rw f.fill
 
       at_start : reach_of (length files) no_string ≤ length files + s.fill.end
-      at_start = omega (arith, reach_held (length files) (span_of no_string) (inFiles (omega arith)))
+      at_start = omega (arith, reach_held (length files) (span_of no_string) (in_files (omega arith)))
 
       held : Held files area₀ nums 0 s
       held =

@@ -12,7 +12,7 @@ use borrow.Author.Tests.{eqb-true}
 use Rattle.text.specs.Ascii.{Bytes, byte}
 use Rattle.text.specs.Lists.{take_none}
 use Rattle.text.specs.Sames.{both, no_true}
-use Rattle.names.specs.Name.{name_of, slash, step_of as nameStep}
+use Rattle.names.specs.Name.{name_of, slash, step_of as name_step}
 use Rattle.names.specs.declared.name.Name.{Name}
 use Rattle.names.specs.declared.name.Step.{Step as NameStep}
 use Rattle.names.specs.declared.name.Step.TheVariants.{Byte as NameByte, End as NameEnd}
@@ -54,7 +54,7 @@ pub ruleset starts = (rules, starts_none, starts_past, starts_byte)
 -- ---- behind the name
 
 module _ (job mem : Bytes) where
-  module _ (n : Name) (at len : ℕ) (p : NameStep) (e : name_of mem n ≡ nameStep mem p) where
+  module _ (n : Name) (at len : ℕ) (p : NameStep) (e : name_of mem n ≡ name_step mem p) where
     pub last_end_lem : (u : Step) → p ≡ NameEnd → Starts job at len u → name_of mem n ++ take len (drop at job) ≡ step_of job mem u
     last_end_lem u h g = rw (e, h) (g.is mem)
 
@@ -93,7 +93,7 @@ module _ (job mem : Bytes) (r : Ref) where
   unfolding text_of
   next_cut u e h = rw (front_none r.cut r.upto (name_of mem r.name) h) e
 
-  module _ (p : NameStep) (f : name_of mem r.name ≡ nameStep mem p) where
+  module _ (p : NameStep) (f : name_of mem r.name ≡ name_step mem p) where
     pub next_end : (u : Step) → slash r.sep ++ (name_of mem r.last ++ take r.len (drop r.at job)) ≡ step_of job mem u → p ≡ NameEnd → text_of job mem r ≡ step_of job mem u
     unfolding text_of
     next_end u e h = rw (f, h, front_empty r.cut r.upto) e

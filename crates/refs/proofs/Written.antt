@@ -12,7 +12,7 @@ use Rattle.text.specs.Lists.{take_none}
 use Rattle.text.specs.Sames.{no_true}
 use Rattle.out.specs.Emit.{Out, emit, emit_append}
 use Rattle.out.specs.Bytewise.{flat, becomes, dotted, flat_two, flat_same}
-use Rattle.names.specs.Name.{name_of, slash, step_of as nameStep}
+use Rattle.names.specs.Name.{name_of, slash, step_of as name_step}
 use Rattle.names.specs.declared.name.Name.{Name}
 use Rattle.names.specs.declared.name.Step.{Step as NameStep}
 use Rattle.names.specs.declared.name.Step.TheVariants.{Byte as NameByte, End as NameEnd}
@@ -52,7 +52,7 @@ module _ (mem : Bytes) (f : ℕ → Bytes) (w o : Out) (x : Name) (k : ℕ) (inv
   unfolding flat emit
   front_all h = let z : k ≡ 0 = omega arith in rw z at inv.keeps
 
-  module _ (p : NameStep) (e : name_of mem x ≡ nameStep mem p) where
+  module _ (p : NameStep) (e : name_of mem x ≡ name_step mem p) where
     pub front_end : p ≡ NameEnd → o ≡ w
     unfolding flat emit
     front_end h = rw (e, h, take_none k) at inv.keeps
@@ -131,10 +131,10 @@ module _ (job mem : Bytes) (r : Ref) (u : Bytes) (e : u ≡ take r.len (drop r.a
         go x k [] c = sym (rw (front_empty x k))
         go x k (y ∷ n) c = sym (rw (front_byte x k y n c))
 
-pub there_end : (mem : Bytes) (n : Name) (p : NameStep) → name_of mem n ≡ nameStep mem p → p ≡ NameEnd → false ≡ is_there (name_of mem n)
+pub there_end : (mem : Bytes) (n : Name) (p : NameStep) → name_of mem n ≡ name_step mem p → p ≡ NameEnd → false ≡ is_there (name_of mem n)
 there_end mem n p e h = rw (e, h)
 
-pub there_byte : (mem : Bytes) (n : Name) (p : NameStep) → name_of mem n ≡ nameStep mem p → (b : ℕ) (u : Name) → p ≡ NameByte b u → true ≡ is_there (name_of mem n)
+pub there_byte : (mem : Bytes) (n : Name) (p : NameStep) → name_of mem n ≡ name_step mem p → (b : ℕ) (u : Name) → p ≡ NameByte b u → true ≡ is_there (name_of mem n)
 there_byte mem n p e b u h = rw (e, h)
 
 pub ruleset theres = (rules, there_end, there_byte, there_part, there_last, there_none, there_name)

@@ -22,7 +22,7 @@ use Rattle.joblines.specs.Sections.{insts_in}
 use Rattle.jobindex.specs.Index.{section, module_row}
 use Rattle.jobindex.specs.declared.Span.{Span}
 use Rattle.design.specs.Limits.{most_calls}
-use Rattle.design.specs.Lists.{onSome}
+use Rattle.design.specs.Lists.{on_some}
 use Rattle.design.specs.Lookup.{module_named, instances}
 use Rattle.design.specs.Search.{Search, nothing, called, under, or_else, at_instance, among_instances, search_from}
 use Rattle.lines.specs.Cursors.{spanned, inst_is, InstSeen, Stepped}
@@ -59,7 +59,7 @@ calls_one d kind (suc left) m = omega arith
 least : (s r : Search) → s.calls ≤ (or_else s r).calls
 least s r = go s.found
   where
-    go : (o : Option (List Bytes)) → s.calls ≤ (onSome o (record { found = r.found; calls = s.calls + r.calls }) (λ ns. s)).calls
+    go : (o : Option (List Bytes)) → s.calls ≤ (on_some o (record { found = r.found; calls = s.calls + r.calls }) (λ ns. s)).calls
     go none = omega arith
     go (some ns) = omega arith
 

@@ -91,9 +91,9 @@ pub map_same : {A B : Type 0} (f g : A → B) (e : A → ℕ) {n : ℕ} {l : Lis
 map_same f g e none_left h = refl
 map_same f g e (one_more {x = x} {xs = xs} p b) h = rw (h x p, map_same f g e b h)
 
-pub map-same₂ : {A B : Type 0} (f g : A → B) (e e' : A → ℕ) {n n' : ℕ} {l : List A} → Within e n l → Within e' n' l → ((x : A) → e x ≤ n → e' x ≤ n' → g x ≡ f x) → map g l ≡ map f l
-map-same₂ f g e e' none_left none_left h = refl
-map-same₂ f g e e' (one_more {x = x} {xs = xs} p b) (one_more q b') h = rw (h x p q, map-same₂ f g e e' b b' h)
+pub map_same₂ : {A B : Type 0} (f g : A → B) (e e' : A → ℕ) {n n' : ℕ} {l : List A} → Within e n l → Within e' n' l → ((x : A) → e x ≤ n → e' x ≤ n' → g x ≡ f x) → map g l ≡ map f l
+map_same₂ f g e e' none_left none_left h = refl
+map_same₂ f g e e' (one_more {x = x} {xs = xs} p b) (one_more q b') h = rw (h x p q, map_same₂ f g e e' b b' h)
 
 pub flat_same : {A B : Type 0} (f g : A → List B) (e : A → ℕ) {n : ℕ} {l : List A} → Within e n l → ((x : A) → e x ≤ n → g x ≡ f x) → flat_map g l ≡ flat_map f l
 unfolding flat_map

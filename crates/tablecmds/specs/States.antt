@@ -13,7 +13,7 @@ use Rattle.tcl.specs.Arguments.{option_of, name_of}
 use Rattle.args.specs.View.{words_from, Reads, Finds}
 use Rattle.model.specs.Records.{Model, Table as Tableʳ, with_tables}
 use Rattle.model.specs.Commands.{on_first, warned, with_state, table_state_command}
-use Rattle.model.specs.Commands.{table_of as tableNamed}
+use Rattle.model.specs.Commands.{table_of as table_named}
 use Rattle.store.specs.Strings.{no_string, string, stored_of, found_or}
 use Rattle.store.specs.View.{Store, numbered, table_of, text_of, model_of}
 use Rattle.store.specs.Added.{row_counted}
@@ -42,7 +42,7 @@ no_table = record { name = no_string; scope = no_string; supplies = no_string }
 
 -- and a table of the records
 abbrev named : List Bytes → Tableʳ → Bool
-named ws t = same t.name (tableNamed ws)
+named ws t = same t.name (table_named ws)
 
 -- ---- numbered records
 first_numbered : {A B : Type 0} (f : ℕ → A → B) (t : B → Bool) (u : A → Bool) → ((k : ℕ) (x : A) → u x ≡ t (f k x)) → (k : ℕ) (l : List A) → first_at t (numbered f k l) ≡ first_at u l
@@ -75,7 +75,7 @@ module _ (long : ℕ) (mem : Bytes) (words : List ℕ) (n : ℕ) (st : Store) (l
 
   -- the code finds the table that is meant
   module _ (o : Found) (x : Stored) (a : Finds mem words n (option_of (ascii "-pst") ws) o) (e : x ≡ found_or o) where
-    name_is : string mem x ≡ tableNamed ws
+    name_is : string mem x ≡ table_named ws
     name_is = rw e (or_found mem words n (option_of (ascii "-pst") ws) o a)
 
     first_is : first_at (named ws) now.tables ≡ first_at (is_named mem x) kept

@@ -19,7 +19,7 @@ use Rattle.joblines.specs.Job.{Inst, Module}
 use Rattle.joblines.specs.Sections.{conns_in}
 use Rattle.jobindex.specs.Index.{num, section, module_row}
 use Rattle.jobindex.specs.declared.Span.{Span}
-use Rattle.design.specs.Lists.{first, onSome}
+use Rattle.design.specs.Lists.{first, on_some}
 use Rattle.design.specs.Lookup.{module_named, instance_named}
 use Rattle.lines.specs.Cursors.{spanned, inst_is, InstSeen, Stepped}
 use Rattle.lines.specs.declared.InstAt.{InstAt}
@@ -215,11 +215,11 @@ module _ (job : Bytes) (index : List ℕ) (count k : ℕ) (whole : Bytes) (m : �
   unseen e = record { is = sym (sym inv.keeps ∙ e); parent_row = omega (arith, inv.row); sub_row = omega (arith, inv.row); inside = omega arith; front = λ z. absurd (no_true z) }
 
   -- one instance down
-  last_is : (w : Bytes) → instance_at (modules job index count) (module_row job index m) (w ∷ []) ≡ onSome (instance_named (module_row job index m) w) none λ i. onSome (module_named (modules job index count) i.type) none λ s. some (record { parent = module_row job index m; conns = i.conns; sub = s })
+  last_is : (w : Bytes) → instance_at (modules job index count) (module_row job index m) (w ∷ []) ≡ on_some (instance_named (module_row job index m) w) none λ i. on_some (module_named (modules job index count) i.type) none λ s. some (record { parent = module_row job index m; conns = i.conns; sub = s })
   unfolding instance_at
   last_is w = refl
 
-  more_is : (w u : Bytes) → instance_at (modules job index count) (module_row job index m) (w ∷ parts u) ≡ onSome (instance_named (module_row job index m) w) none λ i. onSome (module_named (modules job index count) i.type) none λ m'. instance_at (modules job index count) m' (parts u)
+  more_is : (w u : Bytes) → instance_at (modules job index count) (module_row job index m) (w ∷ parts u) ≡ on_some (instance_named (module_row job index m) w) none λ i. on_some (module_named (modules job index count) i.type) none λ m'. instance_at (modules job index count) m' (parts u)
   unfolding instance_at
   more_is w u = rw (parts_some (byte "/") u)
 
@@ -242,7 +242,7 @@ module _ (job : Bytes) (index : List ℕ) (count k : ℕ) (whole : Bytes) (m : �
       abbrev at_last : DownIs job index m mem left (down.Last at kind conns)
       at_last = rw g at seen.is
 
-      whole_last : instance_at (modules job index count) (module_row job index m) (parts left) ≡ onSome (row_is job index row) none λ s. some (record { parent = module_row job index m; conns = conns_in (section job conns (insts_end index m)); sub = s })
+      whole_last : instance_at (modules job index count) (module_row job index m) (parts left) ≡ on_some (row_is job index row) none λ s. some (record { parent = module_row job index m; conns = conns_in (section job conns (insts_end index m)); sub = s })
       whole_last =
           let l = at_last in
           let i : Inst = l.1.0 in
@@ -267,7 +267,7 @@ module _ (job : Bytes) (index : List ℕ) (count k : ℕ) (whole : Bytes) (m : �
       abbrev at_more : DownIs job index m mem left (down.More at kind size x)
       at_more = rw g at seen.is
 
-      whole_more : instance_at (modules job index count) (module_row job index m) (parts left) ≡ onSome (row_is job index row) none λ m'. instance_at (modules job index count) m' (parts (text_of job mem x))
+      whole_more : instance_at (modules job index count) (module_row job index m) (parts left) ≡ on_some (row_is job index row) none λ m'. instance_at (modules job index count) m' (parts (text_of job mem x))
       whole_more =
           let l = at_more in
           ap (λ (y : List Bytes). instance_at (modules job index count) (module_row job index m) y) l.0

@@ -6,7 +6,7 @@ use mathlib.Core.List.{List, [], ◌∷◌, map}
 use Rattle.std.proofs.Math.Option.{Option, none, some}
 use Rattle.text.specs.Ascii.{Bytes, byte}
 use Rattle.joblines.specs.Job.{Conn, Inst, Module}
-use Rattle.design.specs.Lists.{onSome}
+use Rattle.design.specs.Lists.{on_some}
 use Rattle.design.specs.Lookup.{module_named, instance_named, module_at}
 use Rattle.design.specs.Ports.{output_ports}
 use Rattle.design.specs.Paths.{parts}
@@ -24,8 +24,8 @@ pub record Instance : Type 0 where
 -- the last part names it, the parts before lead to its parent
 unfoldable pub instance_at : List Module → Module → List Bytes → Option Instance
 instance_at d m [] = none
-instance_at d m (p ∷ []) = onSome (instance_named m p) none λ i. onSome (module_named d i.type) none λ s. some (record { parent = m; conns = i.conns; sub = s })
-instance_at d m (p ∷ q ∷ ps) = onSome (instance_named m p) none λ i. onSome (module_named d i.type) none λ m'. instance_at d m' (q ∷ ps)
+instance_at d m (p ∷ []) = on_some (instance_named m p) none λ i. on_some (module_named d i.type) none λ s. some (record { parent = m; conns = i.conns; sub = s })
+instance_at d m (p ∷ q ∷ ps) = on_some (instance_named m p) none λ i. on_some (module_named d i.type) none λ m'. instance_at d m' (q ∷ ps)
 
 abbrev pub found : Module → Inst → Module → Instance
 found m i s = record { parent = m; conns = i.conns; sub = s }
@@ -40,70 +40,70 @@ at_sub : (d : List Module) (m : Module) (p : Bytes) (ps : List Bytes) → module
 unfolding module_at instance_at
 at_sub d m p [] = go (instance_named m p)
   where
-    down : (o : Option Module) (i : Inst) → onSome o none (λ m'. some m') ≡ sub_of (onSome o none λ s. some (found m i s))
+    down : (o : Option Module) (i : Inst) → on_some o none (λ m'. some m') ≡ sub_of (on_some o none λ s. some (found m i s))
     down none i = refl
     down (some m') i = refl
 
-    go : (o : Option Inst) → onSome o none (λ i. onSome (module_named d i.type) none λ m'. some m') ≡ sub_of (onSome o none λ i. onSome (module_named d i.type) none λ s. some (found m i s))
+    go : (o : Option Inst) → on_some o none (λ i. on_some (module_named d i.type) none λ m'. some m') ≡ sub_of (on_some o none λ i. on_some (module_named d i.type) none λ s. some (found m i s))
     go none = refl
     go (some i) = down (module_named d i.type) i
 at_sub d m p (q ∷ ps) = go (instance_named m p) (λ m'. at_sub d m' q ps)
   where
-    down : (o : Option Module) → ((m' : Module) → module_at d m' (q ∷ ps) ≡ sub_of (instance_at d m' (q ∷ ps))) → onSome o none (λ m'. module_at d m' (q ∷ ps)) ≡ sub_of (onSome o none λ m'. instance_at d m' (q ∷ ps))
+    down : (o : Option Module) → ((m' : Module) → module_at d m' (q ∷ ps) ≡ sub_of (instance_at d m' (q ∷ ps))) → on_some o none (λ m'. module_at d m' (q ∷ ps)) ≡ sub_of (on_some o none λ m'. instance_at d m' (q ∷ ps))
     down none h = refl
     down (some m') h = h m'
 
-    go : (o : Option Inst) → ((m' : Module) → module_at d m' (q ∷ ps) ≡ sub_of (instance_at d m' (q ∷ ps))) → onSome o none (λ i. onSome (module_named d i.type) none λ m'. module_at d m' (q ∷ ps)) ≡ sub_of (onSome o none λ i. onSome (module_named d i.type) none λ m'. instance_at d m' (q ∷ ps))
+    go : (o : Option Inst) → ((m' : Module) → module_at d m' (q ∷ ps) ≡ sub_of (instance_at d m' (q ∷ ps))) → on_some o none (λ i. on_some (module_named d i.type) none λ m'. module_at d m' (q ∷ ps)) ≡ sub_of (on_some o none λ i. on_some (module_named d i.type) none λ m'. instance_at d m' (q ∷ ps))
     go none h = refl
     go (some i) h = down (module_named d i.type) h
 
 -- what is made of the parent, the instance and its module is made of the instance that is found
 module _ {A : Type 0} (z : A) (f : List Conn → Module → A) (d : List Module) where
   abbrev asked : Module → List Bytes → A
-  asked m ps = onSome (module_at d m (front_parts ps)) z λ parent. onSome (module_at d m ps) z λ sub. onSome (instance_named parent (last_part ps)) z λ i. f i.conns sub
+  asked m ps = on_some (module_at d m (front_parts ps)) z λ parent. on_some (module_at d m ps) z λ sub. on_some (instance_named parent (last_part ps)) z λ i. f i.conns sub
 
   abbrev told : Module → List Bytes → A
-  told m ps = onSome (instance_at d m ps) z λ x. f x.conns x.sub
+  told m ps = on_some (instance_at d m ps) z λ x. f x.conns x.sub
 
   asked_told : (m : Module) (p : Bytes) (ps : List Bytes) → asked m (p ∷ ps) ≡ told m (p ∷ ps)
   unfolding module_at instance_at
   asked_told m p [] = go (instance_named m p) refl
     where
       down : (i : Inst) → instance_named m p ≡ some i → (o : Option Module)
-          → onSome (onSome o none λ m'. some m') z (λ sub. onSome (instance_named m p) z λ j. f j.conns sub) ≡ onSome (onSome o none λ s. some (found m i s)) z (λ x. f x.conns x.sub)
+          → on_some (on_some o none λ m'. some m') z (λ sub. on_some (instance_named m p) z λ j. f j.conns sub) ≡ on_some (on_some o none λ s. some (found m i s)) z (λ x. f x.conns x.sub)
       down i e none = refl
       down i e (some m') = rw e
 
       go : (o : Option Inst) → instance_named m p ≡ o
-          → onSome (onSome o none λ i. onSome (module_named d i.type) none λ m'. some m') z (λ sub. onSome (instance_named m p) z λ j. f j.conns sub)
-          ≡ onSome (onSome o none λ i. onSome (module_named d i.type) none λ s. some (found m i s)) z (λ x. f x.conns x.sub)
+          → on_some (on_some o none λ i. on_some (module_named d i.type) none λ m'. some m') z (λ sub. on_some (instance_named m p) z λ j. f j.conns sub)
+          ≡ on_some (on_some o none λ i. on_some (module_named d i.type) none λ s. some (found m i s)) z (λ x. f x.conns x.sub)
       go none e = refl
       go (some i) e = down i e (module_named d i.type)
   asked_told m p (q ∷ ps) = go (instance_named m p) (λ m'. asked_told m' q ps)
     where
       down : (o : Option Module) → ((m' : Module) → asked m' (q ∷ ps) ≡ told m' (q ∷ ps))
-          → onSome (onSome o none λ m'. module_at d m' (front_parts (q ∷ ps))) z (λ parent. onSome (onSome o none λ m'. module_at d m' (q ∷ ps)) z λ sub. onSome (instance_named parent (last_part (q ∷ ps))) z λ i. f i.conns sub)
-          ≡ onSome (onSome o none λ m'. instance_at d m' (q ∷ ps)) z (λ x. f x.conns x.sub)
+          → on_some (on_some o none λ m'. module_at d m' (front_parts (q ∷ ps))) z (λ parent. on_some (on_some o none λ m'. module_at d m' (q ∷ ps)) z λ sub. on_some (instance_named parent (last_part (q ∷ ps))) z λ i. f i.conns sub)
+          ≡ on_some (on_some o none λ m'. instance_at d m' (q ∷ ps)) z (λ x. f x.conns x.sub)
       down none h = refl
       down (some m') h = h m'
 
       go : (o : Option Inst) → ((m' : Module) → asked m' (q ∷ ps) ≡ told m' (q ∷ ps))
-          → onSome (onSome o none λ i. onSome (module_named d i.type) none λ m'. module_at d m' (front_parts (q ∷ ps))) z (λ parent. onSome (onSome o none λ i. onSome (module_named d i.type) none λ m'. module_at d m' (q ∷ ps)) z λ sub. onSome (instance_named parent (last_part (q ∷ ps))) z λ i. f i.conns sub)
-          ≡ onSome (onSome o none λ i. onSome (module_named d i.type) none λ m'. instance_at d m' (q ∷ ps)) z (λ x. f x.conns x.sub)
+          → on_some (on_some o none λ i. on_some (module_named d i.type) none λ m'. module_at d m' (front_parts (q ∷ ps))) z (λ parent. on_some (on_some o none λ i. on_some (module_named d i.type) none λ m'. module_at d m' (q ∷ ps)) z λ sub. on_some (instance_named parent (last_part (q ∷ ps))) z λ i. f i.conns sub)
+          ≡ on_some (on_some o none λ i. on_some (module_named d i.type) none λ m'. instance_at d m' (q ∷ ps)) z (λ x. f x.conns x.sub)
       go none h = refl
       go (some i) h = down (module_named d i.type) h
 
 -- what a target comes to
 abbrev pub comes : List Bytes → Bytes → List Conn → Module → Resolved
-comes ps port conns sub = onSome (actual_of conns sub port) Resolved.not_plain_lem λ n. Resolved.net (below_parent (front_parts ps) n)
+comes ps port conns sub = on_some (actual_of conns sub port) Resolved.not_plain_lem λ n. Resolved.net (below_parent (front_parts ps) n)
 
-pub resolved_is : (s : Setting) (t : Target) → resolved s t ≡ onSome (instance_at s.design s.base (parts t.inst)) Resolved.absent λ x. comes (parts t.inst) t.port x.conns x.sub
+pub resolved_is : (s : Setting) (t : Target) → resolved s t ≡ on_some (instance_at s.design s.base (parts t.inst)) Resolved.absent λ x. comes (parts t.inst) t.port x.conns x.sub
 unfolding resolved
 resolved_is s t = go (parts t.inst) (parts_some (byte "/") t.inst)
   where
     go : (ps : List Bytes) → ps ≡ first_part ps ∷ others ps
-        → (onSome (module_at s.design s.base (front_parts ps)) Resolved.absent λ parent. onSome (module_at s.design s.base ps) Resolved.absent λ sub. onSome (instance_named parent (last_part ps)) Resolved.absent λ i. comes ps t.port i.conns sub)
-        ≡ (onSome (instance_at s.design s.base ps) Resolved.absent λ x. comes ps t.port x.conns x.sub)
+        → (on_some (module_at s.design s.base (front_parts ps)) Resolved.absent λ parent. on_some (module_at s.design s.base ps) Resolved.absent λ sub. on_some (instance_named parent (last_part ps)) Resolved.absent λ i. comes ps t.port i.conns sub)
+        ≡ (on_some (instance_at s.design s.base ps) Resolved.absent λ x. comes ps t.port x.conns x.sub)
     go [] e = absurd (let z : ◌≡◌ {A = ℕ} 0 1 = ap (λ (l : List Bytes). length l) e in omega arith)
     go (p ∷ ps) e = asked_told Resolved.absent (comes (p ∷ ps) t.port) s.design s.base p ps
 
@@ -111,14 +111,14 @@ abbrev pub aimed : Bytes → Bytes → Target
 aimed e p = record { inst = e; port = p }
 
 -- and the output ports of an element
-pub outputs_is : (s : Setting) (e : Bytes) → outputs_of s e ≡ onSome (instance_at s.design s.base (parts e)) [] λ x. map (λ p. aimed e p) (output_ports x.sub)
+pub outputs_is : (s : Setting) (e : Bytes) → outputs_of s e ≡ on_some (instance_at s.design s.base (parts e)) [] λ x. map (λ p. aimed e p) (output_ports x.sub)
 outputs_is s e = go (parts e) (parts_some (byte "/") e)
   where
-    on : (o : Option Instance) → onSome (sub_of o) [] (λ m. map (λ p. aimed e p) (output_ports m)) ≡ onSome o [] λ x. map (λ p. aimed e p) (output_ports x.sub)
+    on : (o : Option Instance) → on_some (sub_of o) [] (λ m. map (λ p. aimed e p) (output_ports m)) ≡ on_some o [] λ x. map (λ p. aimed e p) (output_ports x.sub)
     on none = refl
     on (some x) = refl
 
     go : (ps : List Bytes) → ps ≡ first_part ps ∷ others ps
-        → (onSome (module_at s.design s.base ps) [] λ m. map (λ (p : Bytes). aimed e p) (output_ports m)) ≡ onSome (instance_at s.design s.base ps) [] λ x. map (λ (p : Bytes). aimed e p) (output_ports x.sub)
+        → (on_some (module_at s.design s.base ps) [] λ m. map (λ (p : Bytes). aimed e p) (output_ports m)) ≡ on_some (instance_at s.design s.base ps) [] λ x. map (λ (p : Bytes). aimed e p) (output_ports x.sub)
     go [] d = absurd (let z : ◌≡◌ {A = ℕ} 0 1 = ap (λ (l : List Bytes). length l) d in omega arith)
     go (p ∷ ps) d = rw (at_sub s.design s.base p ps) (on (instance_at s.design s.base (p ∷ ps)))

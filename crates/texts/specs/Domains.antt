@@ -9,7 +9,7 @@ use Rattle.out.specs.Emit.{◌⊕◌}
 use Rattle.out.specs.Fill.{format1, format2, format3, format4, format5}
 use Rattle.out.specs.Items.{each, joined}
 use Rattle.out.specs.Number.{decimal}
-use Rattle.design.specs.Lists.{onSome, those}
+use Rattle.design.specs.Lists.{on_some, those}
 use Rattle.design.specs.Lookup.{module_at}
 use Rattle.design.specs.Paths.{filled_parts, retained_path}
 use Rattle.walk.specs.Walk.{domain_list, walk_fits}
@@ -111,14 +111,14 @@ unpowered_line d = format1 "power domain {0}: no primary supplies (always on)\n"
 
 -- ---- warnings: elements that lead to no module
 abbrev pub is_found : Setting → Bytes → Bool
-is_found s e = onSome (module_at s.design s.base (filled_parts e)) false λ m. true
+is_found s e = on_some (module_at s.design s.base (filled_parts e)) false λ m. true
 
 abbrev pub not_found : Setting → Domain → List Bytes
 not_found s d = map (λ (e : Bytes). format2 "power domain '{0}': element '{1}' not found" d.name e) (those (λ e. not (is_found s e)) d.elements)
 
 -- ---- "a domain with both supplies (the commands carried out left its record with a primary power and a primary ground net)"
 abbrev pub with_supplies : {A : Type 0} → Domain → A → (Bytes → Bytes → A) → A
-with_supplies d z f = onSome d.power z λ p. onSome d.ground z λ g. f p g
+with_supplies d z f = on_some d.power z λ p. on_some d.ground z λ g. f p g
 
 abbrev pub domain_glue : Setting → List Isolated → Domain → Bytes
 domain_glue s ps d = with_supplies d [] (powered_glue s ps d)

@@ -20,7 +20,7 @@ use Rattle.tcl.specs.Commands.{reading as splitting}
 use Rattle.tcl.specs.Substitution.{lookup, known, opens_by, closes_by, piece_more, piece_name, escape, costs}
 use Rattle.tcl.specs.Lists.{together}
 use Rattle.tcl.specs.Arguments.{is_option, role_of, positionals_from, option_from, has_flag_from, states_from}
-use Rattle.fields.specs.Fields.{is_name, is_part, is_path, dims_of, dir_of, kind_of as declKind, style_of, is_net}
+use Rattle.fields.specs.Fields.{is_name, is_part, is_path, dims_of, dir_of, kind_of as decl_kind, style_of, is_net}
 use Rattle.joblines.specs.Job.{Module, Job}
 use Rattle.joblines.specs.Lines.{top_line, override_line, start_line, file_line, file_read, bytes_line, module_line, style_line, port_line, port_of, decl_line, decl_of, inst_line, inst_of, inst_read, conn_line, conn_of, end_line, read_line, module_read}
 use Rattle.joblines.specs.Parse.{Parsed, lines, parse}
@@ -65,7 +65,7 @@ text_of f (Parsed.accepted j) = text_from f j (module_named j.modules j.top) (re
 
 -- a text of a job: this one name opens all the definitions that it needs
 unfoldable pub text : (Setting → Bytes) → Bytes → Bytes
-unfolding flat_map same less before all any split_at value_from is_decimal ◌⊕◌ flat mangled_byte dotted_byte sv_byte pick arg adds turns filled fill each behind joined dec rewrite joint_by joined_by span depth quote_state kind_of size_of words_of splitting lookup known opens_by closes_by piece_more piece_name escape costs together is_option role_of positionals_from option_from has_flag_from states_from is_name is_part is_path dims_of dir_of declKind style_of is_net top_line override_line start_line file_line file_read bytes_line module_line style_line port_line port_of decl_line decl_of inst_line inst_of inst_read conn_line conn_of end_line read_line module_read lines parse first those add_new add_all module_at among_instances search_from directed decided entered corruptible sum_over modules_entered element_list domain_list element_entered domain_entered path_bytes scoped up moved loaded command_named on_first set_command puts_command design_top_command scope_command domain_command net_command port_command connect_command supply_command switch_command isolation_command control_command retention_command shifter_command port_state_command table_command table_state_command unsupported total read_commands file_named read_file scope_of net_of supply_nets signal_of word_more piece_text unknowns resolved covering strategies isolation leaders sorted_in_lem sorted always_block initial_block warnings_of glue_of package_of report_of fits
+unfolding flat_map same less before all any split_at value_from is_decimal ◌⊕◌ flat mangled_byte dotted_byte sv_byte pick arg adds turns filled fill each behind joined dec rewrite joint_by joined_by span depth quote_state kind_of size_of words_of splitting lookup known opens_by closes_by piece_more piece_name escape costs together is_option role_of positionals_from option_from has_flag_from states_from is_name is_part is_path dims_of dir_of decl_kind style_of is_net top_line override_line start_line file_line file_read bytes_line module_line style_line port_line port_of decl_line decl_of inst_line inst_of inst_read conn_line conn_of end_line read_line module_read lines parse first those add_new add_all module_at among_instances search_from directed decided entered corruptible sum_over modules_entered element_list domain_list element_entered domain_entered path_bytes scoped up moved loaded command_named on_first set_command puts_command design_top_command scope_command domain_command net_command port_command connect_command supply_command switch_command isolation_command control_command retention_command shifter_command port_state_command table_command table_state_command unsupported total read_commands file_named read_file scope_of net_of supply_nets signal_of word_more piece_text unknowns resolved covering strategies isolation leaders sorted_in_lem sorted always_block initial_block warnings_of glue_of package_of report_of fits
 text f t = text_of f (parse t)
 
 -- lines, each with its LF

@@ -5,7 +5,7 @@ use Rattle.text.specs.Ascii.{Bytes, ascii, byte}
 use Rattle.text.specs.Compare.{starts_with}
 use Rattle.text.specs.Scan.{all, split_at}
 use Rattle.out.specs.Fill.{format1}
-use Rattle.design.specs.Lists.{onSome, those}
+use Rattle.design.specs.Lists.{on_some, those}
 use Rattle.model.specs.Records.{Domain, Isolation, Model}
 
 -- the lines of a text, cut from the text itself: its parts between the LFs
@@ -31,4 +31,4 @@ on_one_line s = all (λ b. not (eqb b (byte "\n"))) s
 abbrev pub names_on_one_line : Model → Bool
 names_on_one_line m =
     all (λ (d : Domain). on_one_line d.name) m.domains
-    && all (λ (i : Isolation). on_one_line i.name && onSome i.signal true on_one_line) m.isolations
+    && all (λ (i : Isolation). on_one_line i.name && on_some i.signal true on_one_line) m.isolations

@@ -11,7 +11,7 @@ use Rattle.out.specs.Emit.{◌⊕◌}
 use Rattle.out.specs.Fill.{format1, format2, format3, format4, format5}
 use Rattle.out.specs.Items.{each, joined}
 use Rattle.joblines.specs.Job.{Module}
-use Rattle.design.specs.Lists.{onSome, first, those, is_in}
+use Rattle.design.specs.Lists.{on_some, first, those, is_in}
 use Rattle.design.specs.Lookup.{module_at, instance_named}
 use Rattle.design.specs.Ports.{output_ports}
 use Rattle.design.specs.Connections.{output_actual}
@@ -72,7 +72,7 @@ front_parts (p ∷ q ∷ ps) = p ∷ front_parts (q ∷ ps)
 
 -- all output ports of the module that an element leads to below the scope; an element's empty parts lead to none
 abbrev pub outputs_of : Setting → Bytes → List Target
-outputs_of s e = onSome (module_at s.design s.base (parts e)) [] λ m. map (λ p. record { inst = e; port = p }) (output_ports m)
+outputs_of s e = on_some (module_at s.design s.base (parts e)) [] λ m. map (λ p. record { inst = e; port = p }) (output_ports m)
 
 -- "An element with `/` is an instance and a port.": the port stands behind the last `/`
 abbrev pub element_targets : Setting → Bytes → List Target
@@ -91,14 +91,14 @@ below_parent (p ∷ ps) n = joined (ascii "/") (p ∷ ps) ++ (ascii "/" ++ n)
 
 abbrev pub actual_of : Target → Module → Module → Resolved
 actual_of t parent sub =
-    onSome (instance_named parent (last_part (parts t.inst))) absent λ i.
-    onSome (output_actual i sub t.port) not_plain_lem λ n.
+    on_some (instance_named parent (last_part (parts t.inst))) absent λ i.
+    on_some (output_actual i sub t.port) not_plain_lem λ n.
     net (below_parent (front_parts (parts t.inst)) n)
 
 unfoldable pub resolved : Setting → Target → Resolved
 resolved s t =
-    onSome (module_at s.design s.base (front_parts (parts t.inst))) absent λ parent.
-    onSome (module_at s.design s.base (parts t.inst)) absent λ sub.
+    on_some (module_at s.design s.base (front_parts (parts t.inst))) absent λ parent.
+    on_some (module_at s.design s.base (parts t.inst)) absent λ sub.
     actual_of t parent sub
 
 abbrev pub key_of : Target → Bytes
@@ -155,7 +155,7 @@ covered s i sig ts c = reported (covering s i sig ts c) (isolation_line i sig)
 
 -- "`-applies_to` is looked at only without elements"
 abbrev pub applies_to : Isolation → Bytes
-applies_to i = onSome i.applies_to (ascii "outputs") λ a. a
+applies_to i = on_some i.applies_to (ascii "outputs") λ a. a
 
 abbrev pub is_outputs : Bytes → Bool
 is_outputs a = same a (ascii "outputs") || same a (ascii "both")

@@ -16,7 +16,7 @@ use Rattle.text.specs.Sames.{both, no_true, same_eq}
 use Rattle.fields.specs.Limits.{most_name}
 use Rattle.fields.specs.Fields.{is_name}
 use Rattle.joblines.specs.Job.{Inst, Module}
-use Rattle.design.specs.Lists.{onSome, those, is_in}
+use Rattle.design.specs.Lists.{on_some, those, is_in}
 use Rattle.design.specs.Lookup.{instances, instance_named, module_named, module_at}
 use Rattle.design.specs.Paths.{child_path, scope_path, dotted, element_path, parts, filled_parts}
 use Rattle.design.specs.Laws.{some_of, first_mem, first_passes}
@@ -38,11 +38,11 @@ use Rattle.texts.specs.Cuts.{check_on_one_line}
 
 -- ---- NAMEs
 
-abbrev not_lF : ℕ → Bool
-not_lF b = not (eqb b (byte "\n"))
+abbrev not_lf : ℕ → Bool
+not_lf b = not (eqb b (byte "\n"))
 
 -- a class of bytes without LF
-apart : (t : ℕ → Bool) → t (byte "\n") ≡ false → (b : ℕ) → t b ≡ true → not_lF b ≡ true
+apart : (t : ℕ → Bool) → t (byte "\n") ≡ false → (b : ℕ) → t b ≡ true → not_lf b ≡ true
 apart t f b e = rw (ne_eqb b (byte "\n") (λ z. no_true (sym f ∙ ap t (sym z) ∙ e)))
 
 pub name_one : (n : Bytes) → is_name n ≡ true → on_one_line n ≡ true
@@ -51,38 +51,38 @@ name_one [] e = refl
 name_one (b ∷ n) e =
     let h = both (opens_name b) (all in_name n && leb (length (b ∷ n)) most_name) e in
     let r = both (all in_name n) (leb (length (b ∷ n)) most_name) h.1 in
-    rw (apart opens_name refl b h.0) (all_weaker in_name not_lF (apart in_name refl) n r.0)
+    rw (apart opens_name refl b h.0) (all_weaker in_name not_lf (apart in_name refl) n r.0)
 
 -- ---- paths
 
 child_one : (p n : Bytes) → on_one_line p ≡ true → on_one_line n ≡ true → on_one_line (child_path p n) ≡ true
 unfolding all
 child_one [] n h g = g
-child_one (b ∷ p) n h g = all_append not_lF (b ∷ p) (byte "." ∷ n) h g
+child_one (b ∷ p) n h g = all_append not_lf (b ∷ p) (byte "." ∷ n) h g
 
 behind_one : (ns : List Bytes) → all on_one_line ns ≡ true → on_one_line (flat_map (λ (m : Bytes). byte "." ∷ m) ns) ≡ true
 unfolding all flat_map
 behind_one [] h = refl
 behind_one (n ∷ ns) h =
     let b = both (on_one_line n) (all on_one_line ns) h in
-    all_append not_lF (byte "." ∷ n) (flat_map (λ (m : Bytes). byte "." ∷ m) ns) b.0 (behind_one ns b.1)
+    all_append not_lf (byte "." ∷ n) (flat_map (λ (m : Bytes). byte "." ∷ m) ns) b.0 (behind_one ns b.1)
 
 scope_one : (ns : List Bytes) → all on_one_line ns ≡ true → on_one_line (scope_path ns) ≡ true
 unfolding all
 scope_one [] h = refl
 scope_one (n ∷ ns) h =
     let b = both (on_one_line n) (all on_one_line ns) h in
-    all_append not_lF n (flat_map (λ (m : Bytes). byte "." ∷ m) ns) b.0 (behind_one ns b.1)
+    all_append not_lf n (flat_map (λ (m : Bytes). byte "." ∷ m) ns) b.0 (behind_one ns b.1)
 
 -- `/` as `.` brings no LF
 dotted_one : (e : Bytes) → on_one_line e ≡ true → on_one_line (dotted e) ≡ true
 unfolding all
 dotted_one [] h = refl
 dotted_one (b ∷ e) h =
-    let r = both (not_lF b) (on_one_line e) h in
+    let r = both (not_lf b) (on_one_line e) h in
     go (eqb b (byte "/")) r.0 (dotted_one e r.1)
   where
-    go : (s : Bool) → not_lF b ≡ true → on_one_line (dotted e) ≡ true → not_lF (cond s (byte ".") b) && on_one_line (dotted e) ≡ true
+    go : (s : Bool) → not_lf b ≡ true → on_one_line (dotted e) ≡ true → not_lf (cond s (byte ".") b) && on_one_line (dotted e) ≡ true
     go true x g = g
     go false x g = rw x g
 
@@ -92,14 +92,14 @@ element_one scope (b ∷ e) s h = child_one (scope_path scope) (dotted (b ∷ e)
 
 -- ---- an element and its parts
 
-onto_one : (x : ℕ) (ps : List Bytes) → all on_one_line (onto x ps) ≡ not_lF x && all on_one_line ps
+onto_one : (x : ℕ) (ps : List Bytes) → all on_one_line (onto x ps) ≡ not_lf x && all on_one_line ps
 unfolding all
-onto_one x [] = go (not_lF x)
+onto_one x [] = go (not_lf x)
   where
     go : (b : Bool) → (b && true) && true ≡ b && true
     go true = refl
     go false = refl
-onto_one x (p ∷ ps) = go (not_lF x)
+onto_one x (p ∷ ps) = go (not_lf x)
   where
     go : (b : Bool) → (b && on_one_line p) && all on_one_line ps ≡ b && (on_one_line p && all on_one_line ps)
     go true = refl
@@ -110,7 +110,7 @@ unfolding all split_at
 parts_one [] = refl
 parts_one (x ∷ e) = go (eqb x (byte "/")) refl (parts_one e)
   where
-    go : (b : Bool) → eqb x (byte "/") ≡ b → all on_one_line (parts e) ≡ on_one_line e → all on_one_line (cond b ([] ∷ parts e) (onto x (parts e))) ≡ not_lF x && on_one_line e
+    go : (b : Bool) → eqb x (byte "/") ≡ b → all on_one_line (parts e) ≡ on_one_line e → all on_one_line (cond b ([] ∷ parts e) (onto x (parts e))) ≡ not_lf x && on_one_line e
     go true h ih = rw (eqb-true x (byte "/") h) ih
     go false h ih = rw (onto_one x (parts e), ih)
 
@@ -134,7 +134,7 @@ module _ (d : List Module) (named : AllNamed d) where
   unfolding module_at all
   lookup_one m [] at e = refl
   lookup_one m (n ∷ ns) at e =
-      let i = some_of (instance_named m n) (λ (i : Inst). onSome (module_named d i.type) none (λ m'. module_at d m' ns)) e in
+      let i = some_of (instance_named m n) (λ (i : Inst). on_some (module_named d i.type) none (λ m'. module_at d m' ns)) e in
       let k = some_of (module_named d i.0.type) (λ m'. module_at d m' ns) i.2 in
       let is : i.0.name ≡ n = same_eq i.0.name n (first_passes (λ (i : Inst). same i.name n) (instances m) i.1) in
       let one : on_one_line n ≡ true = subst (λ (x : Bytes). on_one_line x ≡ true) is (name_one i.0.name ((named m at).insts i.0 (first_mem (λ (i : Inst). same i.name n) (instances m) i.1))) in
@@ -170,7 +170,7 @@ module _ (d : List Module) (named : AllNamed d) where
 
 -- what is asked of a strategy's name and signal, and of a port that it keeps
 abbrev strategy_one : Isolation → Bool
-strategy_one i = on_one_line i.name && onSome i.signal true on_one_line
+strategy_one i = on_one_line i.name && on_some i.signal true on_one_line
 
 abbrev port_one : Isolated → Bool
 port_one p = check_on_one_line (check_of p)
@@ -187,7 +187,7 @@ module _ (s : Setting) (short : all on_one_line s.scope ≡ true) where
   kept_one : (i : Isolation) (sig : Bytes) (t : Target) (c : Cover) (n : Bytes) → strategy_one i ≡ true → i.signal ≡ some sig → is_in (key_of t) c.keys ≡ false → all port_one c.ports ≡ true → all port_one (kept s i sig t c (Resolved.net n)).ports ≡ true
   unfolding all
   kept_one i sig t c n g e new h =
-      let r = both (on_one_line i.name) (onSome i.signal true on_one_line) g in
+      let r = both (on_one_line i.name) (on_some i.signal true on_one_line) g in
       let q : on_one_line sig ≡ true = rw e at r.1 in
       all_append port_one c.ports (isolated_by s i sig t n ∷ []) h (rw (element_one s.scope sig short q, active_one i, r.0))
 

@@ -37,7 +37,7 @@ use Rattle.findscope.specs.Scopes.{path_text, Tells, Taken, Whole}
 use Rattle.findscope.specs.declared.ScopeAt.{ScopeAt}
 use Rattle.setting.specs.Orders.{Orders}
 use Rattle.setting.specs.Stands.{setting_at, stands_at}
-use Rattle.intent.specs.Intent.{Intent, reads, stops, intent_of, log_of, RecordsRead, after_parse as intentAfter, after_reading as intentRead}
+use Rattle.intent.specs.Intent.{Intent, reads, stops, intent_of, log_of, RecordsRead, after_parse as intent_after, after_reading as intent_read}
 use Rattle.intent.specs.declared.Records.{Records}
 use Rattle.answers.specs.Answer.{Lent, Answer, answer, refused, fitted, after_parse, after_reading, below_top, in_scope, roomy, held}
 use Rattle.answers.specs.Answers.{refused_by, stopped_by, fitted_by}
@@ -154,11 +154,11 @@ by_intent : (l : Lent) (job : Bytes) → after_parse l (parse job) ≡ on_intent
 unfolding intent_of
 by_intent l job = go (parse job)
   where
-    read : (j : Job) (r : Reading) → after_reading l j r ≡ on_intent l (intentRead j r)
+    read : (j : Job) (r : Reading) → after_reading l j r ≡ on_intent l (intent_read j r)
     read j (Reading.done n m) = refl
     read j (Reading.refused x k) = refl
 
-    go : (p : Parsed) → after_parse l p ≡ on_intent l (intentAfter p)
+    go : (p : Parsed) → after_parse l p ≡ on_intent l (intent_after p)
     go (Parsed.accepted j) = read j (reading j)
     go (Parsed.refused x n) = refl
 

@@ -9,7 +9,7 @@ use Rattle.text.specs.Ascii.{Bytes, byte}
 use Rattle.text.specs.Compare.{same}
 use Rattle.text.specs.Sames.{same_eq}
 use Rattle.joblines.specs.Job.{Inst, Module, Job}
-use Rattle.design.specs.Lists.{onSome}
+use Rattle.design.specs.Lists.{on_some}
 use Rattle.design.specs.Lookup.{instances, module_named, instance_named, module_at}
 use Rattle.design.specs.Paths.{element_path, scope_path}
 use Rattle.design.specs.Laws.{some_of, first_mem, first_passes}
@@ -104,7 +104,7 @@ module _ (t : Bytes) (j : Job) (scope : List Bytes) (base : Module) (s : Scope t
 scope_long : (t : Bytes) (j : Job) (n : Bytes) (ns : List Bytes) (base : Module) → Scope t j (n ∷ ns) base → 0 < length (scope_path (n ∷ ns))
 unfolding module_at
 scope_long t j n ns base s =
-    let i = some_of (instance_named s.top n) (λ (i : Inst). onSome (module_named j.modules i.type) none (λ m. module_at j.modules m ns)) s.exists in
+    let i = some_of (instance_named s.top n) (λ (i : Inst). on_some (module_named j.modules i.type) none (λ m. module_at j.modules m ns)) s.exists in
     let e : i.0.name ≡ n = same_eq i.0.name n (first_passes (λ (i : Inst). same i.name n) (instances s.top) i.1) in
     let filled = (plain t j (n ∷ ns) base s).inst_filled s.top (top_at t j (n ∷ ns) base s) i.0 (first_mem (λ (i : Inst). same i.name n) (instances s.top) i.1) in
     omega (arith, ap length e, filled, length-append n (flat_map (λ (m : Bytes). byte "." ∷ m) ns))

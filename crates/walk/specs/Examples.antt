@@ -9,7 +9,7 @@ use Rattle.text.specs.Scan.{any, split_at}
 use Rattle.joblines.specs.Job.{Job, no_job}
 use Rattle.joblines.specs.Parse.{Parsed, accepted, refused}
 use Rattle.joblines.specs.Examples.{run}
-use Rattle.design.specs.Lists.{onSome, first, those, add_new, add_all}
+use Rattle.design.specs.Lists.{on_some, first, those, add_new, add_all}
 use Rattle.design.specs.Lookup.{module_at}
 use Rattle.design.specs.Ports.{directed}
 use Rattle.design.specs.Paths.{child_path}
@@ -22,14 +22,14 @@ unfoldable pub lost : String → List Bytes → List Bytes → List Bytes → Li
 unfolding the design directed flat_map split_at those add_all add_new any same first module_at entered corruptible element_list domain_list
 lost s scope entries es =
     let d = design s in
-    onSome (module_at d (the d "top") scope) [] λ base. domain_list d base scope entries es
+    on_some (module_at d (the d "top") scope) [] λ base. domain_list d base scope entries es
 
 -- the modules entered
 unfoldable pub counted : String → List Bytes → List Bytes → List Bytes → ℕ
 unfolding the design flat_map split_at those any same first module_at entered sum_over modules_entered element_entered domain_entered
 counted s scope entries es =
     let d = design s in
-    onSome (module_at d (the d "top") scope) 0 λ base. domain_entered d base scope entries es
+    on_some (module_at d (the d "top") scope) 0 λ base. domain_entered d base scope entries es
 
 -- one byte string that is empty
 abbrev blank : List Bytes

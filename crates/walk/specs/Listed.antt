@@ -21,7 +21,7 @@ use Rattle.text.specs.Ascii.{Bytes}
 use Rattle.text.specs.Compare.{same}
 use Rattle.text.specs.Sames.{same_eq}
 use Rattle.joblines.specs.Job.{Inst, Module}
-use Rattle.design.specs.Lists.{onSome, is_in, add_new, add_all}
+use Rattle.design.specs.Lists.{on_some, is_in, add_new, add_all}
 use Rattle.design.specs.Lookup.{instances, module_named, module_at}
 use Rattle.design.specs.Ports.{losable}
 use Rattle.design.specs.Paths.{child_path, element_path, filled_parts}
@@ -76,7 +76,7 @@ module _ (d : List Module) (R : List Bytes) where
 
   -- what the walk finds below one instance
   abbrev below : ℕ → Bytes → Inst → List Bytes
-  below left p i = onSome (entered d i) [] (λ m'. corruptible d R left m' (child_path p i.name))
+  below left p i = on_some (entered d i) [] (λ m'. corruptible d R left m' (child_path p i.name))
 
   pub walked_reached : (left : ℕ) (m : Module) (p : Bytes) {q : Bytes} → Mem q (corruptible d R left m p) → Reaches d R left m p q
   unfolding corruptible

@@ -16,7 +16,7 @@ use Rattle.text.specs.Compare.{same}
 use Rattle.text.specs.Scan.{any}
 use Rattle.text.specs.Sames.{differ, same_front, same_refl}
 use Rattle.joblines.specs.Job.{Inst, Module}
-use Rattle.design.specs.Lists.{onSome, those, is_in, add_new, add_all}
+use Rattle.design.specs.Lists.{on_some, those, is_in, add_new, add_all}
 use Rattle.design.specs.Lookup.{instances, module_at}
 use Rattle.design.specs.Ports.{losable}
 use Rattle.design.specs.Paths.{child_path, scope_path, dotted, element_path, filled_parts}
@@ -114,23 +114,23 @@ module _ (c : ℕ) (s : Bytes) where
 
     -- what an instance adds, below the scope and as if the scope were the top
     abbrev far_of : ℕ → Bytes → Inst → List Bytes
-    far_of left p i = onSome (entered d i) [] λ m'. corruptible d far left m' (child_path (full p) i.name)
+    far_of left p i = on_some (entered d i) [] λ m'. corruptible d far left m' (child_path (full p) i.name)
 
     abbrev near_of : ℕ → Bytes → Inst → List Bytes
-    near_of left p i = onSome (entered d i) [] λ m'. corruptible d near left m' (child_path p i.name)
+    near_of left p i = on_some (entered d i) [] λ m'. corruptible d near left m' (child_path p i.name)
 
     abbrev far_in : ℕ → Bytes → Inst → ℕ
-    far_in left p i = onSome (entered d i) 0 λ m'. modules_entered d far left m' (child_path (full p) i.name)
+    far_in left p i = on_some (entered d i) 0 λ m'. modules_entered d far left m' (child_path (full p) i.name)
 
     abbrev near_in : ℕ → Bytes → Inst → ℕ
-    near_in left p i = onSome (entered d i) 0 λ m'. modules_entered d near left m' (child_path p i.name)
+    near_in left p i = on_some (entered d i) 0 λ m'. modules_entered d near left m' (child_path p i.name)
 
     enters : (i : Inst) {m : Module} → entered d i ≡ some m → Mem m d
     enters i e = named_mem d i.type (entered_inv d i e).1
 
     module _ (left : ℕ) (p : Bytes) (m : Module) (at : Mem m d) where
       module _ (ih : (m' : Module) (q : Bytes) → Mem m' d → corruptible d far left m' (full q) ≡ map (child_path S) (corruptible d near left m' q)) where
-        one_list : (i : Inst) → Mem i m.insts → (o : Option Module) → entered d i ≡ o → onSome o [] (λ m'. corruptible d far left m' (child_path (full p) i.name)) ≡ map (child_path S) (onSome o [] λ m'. corruptible d near left m' (child_path p i.name))
+        one_list : (i : Inst) → Mem i m.insts → (o : Option Module) → entered d i ≡ o → on_some o [] (λ m'. corruptible d far left m' (child_path (full p) i.name)) ≡ map (child_path S) (on_some o [] λ m'. corruptible d near left m' (child_path p i.name))
         one_list i has none e = refl
         one_list i has (some m') e = ap (corruptible d far left m') (full_child p i.name (ok m at i has)) ∙ ih m' (child_path p i.name) (enters i e)
 
@@ -144,7 +144,7 @@ module _ (c : ℕ) (s : Bytes) where
         all_list false = ap₂ ◌++◌ (own_below m p) (each_list m.insts (λ i has. has)) ∙ sym (map-append (child_path S) (own m p) (flat_map (near_of left p) m.insts))
 
       module _ (ih : (m' : Module) (q : Bytes) → Mem m' d → modules_entered d far left m' (full q) ≡ modules_entered d near left m' q) where
-        one_in : (i : Inst) → Mem i m.insts → (o : Option Module) → entered d i ≡ o → onSome o 0 (λ m'. modules_entered d far left m' (child_path (full p) i.name)) ≡ onSome o 0 λ m'. modules_entered d near left m' (child_path p i.name)
+        one_in : (i : Inst) → Mem i m.insts → (o : Option Module) → entered d i ≡ o → on_some o 0 (λ m'. modules_entered d far left m' (child_path (full p) i.name)) ≡ on_some o 0 λ m'. modules_entered d near left m' (child_path p i.name)
         one_in i has none e = refl
         one_in i has (some m') e = ap (modules_entered d far left m') (full_child p i.name (ok m at i has)) ∙ ih m' (child_path p i.name) (enters i e)
 
@@ -195,7 +195,7 @@ module _ (d : List Module) (base : Module) (scope entries : List Bytes) (ok : Fi
   unfolding element_list
   element_list_lem e = rw (element_full c s scope h e, retained_far c s scope h entries) (go (module_at d base (filled_parts e)) refl)
     where
-      go : (o : Option Module) → module_at d base (filled_parts e) ≡ o → onSome o [] (λ m. corruptible d (map (λ x. child_path (c ∷ s) (dotted x)) entries) most_depth m (full c s (element_path [] e))) ≡ map (child_path (c ∷ s)) (onSome o [] λ m. corruptible d (map dotted (filled_entries entries)) most_depth m (element_path [] e))
+      go : (o : Option Module) → module_at d base (filled_parts e) ≡ o → on_some o [] (λ m. corruptible d (map (λ x. child_path (c ∷ s) (dotted x)) entries) most_depth m (full c s (element_path [] e))) ≡ map (child_path (c ∷ s)) (on_some o [] λ m. corruptible d (map dotted (filled_entries entries)) most_depth m (element_path [] e))
       go none f = refl
       go (some m) f = walk_below c s d entries ok most_depth m (element_path [] e) (module_at_mem d base (filled_parts e) at f)
 
@@ -203,7 +203,7 @@ module _ (d : List Module) (base : Module) (scope entries : List Bytes) (ok : Fi
   unfolding element_entered
   element_entered_lem e = rw (element_full c s scope h e, retained_far c s scope h entries) (go (module_at d base (filled_parts e)) refl)
     where
-      go : (o : Option Module) → module_at d base (filled_parts e) ≡ o → onSome o 0 (λ m. modules_entered d (map (λ x. child_path (c ∷ s) (dotted x)) entries) most_depth m (full c s (element_path [] e))) ≡ onSome o 0 λ m. modules_entered d (map dotted (filled_entries entries)) most_depth m (element_path [] e)
+      go : (o : Option Module) → module_at d base (filled_parts e) ≡ o → on_some o 0 (λ m. modules_entered d (map (λ x. child_path (c ∷ s) (dotted x)) entries) most_depth m (full c s (element_path [] e))) ≡ on_some o 0 λ m. modules_entered d (map dotted (filled_entries entries)) most_depth m (element_path [] e)
       go none f = refl
       go (some m) f = entered_below_lem c s d entries ok most_depth m (element_path [] e) (module_at_mem d base (filled_parts e) at f)
 

@@ -15,7 +15,7 @@ use Rattle.text.specs.Ascii.{Bytes, byte}
 use Rattle.text.specs.Scan.{any}
 use Rattle.text.specs.Sames.{differ}
 use Rattle.joblines.specs.Job.{Inst, Module}
-use Rattle.design.specs.Lists.{onSome, is_in, add_all}
+use Rattle.design.specs.Lists.{on_some, is_in, add_all}
 use Rattle.design.specs.Lookup.{instances, module_at}
 use Rattle.design.specs.Paths.{child_path, scope_path, dotted, element_path, retained_path, filled_parts}
 use Rattle.design.specs.Laws.{le_or_lt, mem_is_in, map_mem, flat_same}
@@ -71,7 +71,7 @@ pub element_ends : (d : List Module) (base : Module) (scope entries : List Bytes
 unfolding element_list
 element_ends d base scope entries e h = go (module_at d base (filled_parts e))
   where
-    go : (o : Option Module) → onSome o [] (λ m. corruptible d (retained_paths scope entries) 32 m (element_path scope e)) ≡ []
+    go : (o : Option Module) → on_some o [] (λ m. corruptible d (retained_paths scope entries) 32 m (element_path scope e)) ≡ []
     go none = refl
     go (some m) = ends_here d (retained_paths scope entries) 32 m (element_path scope e) h
 
@@ -118,12 +118,12 @@ module _ (d : List Module) (R S : List Bytes) (Q : Module → Bytes → Type 0) 
       rw (agree m p h)
       (ap (λ (l : List Bytes). cond (is_in p S) [] (own m p ++ l))
       (flat_same
-      (λ (i : Inst). onSome (entered d i) [] λ m'. corruptible d R left m' (child_path p i.name))
-      (λ (i : Inst). onSome (entered d i) [] λ m'. corruptible d S left m' (child_path p i.name))
+      (λ (i : Inst). on_some (entered d i) [] λ m'. corruptible d R left m' (child_path p i.name))
+      (λ (i : Inst). on_some (entered d i) [] λ m'. corruptible d S left m' (child_path p i.name))
       (instances m)
       (λ i at. below i (entered d i) (λ m' e. walks_agree left m' (child_path p i.name) (down m p i m' h at e)) refl)))
     where
-      below : (i : Inst) (o : Option Module) → ((m' : Module) → entered d i ≡ some m' → corruptible d R left m' (child_path p i.name) ≡ corruptible d S left m' (child_path p i.name)) → entered d i ≡ o → onSome o [] (λ m'. corruptible d R left m' (child_path p i.name)) ≡ onSome o [] (λ m'. corruptible d S left m' (child_path p i.name))
+      below : (i : Inst) (o : Option Module) → ((m' : Module) → entered d i ≡ some m' → corruptible d R left m' (child_path p i.name) ≡ corruptible d S left m' (child_path p i.name)) → entered d i ≡ o → on_some o [] (λ m'. corruptible d R left m' (child_path p i.name)) ≡ on_some o [] (λ m'. corruptible d S left m' (child_path p i.name))
       below i none g e = refl
       below i (some m') g e = g m' e
 
@@ -159,7 +159,7 @@ below_walked d base scope E F r rest = go (module_at d base (filled_parts e))
     Q : Module → Bytes → Type 0
     Q m p = length (retained_path scope r) < length p
 
-    go : (o : Option Module) → onSome o [] (λ m. corruptible d (retained_paths scope (E ++ r ∷ F)) 32 m (element_path scope e)) ≡ onSome o [] (λ m. corruptible d (retained_paths scope (E ++ F)) 32 m (element_path scope e))
+    go : (o : Option Module) → on_some o [] (λ m. corruptible d (retained_paths scope (E ++ r ∷ F)) 32 m (element_path scope e)) ≡ on_some o [] (λ m. corruptible d (retained_paths scope (E ++ F)) 32 m (element_path scope e))
     go none = refl
     go (some m) =
         walks_agree d (retained_paths scope (E ++ r ∷ F)) (retained_paths scope (E ++ F)) Q
@@ -202,7 +202,7 @@ module _ (d : List Module) (base : Module) (scope : List Bytes) (ok : Plain d) (
   unfolding element_list Q
   empty_element E F e = go (module_at d base (filled_parts e)) refl
     where
-      go : (o : Option Module) → module_at d base (filled_parts e) ≡ o → onSome o [] (λ m. corruptible d (retained_paths scope (E ++ [] ∷ F)) 32 m (element_path scope e)) ≡ onSome o [] (λ m. corruptible d (retained_paths scope (E ++ F)) 32 m (element_path scope e))
+      go : (o : Option Module) → module_at d base (filled_parts e) ≡ o → on_some o [] (λ m. corruptible d (retained_paths scope (E ++ [] ∷ F)) 32 m (element_path scope e)) ≡ on_some o [] (λ m. corruptible d (retained_paths scope (E ++ F)) 32 m (element_path scope e))
       go none f = refl
       go (some m) f =
           walks_agree d (retained_paths scope (E ++ [] ∷ F)) (retained_paths scope (E ++ F)) Q

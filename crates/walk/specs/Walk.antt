@@ -6,7 +6,7 @@ use Rattle.std.proofs.Math.Option.{Option, none}
 use mathlib.Core.List.{List, [], ◌∷◌, ◌++◌, map, flat_map}
 use Rattle.text.specs.Ascii.{Bytes}
 use Rattle.joblines.specs.Job.{Inst, Module}
-use Rattle.design.specs.Lists.{onSome, is_in, add_all}
+use Rattle.design.specs.Lists.{on_some, is_in, add_all}
 use Rattle.design.specs.Lookup.{instances, module_named, module_at}
 use Rattle.design.specs.Ports.{losable}
 use Rattle.design.specs.Paths.{child_path, element_path, retained_path, filled_parts}
@@ -28,7 +28,7 @@ unfoldable pub corruptible : List Module → List Bytes → ℕ → Module → B
 corruptible d retained zero m path = cond (is_in path retained) [] (own m path)
 corruptible d retained (suc left) m path =
     cond (is_in path retained) []
-    (own m path ++ flat_map (λ i. onSome (entered d i) [] λ m'. corruptible d retained left m' (child_path path i.name)) (instances m))
+    (own m path ++ flat_map (λ i. on_some (entered d i) [] λ m'. corruptible d retained left m' (child_path path i.name)) (instances m))
 
 -- a sum over a list
 unfoldable pub sum_over : {A : Type 0} → (A → ℕ) → List A → ℕ
@@ -40,7 +40,7 @@ unfoldable pub modules_entered : List Module → List Bytes → ℕ → Module �
 modules_entered d retained zero m path = cond (is_in path retained) 0 1
 modules_entered d retained (suc left) m path =
     cond (is_in path retained) 0
-    (1 + sum_over (λ i. onSome (entered d i) 0 λ m'. modules_entered d retained left m' (child_path path i.name)) (instances m))
+    (1 + sum_over (λ i. on_some (entered d i) 0 λ m'. modules_entered d retained left m' (child_path path i.name)) (instances m))
 
 -- ---- one domain
 
@@ -53,7 +53,7 @@ module _ (d : List Module) (base : Module) (scope entries : List Bytes) where
   -- "from the module that the Rust's lookup in the module lines finds for the element below the scope (none found: it reaches nothing)"
   unfoldable pub element_list : Bytes → List Bytes
   element_list e =
-      onSome (module_at d base (filled_parts e)) [] λ m. corruptible d (retained_paths scope entries) most_depth m (element_path scope e)
+      on_some (module_at d base (filled_parts e)) [] λ m. corruptible d (retained_paths scope entries) most_depth m (element_path scope e)
 
   -- "Elements in order; ..; a path is listed where first reached."
   unfoldable pub domain_list : List Bytes → List Bytes
@@ -62,7 +62,7 @@ module _ (d : List Module) (base : Module) (scope entries : List Bytes) where
   -- the modules entered, by an element's walk and by the domain's
   unfoldable pub element_entered : Bytes → ℕ
   element_entered e =
-      onSome (module_at d base (filled_parts e)) 0 λ m. modules_entered d (retained_paths scope entries) most_depth m (element_path scope e)
+      on_some (module_at d base (filled_parts e)) 0 λ m. modules_entered d (retained_paths scope entries) most_depth m (element_path scope e)
 
   unfoldable pub domain_entered : List Bytes → ℕ
   domain_entered es = sum_over element_entered es
