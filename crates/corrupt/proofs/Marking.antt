@@ -104,7 +104,7 @@ module _ (mem : Bytes) (table : List ℕ) (n : ℕ) (marks : Bytes) (k : ℕ) (i
             low = omega arith;
           }
 
-pub ruleset rules = (rules, marks_start, marks_end, marks_row, marks_fits, marks_less, marks_room, marks_next)
+pub ruleset marking = (rules, marks_start, marks_end, marks_row, marks_fits, marks_less, marks_room, marks_next)
 
 -- ---- asked
 

@@ -3,7 +3,7 @@ use Prim.Native.Nat.{◌-◌}
 use mathlib.Core.Path.{◌≡◌}
 use mathlib.Core.List.{◌++◌}
 use lib.ListN.{length}
-use Rattle.corrupt.proofs.Marking.{Marks, rules}
+use Rattle.corrupt.proofs.Marking.{Marks, marking}
 use Rattle.corrupt.proofs.marks.mark.Statement.{statement}
 use Rattle.corrupt.proofs.marks.mark.Tie as tie
 
@@ -19,12 +19,12 @@ mark_spec =
     (tie.spec
     invariant-loop
     decreases-loop
-    (λ c. search rules)  -- loop-holds
-    (λ c κs. search rules)  -- row-requires
-    (λ c κs. search rules)  -- element-number-requires
-    (λ c. search rules)  -- slice-write-marks
-    (λ c. search rules)  -- add-k
-    (λ c. search rules)  -- loop-less
-    (λ c. search rules)  -- loop-again
-    (λ c. search rules)  -- same-length
-    (λ c. search rules))  -- returns
+    (λ c. search marking)  -- loop-holds
+    (λ c κs. search marking)  -- row-requires
+    (λ c κs. search marking)  -- element-number-requires
+    (λ c. search marking)  -- slice-write-marks
+    (λ c. search marking)  -- add-k
+    (λ c. search marking)  -- loop-less
+    (λ c. search marking)  -- loop-again
+    (λ c. search marking)  -- same-length
+    (λ c. search marking))  -- returns

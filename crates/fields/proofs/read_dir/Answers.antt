@@ -1,0 +1,28 @@
+-- `fields::read_dir` meets its contract.
+-- Assumes nothing.
+use Rattle.text.specs.Cases.{cases}
+use Rattle.fields.proofs.read_dir.Goals as goal
+
+pub returns-then-same : goal.returns-then-same
+unfolding Rattle.fields.specs.Fields.dir_of
+returns-then-same c = search cases depth 10
+
+pub returns-then-same-2 : goal.returns-then-same-2
+unfolding Rattle.fields.specs.Fields.dir_of
+returns-then-same-2 c = search cases depth 10
+
+pub returns-then-same-3 : goal.returns-then-same-3
+unfolding Rattle.fields.specs.Fields.dir_of
+returns-then-same-3 c = search cases depth 10
+
+pub returns-then-same-4 : goal.returns-then-same-4
+unfolding Rattle.fields.specs.Fields.dir_of
+returns-then-same-4 c = search cases depth 10
+
+pub returns-then-same-5 : goal.returns-then-same-5
+unfolding Rattle.fields.specs.Fields.dir_of
+returns-then-same-5 c = search cases depth 10
+
+pub returns : goal.returns
+unfolding Rattle.fields.specs.Fields.dir_of
+returns c = search cases depth 10

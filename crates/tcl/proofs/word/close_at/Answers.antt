@@ -1,0 +1,16 @@
+use mathlib.Core.Path.{refl}
+use borrow.Author.Rules.{rules}
+use Rattle.tcl.specs.Machines.{span_end_lem, span_stop, span_step}
+use Rattle.tcl.proofs.word.close_at.Goals as goal
+
+pub loop-i-init : goal.loop-i-init
+loop-i-init c = (search rules, (search rules, (search rules, record { keeps = refl })))
+
+pub returns-then-d-eq0 : goal.returns-then-d-eq0
+returns-then-d-eq0 c = search span_stop
+
+pub loop-i-preserved : goal.loop-i-preserved
+loop-i-preserved c = (search rules, (search rules, (search rules, search span_step)))
+
+pub returns : goal.returns
+returns c = search span_end_lem

@@ -1,0 +1,11 @@
+use Rattle.text.specs.Lists.{parts}
+use Rattle.text.proofs.part.part.Goals as goal
+
+pub returns-then-s-at : goal.returns-then-s-at
+returns-then-s-at c = search parts
+
+pub returns-then-s-at-2 : goal.returns-then-s-at-2
+returns-then-s-at-2 c = search parts
+
+pub returns : goal.returns
+returns c = search parts
