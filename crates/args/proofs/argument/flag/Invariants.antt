@@ -1,0 +1,13 @@
+-- `args::argument::flag` meets its contract. What is left of the words has the answer. Assumes nothing.
+use Prim.Native.Nat.{◌-◌}
+use mathlib.Core.List.{◌++◌}
+use Rattle.tcl.specs.Arguments.{has_flag}
+use Rattle.args.specs.View.{words_from}
+use Rattle.args.proofs.Loops.{Flags}
+use Rattle.args.proofs.argument.flag.Given as goal
+
+abbrev pub invariant-loop-i : goal.invariant-loop-i
+invariant-loop-i l = Flags (l.files ++ l.area) l.words l.n l.key (has_flag l.key (words_from (l.files ++ l.area) l.words l.n 1)) l.i
+
+abbrev pub decreases-loop-i : goal.decreases-loop-i
+decreases-loop-i l = l.n - l.i

@@ -1,0 +1,13 @@
+-- `args::argument::option` meets its contract. What is left of the words has the answer. Assumes nothing.
+use Prim.Native.Nat.{◌-◌}
+use mathlib.Core.List.{◌++◌}
+use Rattle.tcl.specs.Arguments.{option_of}
+use Rattle.args.specs.View.{words_from}
+use Rattle.args.proofs.Loops.{Values}
+use Rattle.args.proofs.argument.option.Given as goal
+
+abbrev pub invariant-loop-i : goal.invariant-loop-i
+invariant-loop-i l = Values (l.files ++ l.area) l.words l.n l.key (option_of l.key (words_from (l.files ++ l.area) l.words l.n 1)) l.i l.found
+
+abbrev pub decreases-loop-i : goal.decreases-loop-i
+decreases-loop-i l = l.n - l.i

@@ -1,0 +1,14 @@
+-- `args::state::state_at` meets its contract. What is left of the words has the answer. Assumes nothing.
+use Prim.Native.Nat.{◌-◌}
+use mathlib.Core.List.{◌++◌}
+use Rattle.spans.specs.Span.{strings}
+use Rattle.tcl.specs.Arguments.{states}
+use Rattle.args.specs.View.{pick}
+use Rattle.args.proofs.Keys.{Seeks}
+use Rattle.args.proofs.state.state_at.Given as goal
+
+abbrev pub invariant-loop-i : goal.invariant-loop-i
+invariant-loop-i l = Seeks (l.files ++ l.area) l.words l.n l.one l.two (pick l.k (states l.one l.two (strings (l.files ++ l.area) l.words 0 l.n))) l.i l.left
+
+abbrev pub decreases-loop-i : goal.decreases-loop-i
+decreases-loop-i l = l.n - l.i

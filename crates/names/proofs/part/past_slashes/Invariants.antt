@@ -1,0 +1,13 @@
+-- `names::part::past_slashes` meets its contract: what is left has the same bytes behind its slashes. Assumes nothing.
+use mathlib.Core.List.{◌++◌}
+use lib.ListN.{length}
+use Rattle.names.specs.Name.{name_of}
+use Rattle.names.specs.Parts.{unslashed}
+use Rattle.names.proofs.Parted.{Trims}
+use Rattle.names.proofs.part.past_slashes.Given as goal
+
+abbrev pub invariant-loop-x : goal.invariant-loop-x
+invariant-loop-x l = Trims (l.files ++ l.area) (unslashed (name_of (l.files ++ l.area) l.initial.x)) l.x
+
+abbrev pub decreases-loop-x : goal.decreases-loop-x
+decreases-loop-x l = length (name_of (l.files ++ l.area) l.x)

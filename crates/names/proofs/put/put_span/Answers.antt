@@ -1,0 +1,9 @@
+-- `names::put::put_span` meets its contract. Assumes nothing.
+use Rattle.names.proofs.Written.{written}
+use Rattle.names.proofs.put.put_span.Goals as goal
+
+pub returns-then-s-eq0 : goal.returns-then-s-eq0
+returns-then-s-eq0 c = search written
+
+pub returns-then-s-minus : goal.returns-then-s-minus
+returns-then-s-minus c = search written
