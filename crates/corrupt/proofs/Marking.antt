@@ -21,7 +21,7 @@ use Rattle.design.specs.Lists.{is_in}
 use Rattle.design.specs.Laws.{is_in_out, out_is_in, those_mem}
 use Rattle.design.specs.Paths.{dotted}
 use Rattle.walk.specs.Walk.{retained_paths}
-use Rattle.walk.specs.Retained.{paths_of_lem}
+use Rattle.walk.proofs.Retained.{paths_of_lem}
 use Rattle.paths.specs.Pieces.{entries_below}
 use Rattle.pathnumber.specs.Number.{number, number_on}
 use Rattle.corrupt.specs.Marked.{mark_count, mark_place, Marked}

@@ -22,7 +22,7 @@ use Rattle.design.specs.Lists.{is_in, add_all}
 use Rattle.design.specs.Laws.{add_all_append}
 use Rattle.design.specs.Paths.{child_path, dotted}
 use Rattle.walk.specs.Walk.{sum_over, retained_paths}
-use Rattle.walk.specs.Retained.{length_dotted}
+use Rattle.walk.proofs.Retained.{length_dotted}
 use Rattle.paths.specs.Pieces.{stem, stem_child}
 use Rattle.listing.specs.declared.Walk.{Walk}
 use Rattle.listing.specs.Listing.{paths_of, Ready, Answer}

@@ -10,4 +10,3 @@ pub mod Examples
 -- Laws.
 pub mod Laws
 pub mod Losables
-pub mod AcceptedNames

@@ -1,4 +1,3 @@
 pub mod WellFormed
 pub mod Kept
-pub mod Accepted
 pub mod Bodies

@@ -25,7 +25,7 @@ use Rattle.listing.specs.declared.Walk.{Walk}
 use Rattle.listing.specs.Flags.{flag_low, flagged_on}
 use Rattle.listing.specs.Written.{front_kept, piece_there}
 use Rattle.listing.specs.Listing.{cut, paths_of, flag_place, Flagged, cost, cost_on, past, Within, Ready, NewGiven, Answer, ascends_on, cut_same, cut_on, cut_length}
-use Rattle.walk.specs.Retained.{length_dotted}
+use Rattle.walk.proofs.Retained.{length_dotted}
 
 -- ---- among the rows
 

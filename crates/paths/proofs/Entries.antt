@@ -25,7 +25,7 @@ use Rattle.nametable.specs.Table.{row_name, names_from, table_names, names_next,
 use Rattle.design.specs.Lists.{is_in, those}
 use Rattle.design.specs.Paths.{dotted}
 use Rattle.walk.specs.Walk.{retained_paths}
-use Rattle.walk.specs.Retained.{length_dotted}
+use Rattle.walk.proofs.Retained.{length_dotted}
 use Rattle.paths.specs.Pieces.{entries_below}
 use Rattle.paths.specs.Sizes.{name_short}
 

@@ -19,7 +19,7 @@ use Rattle.names.specs.Laws.{dotted_map}
 use Rattle.names.specs.declared.name.Name.{Name}
 use Rattle.design.specs.Paths.{dotted}
 use Rattle.paths.specs.Pieces.{Sized}
-use Rattle.walk.specs.Retained.{length_dotted}
+use Rattle.walk.proofs.Retained.{length_dotted}
 
 -- the same by a front and what is behind it
 pub same_split : (a b r : Bytes) → same (a ++ b) r ≡ same a (take (length a) r) && same b (drop (length a) r)

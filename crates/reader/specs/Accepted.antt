@@ -12,7 +12,7 @@ use Rattle.jobindex.specs.declared.Header.{Header}
 use Rattle.jobindex.specs.Index.{path_at, body_at, file_at, rows, Indexed}
 use Rattle.jobindex.specs.Rows.{rows_length, rows_here}
 use Rattle.jobfacts.specs.WellFormed.{distinct, WellFormed}
-use Rattle.jobfacts.specs.Accepted.{accepted_good}
+use Rattle.jobfacts.proofs.Accepted.{accepted_good}
 use Rattle.jobfacts.specs.Bodies.{body_size, size_more, accepted_bodies}
 use Rattle.joined.specs.Joined.{body_bytes}
 use Rattle.read.specs.Reading.{file_named}

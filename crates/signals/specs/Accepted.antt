@@ -20,7 +20,7 @@ use Rattle.texts.specs.Scope.{Scope, scope_of}
 use Rattle.texts.specs.Setting.{Setting, setting_of}
 use Rattle.texts.specs.Domains.{retained_entries, lost_paths}
 use Rattle.texts.specs.Texts.{glue_of, package_of, report_of, fits}
-use Rattle.texts.specs.Blocks.{scope_exists}
+use Rattle.texts.proofs.Blocks.{scope_exists}
 use Rattle.answers.specs.Answer.{Lent, Answer, all_fit, in_scope, below_top, after_reading, after_parse, roomy, answer}
 
 -- ---- an accepted job

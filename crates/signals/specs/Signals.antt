@@ -12,11 +12,11 @@ use Rattle.text.specs.Numbers.{value_from, is_decimal}
 use Rattle.out.specs.Items.{joined}
 use Rattle.out.specs.Number.{decimal}
 use Rattle.walk.specs.Reach.{DomainReaches, Distinct, NumberOf, Joined, Whole}
-use Rattle.walk.specs.Demand.{listed_iff, listed_once, listed_number, three_lists_asked}
+use Rattle.walk.proofs.Demand.{listed_iff, listed_once, listed_number, three_lists_asked}
 use Rattle.model.specs.Records.{Domain}
 use Rattle.texts.specs.Domains.{retained_entries, wire, powered_line, exempt, own_retained}
 use Rattle.texts.specs.ForceLines.{force_lines, force_line, names_on_one_line}
-use Rattle.texts.specs.Blocks.{always_of, initial_of, glue_head, glue_for, report_head, report_for, report_tail, glue_has_blocks, report_has_line, line_says, number_printed, always_lines, initial_lines, lines_number, lines_once}
+use Rattle.texts.proofs.Blocks.{always_of, initial_of, glue_head, glue_for, report_head, report_for, report_tail, glue_has_blocks, report_has_line, line_says, number_printed, always_lines, initial_lines, lines_number, lines_once}
 use Rattle.answers.specs.Answer.{Lent}
 use Rattle.signals.specs.Accepted.{Accepted, setting_in, listed, its_scope, mem_at, Alike, listed_alike}
 

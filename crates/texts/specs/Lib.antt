@@ -12,9 +12,3 @@ pub mod Examples
 -- Laws.
 pub mod Laws
 pub mod Decimals
-pub mod Cuts
-pub mod Sorted
-pub mod Covers
-pub mod OneLine
--- What is promised of a domain's signals in the texts.
-pub mod Blocks

@@ -14,7 +14,7 @@ use Rattle.joblines.specs.Parse.{Parsed, parse}
 use Rattle.jobindex.specs.Index.{module_row, name_at, job_of}
 use Rattle.jobindex.specs.Rows.{rows_here}
 use Rattle.jobindex.specs.declared.Header.{Header}
-use Rattle.jobfacts.specs.Accepted.{accepted_good}
+use Rattle.jobfacts.proofs.Accepted.{accepted_good}
 use Rattle.jobfacts.specs.Bodies.{accepted_bodies}
 use Rattle.jobfacts.specs.WellFormed.{distinct}
 use Rattle.design.specs.Lists.{first}

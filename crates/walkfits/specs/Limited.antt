@@ -12,7 +12,7 @@ use Rattle.fields.specs.Fields.{Dir, input, Style, ansi, nonansi, empty, Kind}
 use Rattle.joblines.specs.Job.{Port, Decl, Module, Job}
 use Rattle.joblines.specs.Parse.{accepted, parse}
 use Rattle.jobfacts.specs.WellFormed.{All, GoodModule}
-use Rattle.jobfacts.specs.Accepted.{accepted_good}
+use Rattle.jobfacts.proofs.Accepted.{accepted_good}
 use Rattle.jobindex.specs.Index.{module_row, Indexed}
 use Rattle.jobindex.specs.declared.Header.{Header}
 use Rattle.design.specs.Lists.{those, is_in, add_new, add_all}

@@ -21,11 +21,11 @@ use Rattle.joblines.specs.Job.{Module, Job}
 use Rattle.joblines.specs.Parse.{parse, accepted}
 use Rattle.design.specs.Lookup.{module_named, module_at}
 use Rattle.design.specs.Losables.{named_mem, module_at_mem}
-use Rattle.design.specs.AcceptedNames.{accepted_names}
+use Rattle.design.proofs.AcceptedNames.{accepted_names}
 use Rattle.walk.specs.Limits.{most_entered, most_paths, most_path_bytes}
 use Rattle.walk.specs.Walk.{domain_entered, path_bytes}
 use Rattle.walk.specs.Reach.{Distinct, Scope, DomainReaches, NumberOf}
-use Rattle.walk.specs.Demand.{listed_once, listed_number}
+use Rattle.walk.proofs.Demand.{listed_once, listed_number}
 use Rattle.model.specs.Records.{Domain, Model}
 use Rattle.texts.specs.Scope.{Path, existing, scope_path_of, scope_along, scope_of, at}
 use Rattle.texts.specs.Setting.{Setting, setting_of}
@@ -37,8 +37,8 @@ use Rattle.texts.specs.Texts.{warnings_of, glue_of, scope_line, shifter_line, ta
 use Rattle.texts.specs.ForceLines.{force_lines, force_line, on_one_line, names_on_one_line}
 use Rattle.texts.specs.Laws.{all_at, each_at, map_distinct}
 use Rattle.texts.specs.Decimals.{decimal_value, decimal_form}
-use Rattle.texts.specs.Cuts.{initial_forces, always_forces}
-use Rattle.texts.specs.OneLine.{lookup_one, listed_one, checks_one}
+use Rattle.texts.proofs.Cuts.{initial_forces, always_forces}
+use Rattle.texts.proofs.OneLine.{lookup_one, listed_one, checks_one}
 
 -- ---- a domain's parts of the texts
 

@@ -23,7 +23,7 @@ use Rattle.design.specs.Paths.{child_path, scope_path, dotted, element_path, fil
 use Rattle.design.specs.Losables.{named_mem, module_at_mem}
 use Rattle.walk.specs.Limits.{most_depth}
 use Rattle.walk.specs.Walk.{entered, own, corruptible, sum_over, modules_entered, retained_paths, element_list, domain_list, element_entered, domain_entered, path_bytes}
-use Rattle.walk.specs.Listed.{entered_inv}
+use Rattle.walk.proofs.Listed.{entered_inv}
 
 -- the entries that are not empty
 abbrev pub filled_entries : List Bytes → List Bytes

@@ -1,0 +1,5 @@
+pub mod Sorted
+pub mod Covers
+pub mod OneLine
+pub mod Cuts
+pub mod Blocks
