@@ -30,7 +30,7 @@ no_isolation =
       signal = Not;
       sense = Not;
       power = Not;
-      ground = Not;
+      ground_net = Not;
     }
 
 abbrev pub isolation_at : Isolations → ℕ → Isolation

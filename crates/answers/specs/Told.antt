@@ -5,7 +5,8 @@ use Rattle.std.proofs.lemmas.Bool.{lt-leb}
 use Rattle.text.specs.Ascii.{Bytes}
 use Rattle.out.specs.Emit.{◌▸◌, emit}
 use Rattle.out.specs.Fits.{whole}
-use Rattle.out.specs.Clear.{cleared_from, cleared_text}
+use Rattle.out.specs.Clear.{cleared_from}
+use Rattle.out.proofs.Cleared.{cleared_text}
 use Rattle.texts.specs.Setting.{Setting}
 use Rattle.texts.specs.Texts.{glue_of, package_of, report_of}
 use Rattle.answers.specs.Answer.{Lent, Answer, texts, refused, fitted, number, place, glue_text_lem, package_text, report_text, log_text, held}

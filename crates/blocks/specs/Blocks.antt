@@ -8,7 +8,7 @@ use Rattle.model.specs.Records.{Domain}
 use Rattle.texts.specs.Domains.{force, release, Check, check_line, wire, always_block, initial_block}
 
 abbrev pub wire_text : Bytes → Bytes → Bytes → Bytes
-wire_text name power ground = format3 "  wire upf_pd__{a} = upf__{b} & upf__{c};\n" name power ground
+wire_text name power ground_net = format3 "  wire upf_pd__{a} = upf__{b} & upf__{c};\n" name power ground_net
 
 -- before the checks
 unfoldable pub up_text : Bytes → List Bytes → Bytes
@@ -27,8 +27,8 @@ initial_text name paths = format2 "  initial begin\n    if (upf_pd__{a} !== 1'b1
 
 -- ---- laws: these are the wire and the blocks
 
-pub wire_is : (d : Domain) (power ground : Bytes) → wire d power ground ≡ wire_text d.name power ground
-wire_is d power ground = refl
+pub wire_is : (d : Domain) (power ground_net : Bytes) → wire d power ground_net ≡ wire_text d.name power ground_net
+wire_is d power ground_net = refl
 
 pub initial_is : (d : Domain) (paths : List Bytes) → initial_block d paths ≡ initial_text d.name paths
 unfolding initial_block initial_text

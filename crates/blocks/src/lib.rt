@@ -22,9 +22,9 @@ pub fn put_wire(
     area: &[u8],
     domain: Name,
     power: Name,
-    ground: Name,
+    ground_net: Name,
 ) -> usize
-    ensures { out.new ▸ result ≡ emit (out.old ▸ at) (wire_text (name_of (files.now ++ area.now) domain) (name_of (files.now ++ area.now) power) (name_of (files.now ++ area.now) ground)) }
+    ensures { out.new ▸ result ≡ emit (out.old ▸ at) (wire_text (name_of (files.now ++ area.now) domain) (name_of (files.now ++ area.now) power) (name_of (files.now ++ area.now) ground_net)) }
 {
     fill3(
         out,
@@ -34,7 +34,7 @@ pub fn put_wire(
         area,
         domain,
         power,
-        ground,
+        ground_net,
     )
 }
 

@@ -38,7 +38,7 @@ new_domain scope ws =
       name = name_of ws;
       elements = map (scoped scope) (option_list "-elements" ws) ++ cond (has_flag (ascii "-include_scope") ws) (scope ∷ []) [];
       power = none;
-      ground = none;
+      ground_net = none;
       scope = scope;
     }
 
@@ -47,7 +47,7 @@ pub record DomainIs (mem : Bytes) (words : List ℕ) (n : ℕ) (scope : Stored) 
   pub within : (e : Span → ℕ) → e (0 ⋯ 0) ≡ 0 → of_domain (λ s. e (span_of s)) r ≤ max (e (span_of scope)) (last_of e (pairs words 0 n))
 
 module _ (mem : Bytes) (words : List ℕ) (n : ℕ) (scope : Stored) where
-  pub domain_is : (named : Span) (x : Stored) (f : Found) (y : Stored) (b : Bool) → Reads mem words n (name_of (words_from mem words n 1)) named → x ≡ stored_of named → Finds mem words n (option_of (ascii "-elements") (words_from mem words n 1)) f → y ≡ found_or f → b ≡ has_flag (ascii "-include_scope") (words_from mem words n 1) → DomainIs mem words n scope (record { name = x; elements = y; whole = b; power = Not; ground = Not; scope = scope })
+  pub domain_is : (named : Span) (x : Stored) (f : Found) (y : Stored) (b : Bool) → Reads mem words n (name_of (words_from mem words n 1)) named → x ≡ stored_of named → Finds mem words n (option_of (ascii "-elements") (words_from mem words n 1)) f → y ≡ found_or f → b ≡ has_flag (ascii "-include_scope") (words_from mem words n 1) → DomainIs mem words n scope (record { name = x; elements = y; whole = b; power = Not; ground_net = Not; scope = scope })
   unfolding domain_of new_domain
   domain_is named x f y b p e q g h =
       rw (e, g, h)

@@ -94,7 +94,7 @@ module _ (long : ℕ) (mem : Bytes) (words : List ℕ) (n : ℕ) (st : Store) (l
               name = (domain_of mem (get_or s.domains.all i z)).name;
               elements = (domain_of mem (get_or s.domains.all i z)).elements;
               power = p j;
-              ground = g j;
+              ground_net = g j;
               scope = (domain_of mem (get_or s.domains.all i z)).scope;
             }
 

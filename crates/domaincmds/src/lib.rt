@@ -30,7 +30,7 @@ fn domain<'a>(files: &'a [u8], area: &'a [u8], words: &[u32], n: usize, scope: S
         elements: or_empty(elements),
         whole: whole,
         power: MaybeBelow::Not,
-        ground: MaybeBelow::Not,
+        ground_net: MaybeBelow::Not,
         scope: scope,
     }
 }
@@ -73,9 +73,9 @@ pub fn set_domain_supply_net<'a>(
     }
     let scope = b.scope;
     let power = option(files, area, words, n, b"-primary_power_net");
-    let ground = option(files, area, words, n, b"-primary_ground_net");
+    let ground_net = option(files, area, words, n, b"-primary_ground_net");
     let p = maybe_below(scope, power);
-    let g = maybe_below(scope, ground);
+    let g = maybe_below(scope, ground_net);
     let d = t.all[i];
     Deed::Supplied(i, supplied(d, p, g))
 }

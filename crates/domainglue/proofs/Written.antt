@@ -26,9 +26,9 @@ found_known l most found found' m f = f.known
 
 pub ruleset knowns = (rules, found_known)
 
-pub glue_are : (mem : Bytes) (domain : Stored) (x : Name) (power ground : Bytes) (scope : List Bytes) (f : ℕ → Isolationʳ) (l : List ℕ) (most : ℕ) (found found' : List ℕ) (m : ℕ) (paths : List Bytes) (o o' : Out) → o' ≡ emit o (glue_text (name_of mem x) power ground (each (check_text scope f (name_of mem x)) (take m found')) paths) → x ≡ stored_name domain → Found l most found found' m → o' ≡ emit o (glue_text (string mem domain) power ground (each (check_text scope f (string mem domain)) l) paths)
-glue_are mem domain x power ground scope f l most found found' m paths o o' h ex g =
+pub glue_are : (mem : Bytes) (domain : Stored) (x : Name) (power ground_net : Bytes) (scope : List Bytes) (f : ℕ → Isolationʳ) (l : List ℕ) (most : ℕ) (found found' : List ℕ) (m : ℕ) (paths : List Bytes) (o o' : Out) → o' ≡ emit o (glue_text (name_of mem x) power ground_net (each (check_text scope f (name_of mem x)) (take m found')) paths) → x ≡ stored_name domain → Found l most found found' m → o' ≡ emit o (glue_text (string mem domain) power ground_net (each (check_text scope f (string mem domain)) l) paths)
+glue_are mem domain x power ground_net scope f l most found found' m paths o o' h ex g =
     let e : name_of mem x ≡ string mem domain = rw ex (stored_is mem domain) in
     h
-    ∙ ap (λ (b : Bytes). emit o (glue_text b power ground (each (check_text scope f b) (take m found')) paths)) e
-    ∙ ap (λ (k : List ℕ). emit o (glue_text (string mem domain) power ground (each (check_text scope f (string mem domain)) k) paths)) g.are
+    ∙ ap (λ (b : Bytes). emit o (glue_text b power ground_net (each (check_text scope f b) (take m found')) paths)) e
+    ∙ ap (λ (k : List ℕ). emit o (glue_text (string mem domain) power ground_net (each (check_text scope f (string mem domain)) k) paths)) g.are

@@ -38,12 +38,12 @@ fn put_glue(
     n: usize,
     domain: Name,
     power: Name,
-    ground: Name,
+    ground_net: Name,
 ) -> usize
     requires { Known found.now m × (n ≤ length ends.now) }
-    ensures { out.new ▸ result ≡ emit (out.old ▸ at) (glue_text (name_of (files.now ++ area.now) domain) (name_of (files.now ++ area.now) power) (name_of (files.now ++ area.now) ground) (each (check_text (parts over.now from) (strategy_at (files.now ++ area.now) t) (name_of (files.now ++ area.now) domain)) (take m found.now)) (below (parts over.now from) (paths_of text.now ends.now n))) }
+    ensures { out.new ▸ result ≡ emit (out.old ▸ at) (glue_text (name_of (files.now ++ area.now) domain) (name_of (files.now ++ area.now) power) (name_of (files.now ++ area.now) ground_net) (each (check_text (parts over.now from) (strategy_at (files.now ++ area.now) t) (name_of (files.now ++ area.now) domain)) (take m found.now)) (below (parts over.now from) (paths_of text.now ends.now n))) }
 {
-    let a = put_wire(out, at, files, area, domain, power, ground);
+    let a = put_wire(out, at, files, area, domain, power, ground_net);
     let b = put_up(out, a, files, area, over, from, text, ends, n, domain);
     let c = put_checks(
         out, b, job, files, area, over, from, top, t, found, m, domain,
@@ -70,11 +70,11 @@ fn powered_by<'a>(
     n: usize,
     domain: Stored,
     power: Name,
-    ground: Name,
+    ground_net: Name,
     found: &mut [u32],
 ) -> usize
     requires { (OfGlue (files.now ++ area.now) t ports.now isolated × (n ≤ length ends.now)) × (256 ≤ length found.old) }
-    ensures { out.new ▸ result ≡ emit (out.old ▸ at) (glue_text (string (files.now ++ area.now) domain) (name_of (files.now ++ area.now) power) (name_of (files.now ++ area.now) ground) (each (check_text (parts over.now from) (strategy_at (files.now ++ area.now) t) (string (files.now ++ area.now) domain)) (own_in (files.now ++ area.now) t domain ports.now isolated)) (below (parts over.now from) (paths_of text.now ends.now n))) }
+    ensures { out.new ▸ result ≡ emit (out.old ▸ at) (glue_text (string (files.now ++ area.now) domain) (name_of (files.now ++ area.now) power) (name_of (files.now ++ area.now) ground_net) (each (check_text (parts over.now from) (strategy_at (files.now ++ area.now) t) (string (files.now ++ area.now) domain)) (own_in (files.now ++ area.now) t domain ports.now isolated)) (below (parts over.now from) (paths_of text.now ends.now n))) }
 {
     let m = checks::checks(files, area, t, ports, isolated, domain, found);
     put_glue(
@@ -94,7 +94,7 @@ fn powered_by<'a>(
         n,
         stored(domain),
         power,
-        ground,
+        ground_net,
     )
 }
 
@@ -116,14 +116,14 @@ pub fn powered_glue<'a>(
     n: usize,
     domain: Stored,
     power: Name,
-    ground: Name,
+    ground_net: Name,
 ) -> usize
     requires { OfGlue (files.now ++ area.now) t ports.now isolated × (n ≤ length ends.now) }
-    ensures { out.new ▸ result ≡ emit (out.old ▸ at) (glue_text (string (files.now ++ area.now) domain) (name_of (files.now ++ area.now) power) (name_of (files.now ++ area.now) ground) (each (check_text (parts over.now from) (strategy_at (files.now ++ area.now) t) (string (files.now ++ area.now) domain)) (own_in (files.now ++ area.now) t domain ports.now isolated)) (below (parts over.now from) (paths_of text.now ends.now n))) }
+    ensures { out.new ▸ result ≡ emit (out.old ▸ at) (glue_text (string (files.now ++ area.now) domain) (name_of (files.now ++ area.now) power) (name_of (files.now ++ area.now) ground_net) (each (check_text (parts over.now from) (strategy_at (files.now ++ area.now) t) (string (files.now ++ area.now) domain)) (own_in (files.now ++ area.now) t domain ports.now isolated)) (below (parts over.now from) (paths_of text.now ends.now n))) }
 {
     let mut found: [u32; 256] = [0; 256];
     powered_by(
         out, at, job, files, area, over, from, top, t, ports, isolated, text, ends, n, domain,
-        power, ground, &mut found,
+        power, ground_net, &mut found,
     )
 }

@@ -66,6 +66,6 @@ pub ruleset exempts = (rules, exempt_none, exempt_all)
 
 -- ---- the line
 
-pub signals_pieces : (o : Out) (name es power ground number : Bytes) → emit o (format1 "power domain {0}: elements [" name ⊕ es ⊕ format2 "], power {0}, ground {1}, " power ground ⊕ number ⊕ ascii " corruptible signals") ≡ emit o (fill (ascii "power domain {0}: elements [{1}], power {2}, ground {3}, {4} corruptible signals") name es power ground number)
+pub signals_pieces : (o : Out) (name es power ground_net number : Bytes) → emit o (format1 "power domain {0}: elements [" name ⊕ es ⊕ format2 "], power {0}, ground {1}, " power ground_net ⊕ number ⊕ ascii " corruptible signals") ≡ emit o (fill (ascii "power domain {0}: elements [{1}], power {2}, ground {3}, {4} corruptible signals") name es power ground_net number)
 unfolding emit writes turns arg pick
-signals_pieces o name es power ground number = simp (emit-⊕, emit_fill)
+signals_pieces o name es power ground_net number = simp (emit-⊕, emit_fill)

@@ -92,11 +92,11 @@ fn put_signals(
     elements: &[u32],
     m: usize,
     power: Name,
-    ground: Name,
+    ground_net: Name,
     n: usize,
 ) -> usize
     requires { m ≤ 65536 }
-    ensures { out.new ▸ result ≡ emit (out.old ▸ at) (signals_text (name_of (files.now ++ area.now) domain) (table_names (files.now ++ area.now) elements.now m) (name_of (files.now ++ area.now) power) (name_of (files.now ++ area.now) ground) n) }
+    ensures { out.new ▸ result ≡ emit (out.old ▸ at) (signals_text (name_of (files.now ++ area.now) domain) (table_names (files.now ++ area.now) elements.now m) (name_of (files.now ++ area.now) power) (name_of (files.now ++ area.now) ground_net) n) }
 {
     let a = fill1(
         out,
@@ -114,7 +114,7 @@ fn put_signals(
         files,
         area,
         power,
-        ground,
+        ground_net,
     );
     let d = out::number::decimal(out, c, n as u64);
     put(out, d, b" corruptible signals")
@@ -132,15 +132,17 @@ pub fn powered_line(
     elements: &[u32],
     m: usize,
     power: Name,
-    ground: Name,
+    ground_net: Name,
     n: usize,
     own: &[u32],
     k: usize,
 ) -> usize
     requires { (m ≤ 65536) × (k ≤ 65536) }
-    ensures { out.new ▸ result ≡ emit (out.old ▸ at) (powered_text (name_of (files.now ++ area.now) domain) (table_names (files.now ++ area.now) elements.now m) (name_of (files.now ++ area.now) power) (name_of (files.now ++ area.now) ground) n (map (retained_path (parts over.now from)) (table_names (files.now ++ area.now) own.now k))) }
+    ensures { out.new ▸ result ≡ emit (out.old ▸ at) (powered_text (name_of (files.now ++ area.now) domain) (table_names (files.now ++ area.now) elements.now m) (name_of (files.now ++ area.now) power) (name_of (files.now ++ area.now) ground_net) n (map (retained_path (parts over.now from)) (table_names (files.now ++ area.now) own.now k))) }
 {
-    let a = put_signals(out, at, files, area, domain, elements, m, power, ground, n);
+    let a = put_signals(
+        out, at, files, area, domain, elements, m, power, ground_net, n,
+    );
     let b = put_exempt(out, a, files, area, over, from, own, k);
     put(out, b, b"\n")
 }

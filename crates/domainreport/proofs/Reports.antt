@@ -35,19 +35,19 @@ own_few files area t domain table table' k ns g = omega (arith, ns.count, g.few,
 
 pub ruleset fews = (rules, own_few)
 
-pub line_is_lem : (mem : Bytes) (t : Retentions) (domain : Stored) (x : Name) (es : List Bytes) (power ground : Bytes) (n : ℕ) (scope : List Bytes) (table table' : List ℕ) (k : ℕ) (o o' : Out) → o' ≡ emit o (powered_text (name_of mem x) es power ground n (map (retained_path scope) (table_names mem table' k))) → x ≡ stored_name domain → Names mem (own_entries mem t domain) table table' k → o' ≡ emit o (powered_text (string mem domain) es power ground n (map (retained_path scope) (own_entries mem t domain)))
-line_is_lem mem t domain x es power ground n scope table table' k o o' h ex ns =
+pub line_is_lem : (mem : Bytes) (t : Retentions) (domain : Stored) (x : Name) (es : List Bytes) (power ground_net : Bytes) (n : ℕ) (scope : List Bytes) (table table' : List ℕ) (k : ℕ) (o o' : Out) → o' ≡ emit o (powered_text (name_of mem x) es power ground_net n (map (retained_path scope) (table_names mem table' k))) → x ≡ stored_name domain → Names mem (own_entries mem t domain) table table' k → o' ≡ emit o (powered_text (string mem domain) es power ground_net n (map (retained_path scope) (own_entries mem t domain)))
+line_is_lem mem t domain x es power ground_net n scope table table' k o o' h ex ns =
     let e : name_of mem x ≡ string mem domain = rw ex (stored_is mem domain) in
-    h ∙ ap (λ (l : List Bytes). emit o (powered_text (name_of mem x) es power ground n (map (retained_path scope) l))) ns.are ∙ ap (λ (b : Bytes). emit o (powered_text b es power ground n (map (retained_path scope) (own_entries mem t domain)))) e
+    h ∙ ap (λ (l : List Bytes). emit o (powered_text (name_of mem x) es power ground_net n (map (retained_path scope) l))) ns.are ∙ ap (λ (b : Bytes). emit o (powered_text b es power ground_net n (map (retained_path scope) (own_entries mem t domain)))) e
 
 own_none : (mem : Bytes) (t : Retentions) (domain : Stored) → t.n ≡ 0 → own_entries mem t domain ≡ []
 unfolding those flat_map
 own_none mem t domain h = rw h
 
-pub line_without : (mem : Bytes) (t : Retentions) (domain : Stored) (x : Name) (es : List Bytes) (power ground : Bytes) (n : ℕ) (scope : List Bytes) (table : List ℕ) (o o' : Out) → o' ≡ emit o (powered_text (name_of mem x) es power ground n (map (retained_path scope) (table_names mem table 0))) → x ≡ stored_name domain → t.n ≡ 0 → o' ≡ emit o (powered_text (string mem domain) es power ground n (map (retained_path scope) (own_entries mem t domain)))
-line_without mem t domain x es power ground n scope table o o' h ex z =
+pub line_without : (mem : Bytes) (t : Retentions) (domain : Stored) (x : Name) (es : List Bytes) (power ground_net : Bytes) (n : ℕ) (scope : List Bytes) (table : List ℕ) (o o' : Out) → o' ≡ emit o (powered_text (name_of mem x) es power ground_net n (map (retained_path scope) (table_names mem table 0))) → x ≡ stored_name domain → t.n ≡ 0 → o' ≡ emit o (powered_text (string mem domain) es power ground_net n (map (retained_path scope) (own_entries mem t domain)))
+line_without mem t domain x es power ground_net n scope table o o' h ex z =
     let e : name_of mem x ≡ string mem domain = rw ex (stored_is mem domain) in
-    h ∙ ap (λ (l : List Bytes). emit o (powered_text (name_of mem x) es power ground n (map (retained_path scope) l))) (names_none mem table 0 ∙ sym (own_none mem t domain z)) ∙ ap (λ (b : Bytes). emit o (powered_text b es power ground n (map (retained_path scope) (own_entries mem t domain)))) e
+    h ∙ ap (λ (l : List Bytes). emit o (powered_text (name_of mem x) es power ground_net n (map (retained_path scope) l))) (names_none mem table 0 ∙ sym (own_none mem t domain z)) ∙ ap (λ (b : Bytes). emit o (powered_text b es power ground_net n (map (retained_path scope) (own_entries mem t domain)))) e
 
 pub bare_is : (mem : Bytes) (domain : Stored) (x : Name) (o o' : Out) → o' ≡ emit o (unpowered_text (name_of mem x)) → x ≡ stored_name domain → o' ≡ emit o (unpowered_text (string mem domain))
 bare_is mem domain x o o' h ex = let e : name_of mem x ≡ string mem domain = rw ex (stored_is mem domain) in h ∙ ap (λ (b : Bytes). emit o (unpowered_text b)) e

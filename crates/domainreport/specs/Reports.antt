@@ -27,6 +27,6 @@ pub orders_report : (files area : Bytes) (nums : List ℕ) (s : State) → Order
 orders_report files area nums s o = record { small = o.small; holds = retentions_hold files area nums s o; few = retained_few files area nums s o }
 
 -- the line of a domain of the records
-pub report_is : (mem : Bytes) (st : Store) (s : State) (log : Bytes) (t : Setting) (d : Domain) (power ground : Bytes) → t.records ≡ model_of mem st s log → powered_text (string mem d.name) (domain_of mem d).elements power ground (length (lost_paths t (domain_of mem d))) (map (retained_path t.scope) (own_entries mem s.retentions d.name)) ≡ powered_line t (domain_of mem d) power ground
+pub report_is : (mem : Bytes) (st : Store) (s : State) (log : Bytes) (t : Setting) (d : Domain) (power ground_net : Bytes) → t.records ≡ model_of mem st s log → powered_text (string mem d.name) (domain_of mem d).elements power ground_net (length (lost_paths t (domain_of mem d))) (map (retained_path t.scope) (own_entries mem s.retentions d.name)) ≡ powered_line t (domain_of mem d) power ground_net
 unfolding domain_of
-report_is mem st s log t d power ground e = ap (powered_text (string mem d.name) (domain_of mem d).elements power ground (length (lost_paths t (domain_of mem d)))) (own_entries_lem mem st s log t d e)
+report_is mem st s log t d power ground_net e = ap (powered_text (string mem d.name) (domain_of mem d).elements power ground_net (length (lost_paths t (domain_of mem d)))) (own_entries_lem mem st s log t d e)

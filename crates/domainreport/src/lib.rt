@@ -38,14 +38,14 @@ fn powered_by<'a>(
     t: Retentions,
     domain: Stored,
     power: Name,
-    ground: Name,
+    ground_net: Name,
     elements: &[u32],
     m: usize,
     n: usize,
     own: &mut [u32],
 ) -> usize
     requires { (OfReport files.now area.now t × (m ≤ 65536)) × (5120 ≤ length own.old) }
-    ensures { out.new ▸ result ≡ emit (out.old ▸ at) (powered_text (string (files.now ++ area.now) domain) (table_names (files.now ++ area.now) elements.now m) (name_of (files.now ++ area.now) power) (name_of (files.now ++ area.now) ground) n (map (retained_path (parts over.now from)) (own_entries (files.now ++ area.now) t domain))) }
+    ensures { out.new ▸ result ≡ emit (out.old ▸ at) (powered_text (string (files.now ++ area.now) domain) (table_names (files.now ++ area.now) elements.now m) (name_of (files.now ++ area.now) power) (name_of (files.now ++ area.now) ground_net) n (map (retained_path (parts over.now from)) (own_entries (files.now ++ area.now) t domain))) }
 {
     let k = retained_of(files, area, t, domain, own);
     domainline::powered_line(
@@ -59,7 +59,7 @@ fn powered_by<'a>(
         elements,
         m,
         power,
-        ground,
+        ground_net,
         n,
         own,
         k,
@@ -77,13 +77,13 @@ pub fn powered_line<'a>(
     t: Retentions,
     domain: Stored,
     power: Name,
-    ground: Name,
+    ground_net: Name,
     elements: &[u32],
     m: usize,
     n: usize,
 ) -> usize
     requires { OfReport files.now area.now t × (m ≤ 65536) }
-    ensures { out.new ▸ result ≡ emit (out.old ▸ at) (powered_text (string (files.now ++ area.now) domain) (table_names (files.now ++ area.now) elements.now m) (name_of (files.now ++ area.now) power) (name_of (files.now ++ area.now) ground) n (map (retained_path (parts over.now from)) (own_entries (files.now ++ area.now) t domain))) }
+    ensures { out.new ▸ result ≡ emit (out.old ▸ at) (powered_text (string (files.now ++ area.now) domain) (table_names (files.now ++ area.now) elements.now m) (name_of (files.now ++ area.now) power) (name_of (files.now ++ area.now) ground_net) n (map (retained_path (parts over.now from)) (own_entries (files.now ++ area.now) t domain))) }
 {
     if t.n == 0 {
         return domainline::powered_line(
@@ -97,7 +97,7 @@ pub fn powered_line<'a>(
             elements,
             m,
             power,
-            ground,
+            ground_net,
             n,
             elements,
             0,
@@ -105,7 +105,7 @@ pub fn powered_line<'a>(
     }
     let mut own: [u32; 5120] = [0; 5120];
     powered_by(
-        out, at, files, area, over, from, t, domain, power, ground, elements, m, n, &mut own,
+        out, at, files, area, over, from, t, domain, power, ground_net, elements, m, n, &mut own,
     )
 }
 

@@ -81,21 +81,21 @@ bare_line mem d g o report b e = record { over = refl; glue_is = refl; report_is
 
 -- ---- the texts by the definitions
 
-glue_told : (mem : Bytes) (xs : Isolations) (t : Setting) (d : Domain) → t.records.isolations ≡ map (isolation_of mem) (take xs.n xs.all) → (job : Bytes) (ports : List ℕ) (n : ℕ) (power ground : Bytes) (o : Out) (scope paths : List Bytes) → t.scope ≡ scope → paths ≡ lost_paths t (domain_of mem d)
-    → emit o (glue_text (string mem d.name) power ground (each (check_text scope (strategy_at mem xs) (string mem d.name)) (own_in mem xs d.name ports n)) paths) ≡ emit o (powered_glue t (map (shown t.scope t.top (strategy_at mem xs)) (kept_in job mem ports n)) (domain_of mem d) power ground)
+glue_told : (mem : Bytes) (xs : Isolations) (t : Setting) (d : Domain) → t.records.isolations ≡ map (isolation_of mem) (take xs.n xs.all) → (job : Bytes) (ports : List ℕ) (n : ℕ) (power ground_net : Bytes) (o : Out) (scope paths : List Bytes) → t.scope ≡ scope → paths ≡ lost_paths t (domain_of mem d)
+    → emit o (glue_text (string mem d.name) power ground_net (each (check_text scope (strategy_at mem xs) (string mem d.name)) (own_in mem xs d.name ports n)) paths) ≡ emit o (powered_glue t (map (shown t.scope t.top (strategy_at mem xs)) (kept_in job mem ports n)) (domain_of mem d) power ground_net)
 unfolding domain_of
-glue_told mem xs t d are job ports n power ground o scope paths es ep =
-    ap (λ (l : List Bytes). emit o (glue_text (string mem d.name) power ground (each (check_text scope (strategy_at mem xs) (string mem d.name)) (own_in mem xs d.name ports n)) l)) ep
-    ∙ ap (λ (l : List Bytes). emit o (glue_text (string mem d.name) power ground (each (check_text l (strategy_at mem xs) (string mem d.name)) (own_in mem xs d.name ports n)) (lost_paths t (domain_of mem d)))) (sym es)
-    ∙ glue_is mem xs t d.name (domain_of mem d) refl are job ports n power ground o
+glue_told mem xs t d are job ports n power ground_net o scope paths es ep =
+    ap (λ (l : List Bytes). emit o (glue_text (string mem d.name) power ground_net (each (check_text scope (strategy_at mem xs) (string mem d.name)) (own_in mem xs d.name ports n)) l)) ep
+    ∙ ap (λ (l : List Bytes). emit o (glue_text (string mem d.name) power ground_net (each (check_text l (strategy_at mem xs) (string mem d.name)) (own_in mem xs d.name ports n)) (lost_paths t (domain_of mem d)))) (sym es)
+    ∙ glue_is mem xs t d.name (domain_of mem d) refl are job ports n power ground_net o
 
-line_told : (mem : Bytes) (nums : List ℕ) (s : State) (log : Bytes) (t : Setting) (d : Domain) → t.records ≡ model_of mem (store_of nums s) s log → (power ground : Bytes) (o : Out) (scope elements : List Bytes) (n : ℕ) → t.scope ≡ scope → elements ≡ (domain_of mem d).elements → n ≡ length (lost_paths t (domain_of mem d))
-    → emit o (powered_text (string mem d.name) elements power ground n (map (retained_path scope) (own_entries mem s.retentions d.name))) ≡ emit o (powered_line t (domain_of mem d) power ground)
-line_told mem nums s log t d e power ground o scope elements n es ee en =
-    ap (λ (l : List Bytes). emit o (powered_text (string mem d.name) l power ground n (map (retained_path scope) (own_entries mem s.retentions d.name)))) ee
-    ∙ ap (λ (m : ℕ). emit o (powered_text (string mem d.name) (domain_of mem d).elements power ground m (map (retained_path scope) (own_entries mem s.retentions d.name)))) en
-    ∙ ap (λ (l : List Bytes). emit o (powered_text (string mem d.name) (domain_of mem d).elements power ground (length (lost_paths t (domain_of mem d))) (map (retained_path l) (own_entries mem s.retentions d.name)))) (sym es)
-    ∙ ap (emit o) (report_is mem (store_of nums s) s log t d power ground e)
+line_told : (mem : Bytes) (nums : List ℕ) (s : State) (log : Bytes) (t : Setting) (d : Domain) → t.records ≡ model_of mem (store_of nums s) s log → (power ground_net : Bytes) (o : Out) (scope elements : List Bytes) (n : ℕ) → t.scope ≡ scope → elements ≡ (domain_of mem d).elements → n ≡ length (lost_paths t (domain_of mem d))
+    → emit o (powered_text (string mem d.name) elements power ground_net n (map (retained_path scope) (own_entries mem s.retentions d.name))) ≡ emit o (powered_line t (domain_of mem d) power ground_net)
+line_told mem nums s log t d e power ground_net o scope elements n es ee en =
+    ap (λ (l : List Bytes). emit o (powered_text (string mem d.name) l power ground_net n (map (retained_path scope) (own_entries mem s.retentions d.name)))) ee
+    ∙ ap (λ (m : ℕ). emit o (powered_text (string mem d.name) (domain_of mem d).elements power ground_net m (map (retained_path scope) (own_entries mem s.retentions d.name)))) en
+    ∙ ap (λ (l : List Bytes). emit o (powered_text (string mem d.name) (domain_of mem d).elements power ground_net (length (lost_paths t (domain_of mem d))) (map (retained_path l) (own_entries mem s.retentions d.name)))) (sym es)
+    ∙ ap (emit o) (report_is mem (store_of nums s) s log t d power ground_net e)
 
 fits_same : (d d' : List Module) (base base' : Module) (scope scope' entries entries' es : List Bytes) → d ≡ d' → base ≡ base' → scope ≡ scope' → entries ≡ entries' → walk_fits d base scope entries es ≡ walk_fits d' base' scope' entries' es
 fits_same d d' base base' scope scope' entries entries' es a b c e = rw (a, b, c, e)
@@ -201,12 +201,12 @@ module _ {A : Type 0} (mem : Bytes) (d : Domain) (z : A) (f : Bytes → Bytes �
   unfolding domain_of
   with_none e = rw e
 
-  without : (p : MaybeBelow) → d.power ≡ p → d.ground ≡ Not-below → with_supplies (domain_of mem d) z f ≡ z
+  without : (p : MaybeBelow) → d.power ≡ p → d.ground_net ≡ Not-below → with_supplies (domain_of mem d) z f ≡ z
   unfolding domain_of
   without Not-below e n = rw e
   without (Given-below b) e n = rw (e, n)
 
-  with_both : (p q : Below) → d.power ≡ Given-below p → d.ground ≡ Given-below q → with_supplies (domain_of mem d) z f ≡ f (below_of mem p) (below_of mem q)
+  with_both : (p q : Below) → d.power ≡ Given-below p → d.ground_net ≡ Given-below q → with_supplies (domain_of mem d) z f ≡ f (below_of mem p) (below_of mem q)
   unfolding domain_of
   with_both p q e n = rw (e, n)
 
@@ -242,11 +242,11 @@ module _ (job : Bytes) (nums : List ℕ) (count k : ℕ) (files area path : Byte
   pub no_power : Bare (files ++ area) d at o report r → d.power ≡ Not-below → OneTold job nums count k files area path from top s ports isolated d (glue ▸ at) glue o report r
   no_power b e = bare_told (λ A z f. with_none (files ++ area) d z f e) b
 
-  pub no_ground : Bare (files ++ area) d at o report r → d.ground ≡ Not-below → OneTold job nums count k files area path from top s ports isolated d (glue ▸ at) glue o report r
+  pub no_ground : Bare (files ++ area) d at o report r → d.ground_net ≡ Not-below → OneTold job nums count k files area path from top s ports isolated d (glue ▸ at) glue o report r
   no_ground b e = bare_told (λ A z f. without (files ++ area) d z f d.power refl e) b
 
 pub both_told : (job : Bytes) (nums : List ℕ) (count k : ℕ) (files area path : Bytes) (from : ℕ) (top : Bytes) (s : State) (ports : List ℕ) (isolated : ℕ) (d : Domain) (p q : Below) (g : Out) (glue : Bytes) (o : Out) (report : Bytes) (r : Told)
-    → SuppliedTold job nums count k files area path from top s ports isolated d p q g glue o report r → d.power ≡ Given-below p → d.ground ≡ Given-below q → OneTold job nums count k files area path from top s ports isolated d g glue o report r
+    → SuppliedTold job nums count k files area path from top s ports isolated d p q g glue o report r → d.power ≡ Given-below p → d.ground_net ≡ Given-below q → OneTold job nums count k files area path from top s ports isolated d g glue o report r
 both_told job nums count k files area path from top s ports isolated d p q g glue o report r x e f =
     record {
       told = λ t st.

@@ -53,14 +53,14 @@ fn texts<'a>(
     ensures { Texts (files.now ++ area.now) (parts path.now from) xs rs ports.now isolated d p g (table_names (files.now ++ area.now) elements.now m) (below (parts path.now from) (paths_of text.now ends.now n)) n (glue.old ▸ at.glue) glue.new (report.old ▸ at.report) report.new result }
 {
     let power = below_name(files, area, p);
-    let ground = below_name(files, area, g);
+    let ground_net = below_name(files, area, g);
     let name = d.name;
     let a = powered_glue(
         glue, at.glue, job, files, area, path, from, top, xs, ports, isolated, text, ends, n, name,
-        power, ground,
+        power, ground_net,
     );
     let b = powered_line(
-        report, at.report, files, area, path, from, rs, name, power, ground, elements, m, n,
+        report, at.report, files, area, path, from, rs, name, power, ground_net, elements, m, n,
     );
     Told {
         over: false,
@@ -230,8 +230,8 @@ fn domain<'a>(
     let MaybeBelow::Given(p) = power else {
         return bare(files, area, d, report, at);
     };
-    let ground = d.ground;
-    let MaybeBelow::Given(g) = ground else {
+    let ground_net = d.ground_net;
+    let MaybeBelow::Given(g) = ground_net else {
         return bare(files, area, d, report, at);
     };
     supplied(

@@ -150,15 +150,15 @@ module _ (mem : Bytes) (d : List Module) (base : Module) (x : Domain) where
   unfolding domain_of
   no_power o n e = rw e (record { text = sym (no_line o); count = omega arith; few = omega arith })
 
-  no_ground_by : (p : MaybeBelow) (o : Out) (n : ℕ) → x.power ≡ p → x.ground ≡ Not-below → Told 65 o n (remarks d base (domain_of mem x)) o n
+  no_ground_by : (p : MaybeBelow) (o : Out) (n : ℕ) → x.power ≡ p → x.ground_net ≡ Not-below → Told 65 o n (remarks d base (domain_of mem x)) o n
   unfolding domain_of
   no_ground_by Not-below o n q e = rw q (record { text = sym (no_line o); count = omega arith; few = omega arith })
   no_ground_by (Given-below b) o n q e = rw (q, e) (record { text = sym (no_line o); count = omega arith; few = omega arith })
 
-  pub no_ground : (o : Out) (n : ℕ) → x.ground ≡ Not-below → Told 65 o n (remarks d base (domain_of mem x)) o n
+  pub no_ground : (o : Out) (n : ℕ) → x.ground_net ≡ Not-below → Told 65 o n (remarks d base (domain_of mem x)) o n
   no_ground o n e = no_ground_by x.power o n refl e
 
-  pub with_both : (p g : Below) (o : Out) (n : ℕ) (o' : Out) (n' : ℕ) → Told 65 o n (missing d base (string mem x.name) (domain_of mem x).elements) o' n' → x.power ≡ Given-below p → x.ground ≡ Given-below g → Told 65 o n (remarks d base (domain_of mem x)) o' n'
+  pub with_both : (p g : Below) (o : Out) (n : ℕ) (o' : Out) (n' : ℕ) → Told 65 o n (missing d base (string mem x.name) (domain_of mem x).elements) o' n' → x.power ≡ Given-below p → x.ground_net ≡ Given-below g → Told 65 o n (remarks d base (domain_of mem x)) o' n'
   unfolding domain_of
   with_both p g o n o' n' t e f = rw (e, f) t
 

@@ -157,8 +157,8 @@ fn of_domain<'a>(
     let MaybeBelow::Given(_) = power else {
         return at;
     };
-    let ground = d.ground;
-    let MaybeBelow::Given(_) = ground else {
+    let ground_net = d.ground_net;
+    let MaybeBelow::Given(_) = ground_net else {
         return at;
     };
     not_found(out, at, job, nums, count, k, files, area, d)

@@ -12,13 +12,13 @@ pub fn domain(out: &mut [u8], at: usize, x: Domain) -> usize
     let name = x.name;
     let elements = x.elements;
     let power = x.power;
-    let ground = x.ground;
+    let ground_net = x.ground_net;
     let scope = x.scope;
     let o1 = stored(out, at, name);
     let o2 = stored(out, o1, elements);
     let o3 = flag(out, o2, x.whole);
     let o4 = maybe_below(out, o3, power);
-    let o5 = maybe_below(out, o4, ground);
+    let o5 = maybe_below(out, o4, ground_net);
     stored(out, o5, scope)
 }
 
@@ -63,7 +63,7 @@ pub fn isolation(out: &mut [u8], at: usize, x: Isolation) -> usize
     let signal = x.signal;
     let sense = x.sense;
     let power = x.power;
-    let ground = x.ground;
+    let ground_net = x.ground_net;
     let o1 = stored(out, at, name);
     let o2 = stored(out, o1, domain);
     let o3 = maybe(out, o2, applies);
@@ -73,7 +73,7 @@ pub fn isolation(out: &mut [u8], at: usize, x: Isolation) -> usize
     let o7 = maybe(out, o6, signal);
     let o8 = maybe(out, o7, sense);
     let o9 = maybe(out, o8, power);
-    maybe(out, o9, ground)
+    maybe(out, o9, ground_net)
 }
 
 pub fn retention(out: &mut [u8], at: usize, x: Retention) -> usize

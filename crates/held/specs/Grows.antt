@@ -46,11 +46,11 @@ module _ (e f : Stored → ℕ) (h : (s : Stored) → f s ≤ e s) where
       record {
         scope = le_trans (h s.head.scope) (le_trans v.scope k);
         top = le_trans (maybe_le s.head.top) (le_trans v.top k);
-        domains = within_by (of_domain e) (of_domain f) (λ d. both_le (h d.name) (both_le (h d.elements) (both_le (maybe_below_le d.power) (both_le (maybe_below_le d.ground) (h d.scope))))) k v.domains;
+        domains = within_by (of_domain e) (of_domain f) (λ d. both_le (h d.name) (both_le (h d.elements) (both_le (maybe_below_le d.power) (both_le (maybe_below_le d.ground_net) (h d.scope))))) k v.domains;
         nets = within_by (of_below e) (of_below f) below_le k v.nets;
         ports = within_by (of_port e) (of_port f) (λ p. both_le (below_le p.name) (maybe_le p.direction)) k v.ports;
         switches = within_by (of_switch e) (of_switch f) (λ x. both_le (h x.name) (both_le (maybe_le x.domain) (both_le (h x.scope) (both_le (h x.input) (both_le (h x.output) (h x.controls)))))) k v.switches;
-        isolations = within_by (of_isolation e) (of_isolation f) (λ x. both_le (h x.name) (both_le (h x.domain) (both_le (maybe_le x.applies) (both_le (h x.scope) (both_le (h x.elements) (both_le (maybe_le x.clamp) (both_le (maybe_le x.signal) (both_le (maybe_le x.sense) (both_le (maybe_le x.power) (maybe_le x.ground)))))))))) k v.isolations;
+        isolations = within_by (of_isolation e) (of_isolation f) (λ x. both_le (h x.name) (both_le (h x.domain) (both_le (maybe_le x.applies) (both_le (h x.scope) (both_le (h x.elements) (both_le (maybe_le x.clamp) (both_le (maybe_le x.signal) (both_le (maybe_le x.sense) (both_le (maybe_le x.power) (maybe_le x.ground_net)))))))))) k v.isolations;
         retentions = within_by (of_retention e) (of_retention f) (λ x. both_le (h x.name) (both_le (h x.domain) (both_le (h x.scope) (h x.elements)))) k v.retentions;
         shifters = within_by (of_shifter e) (of_shifter f) (λ x. both_le (h x.name) (h x.domain)) k v.shifters;
         portstates = within_by (of_port_state e) (of_port_state f) (λ x. below_le x.name) k v.portstates;

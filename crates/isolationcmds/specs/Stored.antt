@@ -51,7 +51,7 @@ module _ (mem : Bytes) (words : List ℕ) (n : ℕ) where
   ws = words_from mem words n 1
 
   -- ---- a new one
-  module _ (scope : Stored) (named : Span) (domain applies elements clamp signal sense power ground : Found)
+  module _ (scope : Stored) (named : Span) (domain applies elements clamp signal sense power ground_net : Found)
       (a0 : Reads mem words n (name_of (words_from mem words n 1)) named)
       (a1 : Finds mem words n (option_of (ascii "-domain") (words_from mem words n 1)) domain)
       (a2 : Finds mem words n (option_of (ascii "-applies_to") (words_from mem words n 1)) applies)
@@ -60,9 +60,9 @@ module _ (mem : Bytes) (words : List ℕ) (n : ℕ) where
       (a5 : Finds mem words n (option_of (ascii "-isolation_signal") (words_from mem words n 1)) signal)
       (a6 : Finds mem words n (option_of (ascii "-isolation_sense") (words_from mem words n 1)) sense)
       (a7 : Finds mem words n (option_of (ascii "-isolation_power_net") (words_from mem words n 1)) power)
-      (a8 : Finds mem words n (option_of (ascii "-isolation_ground_net") (words_from mem words n 1)) ground) where
+      (a8 : Finds mem words n (option_of (ascii "-isolation_ground_net") (words_from mem words n 1)) ground_net) where
     abbrev made : Isolation
-    made = record { name = stored_of named; domain = found_or domain; applies = maybe_found applies; scope = scope; elements = found_or elements; clamp = maybe_found clamp; signal = maybe_found signal; sense = maybe_found sense; power = maybe_found power; ground = maybe_found ground }
+    made = record { name = stored_of named; domain = found_or domain; applies = maybe_found applies; scope = scope; elements = found_or elements; clamp = maybe_found clamp; signal = maybe_found signal; sense = maybe_found sense; power = maybe_found power; ground_net = maybe_found ground_net }
 
     pub isolation_is : IsolationIs mem words n scope made
     unfolding isolation_of new_strategy
@@ -77,7 +77,7 @@ module _ (mem : Bytes) (words : List ℕ) (n : ℕ) where
             signal = maybe_found_lem mem words n (option_of (ascii "-isolation_signal") ws) signal a5 i;
             sense = or_else (maybe_found_lem mem words n (option_of (ascii "-isolation_sense") ws) sense a6 i) (ascii "high");
             power = maybe_found_lem mem words n (option_of (ascii "-isolation_power_net") ws) power a7 i;
-            ground = maybe_found_lem mem words n (option_of (ascii "-isolation_ground_net") ws) ground a8 i;
+            ground_net = maybe_found_lem mem words n (option_of (ascii "-isolation_ground_net") ws) ground_net a8 i;
           };
           within = λ e z m h l. all_bounds (λ s. e (span_of s)) made m
               (record {
@@ -90,24 +90,24 @@ module _ (mem : Bytes) (words : List ℕ) (n : ℕ) where
                 signal = le_trans (maybe_by mem words n e z (option_of (ascii "-isolation_signal") ws) signal a5) l;
                 sense = le_trans (maybe_by mem words n e z (option_of (ascii "-isolation_sense") ws) sense a6) l;
                 power = le_trans (maybe_by mem words n e z (option_of (ascii "-isolation_power_net") ws) power a7) l;
-                ground = le_trans (maybe_by mem words n e z (option_of (ascii "-isolation_ground_net") ws) ground a8) l;
+                ground_net = le_trans (maybe_by mem words n e z (option_of (ascii "-isolation_ground_net") ws) ground_net a8) l;
               });
         }
 
     -- as the code has them
-    pub isolation_made : (n0 d0 e0 : Stored) (p0 c0 s0 t0 w0 g0 : Maybe) → n0 ≡ stored_of named → d0 ≡ found_or domain → p0 ≡ maybe_found applies → e0 ≡ found_or elements → c0 ≡ maybe_found clamp → s0 ≡ maybe_found signal → t0 ≡ maybe_found sense → w0 ≡ maybe_found power → g0 ≡ maybe_found ground → IsolationIs mem words n scope (record { name = n0; domain = d0; applies = p0; scope = scope; elements = e0; clamp = c0; signal = s0; sense = t0; power = w0; ground = g0 })
+    pub isolation_made : (n0 d0 e0 : Stored) (p0 c0 s0 t0 w0 g0 : Maybe) → n0 ≡ stored_of named → d0 ≡ found_or domain → p0 ≡ maybe_found applies → e0 ≡ found_or elements → c0 ≡ maybe_found clamp → s0 ≡ maybe_found signal → t0 ≡ maybe_found sense → w0 ≡ maybe_found power → g0 ≡ maybe_found ground_net → IsolationIs mem words n scope (record { name = n0; domain = d0; applies = p0; scope = scope; elements = e0; clamp = c0; signal = s0; sense = t0; power = w0; ground_net = g0 })
     isolation_made n0 d0 e0 p0 c0 s0 t0 w0 g0 q0 q1 q2 q3 q4 q5 q6 q7 q8 = rw (q0, q1, q2, q3, q4, q5, q6, q7, q8) isolation_is
 
   -- ---- one renewed
-  module _ (x : Isolation) (scope elements : Stored) (applies clamp signal sense power ground : Found)
+  module _ (x : Isolation) (scope elements : Stored) (applies clamp signal sense power ground_net : Found)
       (a2 : Finds mem words n (option_of (ascii "-applies_to") (words_from mem words n 1)) applies)
       (a4 : Finds mem words n (option_of (ascii "-clamp_value") (words_from mem words n 1)) clamp)
       (a5 : Finds mem words n (option_of (ascii "-isolation_signal") (words_from mem words n 1)) signal)
       (a6 : Finds mem words n (option_of (ascii "-isolation_sense") (words_from mem words n 1)) sense)
       (a7 : Finds mem words n (option_of (ascii "-isolation_power_net") (words_from mem words n 1)) power)
-      (a8 : Finds mem words n (option_of (ascii "-isolation_ground_net") (words_from mem words n 1)) ground) where
+      (a8 : Finds mem words n (option_of (ascii "-isolation_ground_net") (words_from mem words n 1)) ground_net) where
     abbrev again : Isolation
-    again = record { name = x.name; domain = x.domain; applies = found_else applies x.applies; scope = scope; elements = elements; clamp = found_else clamp x.clamp; signal = found_else signal x.signal; sense = found_else sense x.sense; power = found_else power x.power; ground = found_else ground x.ground }
+    again = record { name = x.name; domain = x.domain; applies = found_else applies x.applies; scope = scope; elements = elements; clamp = found_else clamp x.clamp; signal = found_else signal x.signal; sense = found_else sense x.sense; power = found_else power x.power; ground_net = found_else ground_net x.ground_net }
 
     pub renewed_is : RenewedIs mem words n x scope elements again
     unfolding isolation_of renewed
@@ -122,7 +122,7 @@ module _ (mem : Bytes) (words : List ℕ) (n : ℕ) where
             signal = else_found (option_of (ascii "-isolation_signal") ws) signal x.signal a5 i;
             sense = else_or (option_of (ascii "-isolation_sense") ws) sense x.sense (ascii "high") a6 i;
             power = else_found (option_of (ascii "-isolation_power_net") ws) power x.power a7 i;
-            ground = else_found (option_of (ascii "-isolation_ground_net") ws) ground x.ground a8 i;
+            ground_net = else_found (option_of (ascii "-isolation_ground_net") ws) ground_net x.ground_net a8 i;
           };
           within = λ e z m b h g l.
               let o : Bounds (λ s. e (span_of s)) x m = bounds_of (λ s. e (span_of s)) x m b in
@@ -137,11 +137,11 @@ module _ (mem : Bytes) (words : List ℕ) (n : ℕ) where
                 signal = else_by e z m l (option_of (ascii "-isolation_signal") ws) signal x.signal a5 o.signal;
                 sense = else_by e z m l (option_of (ascii "-isolation_sense") ws) sense x.sense a6 o.sense;
                 power = else_by e z m l (option_of (ascii "-isolation_power_net") ws) power x.power a7 o.power;
-                ground = else_by e z m l (option_of (ascii "-isolation_ground_net") ws) ground x.ground a8 o.ground;
+                ground_net = else_by e z m l (option_of (ascii "-isolation_ground_net") ws) ground_net x.ground_net a8 o.ground_net;
               });
         }
 
-    pub renewed_made : (p0 c0 s0 t0 w0 g0 : Maybe) → p0 ≡ found_else applies x.applies → c0 ≡ found_else clamp x.clamp → s0 ≡ found_else signal x.signal → t0 ≡ found_else sense x.sense → w0 ≡ found_else power x.power → g0 ≡ found_else ground x.ground → RenewedIs mem words n x scope elements (record { name = x.name; domain = x.domain; applies = p0; scope = scope; elements = elements; clamp = c0; signal = s0; sense = t0; power = w0; ground = g0 })
+    pub renewed_made : (p0 c0 s0 t0 w0 g0 : Maybe) → p0 ≡ found_else applies x.applies → c0 ≡ found_else clamp x.clamp → s0 ≡ found_else signal x.signal → t0 ≡ found_else sense x.sense → w0 ≡ found_else power x.power → g0 ≡ found_else ground_net x.ground_net → RenewedIs mem words n x scope elements (record { name = x.name; domain = x.domain; applies = p0; scope = scope; elements = elements; clamp = c0; signal = s0; sense = t0; power = w0; ground_net = g0 })
     renewed_made p0 c0 s0 t0 w0 g0 q2 q4 q5 q6 q7 q8 = rw (q2, q4, q5, q6, q7, q8) renewed_is
 
   -- ---- one controlled
@@ -149,7 +149,7 @@ module _ (mem : Bytes) (words : List ℕ) (n : ℕ) where
       (a5 : Finds mem words n (option_of (ascii "-isolation_signal") (words_from mem words n 1)) signal)
       (a6 : Finds mem words n (option_of (ascii "-isolation_sense") (words_from mem words n 1)) sense) where
     abbrev signalled : Isolation
-    signalled = record { name = x.name; domain = x.domain; applies = x.applies; scope = x.scope; elements = x.elements; clamp = x.clamp; signal = found_else signal x.signal; sense = found_else sense x.sense; power = x.power; ground = x.ground }
+    signalled = record { name = x.name; domain = x.domain; applies = x.applies; scope = x.scope; elements = x.elements; clamp = x.clamp; signal = found_else signal x.signal; sense = found_else sense x.sense; power = x.power; ground_net = x.ground_net }
 
     pub controlled_is : ControlledIs mem words n x signalled
     unfolding isolation_of
@@ -164,7 +164,7 @@ module _ (mem : Bytes) (words : List ℕ) (n : ℕ) where
             signal = else_found (option_of (ascii "-isolation_signal") ws) signal x.signal a5 i;
             sense = else_or (option_of (ascii "-isolation_sense") ws) sense x.sense (ascii "high") a6 i;
             power = maybe_of mem x.power;
-            ground = maybe_of mem x.ground;
+            ground_net = maybe_of mem x.ground_net;
           };
           within = λ e z m b l.
               let o : Bounds (λ s. e (span_of s)) x m = bounds_of (λ s. e (span_of s)) x m b in
@@ -179,11 +179,11 @@ module _ (mem : Bytes) (words : List ℕ) (n : ℕ) where
                 signal = else_by e z m l (option_of (ascii "-isolation_signal") ws) signal x.signal a5 o.signal;
                 sense = else_by e z m l (option_of (ascii "-isolation_sense") ws) sense x.sense a6 o.sense;
                 power = o.power;
-                ground = o.ground;
+                ground_net = o.ground_net;
               });
         }
 
-    pub controlled_made : (s0 t0 : Maybe) → s0 ≡ found_else signal x.signal → t0 ≡ found_else sense x.sense → ControlledIs mem words n x (record { name = x.name; domain = x.domain; applies = x.applies; scope = x.scope; elements = x.elements; clamp = x.clamp; signal = s0; sense = t0; power = x.power; ground = x.ground })
+    pub controlled_made : (s0 t0 : Maybe) → s0 ≡ found_else signal x.signal → t0 ≡ found_else sense x.sense → ControlledIs mem words n x (record { name = x.name; domain = x.domain; applies = x.applies; scope = x.scope; elements = x.elements; clamp = x.clamp; signal = s0; sense = t0; power = x.power; ground_net = x.ground_net })
     controlled_made s0 t0 q5 q6 = rw (q5, q6) controlled_is
 
 -- ---- elements only where there are some

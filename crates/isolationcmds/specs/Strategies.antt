@@ -28,7 +28,7 @@ new_strategy scope ws =
       signal = option_of (ascii "-isolation_signal") ws;
       sense = or_else (option_of (ascii "-isolation_sense") ws) (ascii "high");
       power = option_of (ascii "-isolation_power_net") ws;
-      ground = option_of (ascii "-isolation_ground_net") ws;
+      ground_net = option_of (ascii "-isolation_ground_net") ws;
     }
 
 -- a strategy with what the words give anew, and with these elements
@@ -43,7 +43,7 @@ renewed ws elements s =
       signal = given (option_of (ascii "-isolation_signal") ws) s.signal;
       sense = or_else (option_of (ascii "-isolation_sense") ws) s.sense;
       power = given (option_of (ascii "-isolation_power_net") ws) s.power;
-      ground = given (option_of (ascii "-isolation_ground_net") ws) s.ground;
+      ground_net = given (option_of (ascii "-isolation_ground_net") ws) s.ground_net;
     }
 
 -- its elements are those of the words, where they give some

@@ -38,7 +38,7 @@ fn isolation<'a>(
     let signal = option(files, area, words, n, b"-isolation_signal");
     let sense = option(files, area, words, n, b"-isolation_sense");
     let power = option(files, area, words, n, b"-isolation_power_net");
-    let ground = option(files, area, words, n, b"-isolation_ground_net");
+    let ground_net = option(files, area, words, n, b"-isolation_ground_net");
     Isolation {
         name: narrow(named),
         domain: or_empty(domain),
@@ -49,7 +49,7 @@ fn isolation<'a>(
         signal: as_maybe(signal),
         sense: as_maybe(sense),
         power: as_maybe(power),
-        ground: as_maybe(ground),
+        ground_net: as_maybe(ground_net),
     }
 }
 
@@ -71,7 +71,7 @@ fn updated<'a>(
     let signal = option(files, area, words, n, b"-isolation_signal");
     let sense = option(files, area, words, n, b"-isolation_sense");
     let power = option(files, area, words, n, b"-isolation_power_net");
-    let ground = option(files, area, words, n, b"-isolation_ground_net");
+    let ground_net = option(files, area, words, n, b"-isolation_ground_net");
     let named = x.name;
     let domain = x.domain;
     let old_applies = x.applies;
@@ -79,7 +79,7 @@ fn updated<'a>(
     let old_signal = x.signal;
     let old_sense = x.sense;
     let old_power = x.power;
-    let old_ground = x.ground;
+    let old_ground = x.ground_net;
     Isolation {
         name: named,
         domain: domain,
@@ -90,7 +90,7 @@ fn updated<'a>(
         signal: given(signal, old_signal),
         sense: given(sense, old_sense),
         power: given(power, old_power),
-        ground: given(ground, old_ground),
+        ground_net: given(ground_net, old_ground),
     }
 }
 
@@ -232,7 +232,7 @@ fn controlled<'a>(
     let old_signal = x.signal;
     let old_sense = x.sense;
     let power = x.power;
-    let ground = x.ground;
+    let ground_net = x.ground_net;
     Isolation {
         name: named,
         domain: domain,
@@ -243,7 +243,7 @@ fn controlled<'a>(
         signal: given(signal, old_signal),
         sense: given(sense, old_sense),
         power: power,
-        ground: ground,
+        ground_net: ground_net,
     }
 }
 

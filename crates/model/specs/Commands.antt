@@ -86,7 +86,7 @@ domain_command m ws =
       name = name_of ws;
       elements = all_below m (option_list "-elements" ws) ++ cond (has_flag (ascii "-include_scope") ws) (m.scope ∷ []) [];
       power = none;
-      ground = none;
+      ground_net = none;
       scope = m.scope;
     } ∷ []))
 
@@ -107,7 +107,7 @@ connect_command m ws =
 
 -- ---- set_domain_supply_net: both supplies of the first domain of the name are set anew
 abbrev pub supplied : Option Bytes → Option Bytes → Domain → Domain
-supplied p g d = record { name = d.name; elements = d.elements; power = p; ground = g; scope = d.scope }
+supplied p g d = record { name = d.name; elements = d.elements; power = p; ground_net = g; scope = d.scope }
 
 unfoldable pub supply_command : Model → List Bytes → Model
 supply_command m ws =
@@ -180,7 +180,7 @@ new_isolation m ws =
       signal = option_of (ascii "-isolation_signal") ws;
       sense = or_else (option_of (ascii "-isolation_sense") ws) (ascii "high");
       power = option_of (ascii "-isolation_power_net") ws;
-      ground = option_of (ascii "-isolation_ground_net") ws;
+      ground_net = option_of (ascii "-isolation_ground_net") ws;
     }
 
 -- what is given is set anew, elements only where there are some
@@ -195,7 +195,7 @@ updated m ws s =
       signal = given (option_of (ascii "-isolation_signal") ws) s.signal;
       sense = or_else (option_of (ascii "-isolation_sense") ws) s.sense;
       power = given (option_of (ascii "-isolation_power_net") ws) s.power;
-      ground = given (option_of (ascii "-isolation_ground_net") ws) s.ground;
+      ground_net = given (option_of (ascii "-isolation_ground_net") ws) s.ground_net;
     }
 
 abbrev pub added : Model → List Bytes → Model
@@ -221,7 +221,7 @@ controlled ws s =
       signal = given (option_of (ascii "-isolation_signal") ws) s.signal;
       sense = or_else (option_of (ascii "-isolation_sense") ws) s.sense;
       power = s.power;
-      ground = s.ground;
+      ground_net = s.ground_net;
     }
 
 unfoldable pub control_command : Model → List Bytes → Model

@@ -10,7 +10,7 @@ pub record Domain : Type 0 where
   pub elements : List Bytes
   -- the primary power and ground nets
   pub power : Option Bytes
-  pub ground : Option Bytes
+  pub ground_net : Option Bytes
   pub scope : Bytes
 
 pub record SupplyPort : Type 0 where
@@ -61,7 +61,7 @@ pub record Isolation : Type 0 where
   pub signal : Option Bytes
   pub sense : Bytes
   pub power : Option Bytes
-  pub ground : Option Bytes
+  pub ground_net : Option Bytes
 
 pub record Retention : Type 0 where
   pub name : Bytes

@@ -146,8 +146,8 @@ module _ (e : ℕ) (m : Model) (f : Few e m) (w : Bytes) (ws : List Bytes) where
   few_domain : Fits (option_value "-elements" ws) → Few e (domain_command m ws)
   unfolding domain_command
   few_domain h =
-      few_domains e m f (m.domains ++ (record { name = name_of ws; elements = all_below m (option_list "-elements" ws) ++ cond (has_flag (ascii "-include_scope") ws) (m.scope ∷ []) []; power = none; ground = none; scope = m.scope } ∷ []))
-      (within_snoc (λ (d : Domain). length d.elements) (record { name = name_of ws; elements = all_below m (option_list "-elements" ws) ++ cond (has_flag (ascii "-include_scope") ws) (m.scope ∷ []) []; power = none; ground = none; scope = m.scope }) f.domains (size (has_flag (ascii "-include_scope") ws)))
+      few_domains e m f (m.domains ++ (record { name = name_of ws; elements = all_below m (option_list "-elements" ws) ++ cond (has_flag (ascii "-include_scope") ws) (m.scope ∷ []) []; power = none; ground_net = none; scope = m.scope } ∷ []))
+      (within_snoc (λ (d : Domain). length d.elements) (record { name = name_of ws; elements = all_below m (option_list "-elements" ws) ++ cond (has_flag (ascii "-include_scope") ws) (m.scope ∷ []) []; power = none; ground_net = none; scope = m.scope }) f.domains (size (has_flag (ascii "-include_scope") ws)))
     where
       size : (b : Bool) → length (all_below m (option_list "-elements" ws) ++ cond b (m.scope ∷ []) []) ≤ 65
       size true = omega (arith, length-append (all_below m (option_list "-elements" ws)) (m.scope ∷ []), below_size m (option_list "-elements" ws), few_option "-elements" ws h)

@@ -28,9 +28,9 @@ pub record Powered {l : Lent} {t g p r o : Bytes} (a : Accepted l t g p r o) (d 
   pub back : List Domain
   pub stands : a.records.domains ≡ front ++ d ∷ back
   pub power : Bytes
-  pub ground : Bytes
+  pub ground_net : Bytes
   pub has_power : d.power ≡ some power
-  pub has_ground : d.ground ≡ some ground
+  pub has_ground : d.ground_net ≡ some ground_net
 
 -- some element of the domain reaches the path q "by at most 32 undimensioned instances, through no retained path, to a losable name"
 abbrev pub Reached : {l : Lent} {t g p r o : Bytes} → Accepted l t g p r o → Domain → Bytes → Type 0
@@ -49,26 +49,26 @@ module _ (l : Lent) (t g p r o : Bytes) (a : Accepted l t g p r o) (d : Domain) 
   once = listed_once a.job.modules a.base a.path (retained_entries a.records) d.elements
 
   -- 3c: the report has the domain's line
-  pub report_line : r ≡ (report_head (setting_in a) ++ report_for (setting_in a) h.front) ++ (powered_line (setting_in a) d h.power h.ground ++ (report_for (setting_in a) h.back ++ report_tail (setting_in a)))
-  report_line = a.report_is ∙ report_has_line (setting_in a) h.front d h.back h.stands h.power h.ground h.has_power h.has_ground
+  pub report_line : r ≡ (report_head (setting_in a) ++ report_for (setting_in a) h.front) ++ (powered_line (setting_in a) d h.power h.ground_net ++ (report_for (setting_in a) h.back ++ report_tail (setting_in a)))
+  report_line = a.report_is ∙ report_has_line (setting_in a) h.front d h.back h.stands h.power h.ground_net h.has_power h.has_ground
 
   -- and it says how many signals there are
-  pub line_bytes : powered_line (setting_in a) d h.power h.ground ≡
-      ascii "power domain " ++ (d.name ++ (ascii ": elements [" ++ (joined (ascii ", ") d.elements ++ (ascii "], power " ++ (h.power ++ (ascii ", ground " ++ (h.ground ++ (ascii ", "
+  pub line_bytes : powered_line (setting_in a) d h.power h.ground_net ≡
+      ascii "power domain " ++ (d.name ++ (ascii ": elements [" ++ (joined (ascii ", ") d.elements ++ (ascii "], power " ++ (h.power ++ (ascii ", ground " ++ (h.ground_net ++ (ascii ", "
       ++ (decimal (length (listed a d)) ++ (ascii " corruptible signals" ++ (exempt (own_retained (setting_in a) d) ++ ascii "\n")))))))))))
-  line_bytes = line_says (setting_in a) d h.power h.ground
+  line_bytes = line_says (setting_in a) d h.power h.ground_net
 
   -- "the number printed in the report line, as decimal digits, is the length of that list"
   pub number_is : (is_decimal (decimal (length (listed a d))) ≡ true) × (value_from 0 (decimal (length (listed a d))) ≡ length (listed a d))
-  number_is = number_printed (setting_in a) a.within d its h.power h.ground h.has_power h.has_ground
+  number_is = number_printed (setting_in a) a.within d its h.power h.ground_net h.has_power h.has_ground
 
   -- "exactly the number of different paths that some element of it reaches"
   pub number_of_paths : NumberOf (Reached a d) (value_from 0 (decimal (length (listed a d))))
   number_of_paths = subst (NumberOf (Reached a d)) (sym number_is.1) (listed_number a.job.modules a.base a.path (retained_entries a.records) d.elements)
 
   -- 3d: the domain's two blocks in the glue
-  pub glue_blocks : g ≡ (glue_head (setting_in a) ++ glue_for (setting_in a) h.front) ++ (wire d h.power h.ground ++ (always_of (setting_in a) d ++ (initial_of (setting_in a) d ++ glue_for (setting_in a) h.back)))
-  glue_blocks = a.glue_is ∙ glue_has_blocks (setting_in a) h.front d h.back h.stands h.power h.ground h.has_power h.has_ground
+  pub glue_blocks : g ≡ (glue_head (setting_in a) ++ glue_for (setting_in a) h.front) ++ (wire d h.power h.ground_net ++ (always_of (setting_in a) d ++ (initial_of (setting_in a) d ++ glue_for (setting_in a) h.back)))
+  glue_blocks = a.glue_is ∙ glue_has_blocks (setting_in a) h.front d h.back h.stands h.power h.ground_net h.has_power h.has_ground
 
   -- "where no domain, strategy or isolation signal has an LF in its name": the force lines of each are one for each path of the list, in its order
   pub always_forces : names_on_one_line a.records ≡ true → force_lines (always_of (setting_in a) d) ≡ map force_line (listed a d)

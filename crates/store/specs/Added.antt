@@ -98,7 +98,7 @@ variable_added s a b =
 -- ---- a record changed
 
 abbrev pub supplied_by : Domain → MaybeBelow → MaybeBelow → Domain
-supplied_by d p g = record { name = d.name; elements = d.elements; whole = d.whole; power = p; ground = g; scope = d.scope }
+supplied_by d p g = record { name = d.name; elements = d.elements; whole = d.whole; power = p; ground_net = g; scope = d.scope }
 
 abbrev pub domain_set : State → ℕ → Domain → State
 domain_set s i x = with_domains s (record { n = s.domains.n; all = set s.domains.all i x })

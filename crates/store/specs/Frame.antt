@@ -94,8 +94,8 @@ module _ (n : ℕ) (mem mem' : Bytes) (e : take n mem' ≡ take n mem) where
       let b : end_of d.elements ≤ n = omega arith in
       let c : end_of d.scope ≤ n = omega arith in
       let p : of_maybe_below end_of d.power ≤ n = omega arith in
-      let g : of_maybe_below end_of d.ground ≤ n = omega arith in
-      rw (string_same d.name a, string_same d.elements b, string_same d.scope c, maybe_below_same d.power p, maybe_below_same d.ground g)
+      let g : of_maybe_below end_of d.ground_net ≤ n = omega arith in
+      rw (string_same d.name a, string_same d.elements b, string_same d.scope c, maybe_below_same d.power p, maybe_below_same d.ground_net g)
 
   port_same : (x : Port) → of_port end_of x ≤ n → port_of mem' x ≡ port_of mem x
   unfolding port_of
@@ -121,25 +121,25 @@ module _ (n : ℕ) (mem mem' : Bytes) (e : take n mem' ≡ take n mem) where
   isolation_same : (x : Isolation) → of_isolation end_of x ≤ n → isolation_of mem' x ≡ isolation_of mem x
   unfolding isolation_of
   isolation_same x h =
-      let p0 : end_of x.name ≤ n = max_first (end_of x.name) (max (end_of x.domain) (max (of_maybe end_of x.applies) (max (end_of x.scope) (max (end_of x.elements) (max (of_maybe end_of x.clamp) (max (of_maybe end_of x.signal) (max (of_maybe end_of x.sense) (max (of_maybe end_of x.power) (of_maybe end_of x.ground))))))))) h in
-      let h1 : max (end_of x.domain) (max (of_maybe end_of x.applies) (max (end_of x.scope) (max (end_of x.elements) (max (of_maybe end_of x.clamp) (max (of_maybe end_of x.signal) (max (of_maybe end_of x.sense) (max (of_maybe end_of x.power) (of_maybe end_of x.ground)))))))) ≤ n = max_rest (end_of x.name) (max (end_of x.domain) (max (of_maybe end_of x.applies) (max (end_of x.scope) (max (end_of x.elements) (max (of_maybe end_of x.clamp) (max (of_maybe end_of x.signal) (max (of_maybe end_of x.sense) (max (of_maybe end_of x.power) (of_maybe end_of x.ground))))))))) h in
-      let p1 : end_of x.domain ≤ n = max_first (end_of x.domain) (max (of_maybe end_of x.applies) (max (end_of x.scope) (max (end_of x.elements) (max (of_maybe end_of x.clamp) (max (of_maybe end_of x.signal) (max (of_maybe end_of x.sense) (max (of_maybe end_of x.power) (of_maybe end_of x.ground)))))))) h1 in
-      let h2 : max (of_maybe end_of x.applies) (max (end_of x.scope) (max (end_of x.elements) (max (of_maybe end_of x.clamp) (max (of_maybe end_of x.signal) (max (of_maybe end_of x.sense) (max (of_maybe end_of x.power) (of_maybe end_of x.ground))))))) ≤ n = max_rest (end_of x.domain) (max (of_maybe end_of x.applies) (max (end_of x.scope) (max (end_of x.elements) (max (of_maybe end_of x.clamp) (max (of_maybe end_of x.signal) (max (of_maybe end_of x.sense) (max (of_maybe end_of x.power) (of_maybe end_of x.ground)))))))) h1 in
-      let p2 : of_maybe end_of x.applies ≤ n = max_first (of_maybe end_of x.applies) (max (end_of x.scope) (max (end_of x.elements) (max (of_maybe end_of x.clamp) (max (of_maybe end_of x.signal) (max (of_maybe end_of x.sense) (max (of_maybe end_of x.power) (of_maybe end_of x.ground))))))) h2 in
-      let h3 : max (end_of x.scope) (max (end_of x.elements) (max (of_maybe end_of x.clamp) (max (of_maybe end_of x.signal) (max (of_maybe end_of x.sense) (max (of_maybe end_of x.power) (of_maybe end_of x.ground)))))) ≤ n = max_rest (of_maybe end_of x.applies) (max (end_of x.scope) (max (end_of x.elements) (max (of_maybe end_of x.clamp) (max (of_maybe end_of x.signal) (max (of_maybe end_of x.sense) (max (of_maybe end_of x.power) (of_maybe end_of x.ground))))))) h2 in
-      let p3 : end_of x.scope ≤ n = max_first (end_of x.scope) (max (end_of x.elements) (max (of_maybe end_of x.clamp) (max (of_maybe end_of x.signal) (max (of_maybe end_of x.sense) (max (of_maybe end_of x.power) (of_maybe end_of x.ground)))))) h3 in
-      let h4 : max (end_of x.elements) (max (of_maybe end_of x.clamp) (max (of_maybe end_of x.signal) (max (of_maybe end_of x.sense) (max (of_maybe end_of x.power) (of_maybe end_of x.ground))))) ≤ n = max_rest (end_of x.scope) (max (end_of x.elements) (max (of_maybe end_of x.clamp) (max (of_maybe end_of x.signal) (max (of_maybe end_of x.sense) (max (of_maybe end_of x.power) (of_maybe end_of x.ground)))))) h3 in
-      let p4 : end_of x.elements ≤ n = max_first (end_of x.elements) (max (of_maybe end_of x.clamp) (max (of_maybe end_of x.signal) (max (of_maybe end_of x.sense) (max (of_maybe end_of x.power) (of_maybe end_of x.ground))))) h4 in
-      let h5 : max (of_maybe end_of x.clamp) (max (of_maybe end_of x.signal) (max (of_maybe end_of x.sense) (max (of_maybe end_of x.power) (of_maybe end_of x.ground)))) ≤ n = max_rest (end_of x.elements) (max (of_maybe end_of x.clamp) (max (of_maybe end_of x.signal) (max (of_maybe end_of x.sense) (max (of_maybe end_of x.power) (of_maybe end_of x.ground))))) h4 in
-      let p5 : of_maybe end_of x.clamp ≤ n = max_first (of_maybe end_of x.clamp) (max (of_maybe end_of x.signal) (max (of_maybe end_of x.sense) (max (of_maybe end_of x.power) (of_maybe end_of x.ground)))) h5 in
-      let h6 : max (of_maybe end_of x.signal) (max (of_maybe end_of x.sense) (max (of_maybe end_of x.power) (of_maybe end_of x.ground))) ≤ n = max_rest (of_maybe end_of x.clamp) (max (of_maybe end_of x.signal) (max (of_maybe end_of x.sense) (max (of_maybe end_of x.power) (of_maybe end_of x.ground)))) h5 in
-      let p6 : of_maybe end_of x.signal ≤ n = max_first (of_maybe end_of x.signal) (max (of_maybe end_of x.sense) (max (of_maybe end_of x.power) (of_maybe end_of x.ground))) h6 in
-      let h7 : max (of_maybe end_of x.sense) (max (of_maybe end_of x.power) (of_maybe end_of x.ground)) ≤ n = max_rest (of_maybe end_of x.signal) (max (of_maybe end_of x.sense) (max (of_maybe end_of x.power) (of_maybe end_of x.ground))) h6 in
-      let p7 : of_maybe end_of x.sense ≤ n = max_first (of_maybe end_of x.sense) (max (of_maybe end_of x.power) (of_maybe end_of x.ground)) h7 in
-      let h8 : max (of_maybe end_of x.power) (of_maybe end_of x.ground) ≤ n = max_rest (of_maybe end_of x.sense) (max (of_maybe end_of x.power) (of_maybe end_of x.ground)) h7 in
-      let p8 : of_maybe end_of x.power ≤ n = max_first (of_maybe end_of x.power) (of_maybe end_of x.ground) h8 in
-      let h9 : of_maybe end_of x.ground ≤ n = max_rest (of_maybe end_of x.power) (of_maybe end_of x.ground) h8 in
-      rw (string_same x.name p0, string_same x.domain p1, maybe_same x.applies p2, string_same x.scope p3, string_same x.elements p4, maybe_same x.clamp p5, maybe_same x.signal p6, maybe_same x.sense p7, maybe_same x.power p8, maybe_same x.ground h9)
+      let p0 : end_of x.name ≤ n = max_first (end_of x.name) (max (end_of x.domain) (max (of_maybe end_of x.applies) (max (end_of x.scope) (max (end_of x.elements) (max (of_maybe end_of x.clamp) (max (of_maybe end_of x.signal) (max (of_maybe end_of x.sense) (max (of_maybe end_of x.power) (of_maybe end_of x.ground_net))))))))) h in
+      let h1 : max (end_of x.domain) (max (of_maybe end_of x.applies) (max (end_of x.scope) (max (end_of x.elements) (max (of_maybe end_of x.clamp) (max (of_maybe end_of x.signal) (max (of_maybe end_of x.sense) (max (of_maybe end_of x.power) (of_maybe end_of x.ground_net)))))))) ≤ n = max_rest (end_of x.name) (max (end_of x.domain) (max (of_maybe end_of x.applies) (max (end_of x.scope) (max (end_of x.elements) (max (of_maybe end_of x.clamp) (max (of_maybe end_of x.signal) (max (of_maybe end_of x.sense) (max (of_maybe end_of x.power) (of_maybe end_of x.ground_net))))))))) h in
+      let p1 : end_of x.domain ≤ n = max_first (end_of x.domain) (max (of_maybe end_of x.applies) (max (end_of x.scope) (max (end_of x.elements) (max (of_maybe end_of x.clamp) (max (of_maybe end_of x.signal) (max (of_maybe end_of x.sense) (max (of_maybe end_of x.power) (of_maybe end_of x.ground_net)))))))) h1 in
+      let h2 : max (of_maybe end_of x.applies) (max (end_of x.scope) (max (end_of x.elements) (max (of_maybe end_of x.clamp) (max (of_maybe end_of x.signal) (max (of_maybe end_of x.sense) (max (of_maybe end_of x.power) (of_maybe end_of x.ground_net))))))) ≤ n = max_rest (end_of x.domain) (max (of_maybe end_of x.applies) (max (end_of x.scope) (max (end_of x.elements) (max (of_maybe end_of x.clamp) (max (of_maybe end_of x.signal) (max (of_maybe end_of x.sense) (max (of_maybe end_of x.power) (of_maybe end_of x.ground_net)))))))) h1 in
+      let p2 : of_maybe end_of x.applies ≤ n = max_first (of_maybe end_of x.applies) (max (end_of x.scope) (max (end_of x.elements) (max (of_maybe end_of x.clamp) (max (of_maybe end_of x.signal) (max (of_maybe end_of x.sense) (max (of_maybe end_of x.power) (of_maybe end_of x.ground_net))))))) h2 in
+      let h3 : max (end_of x.scope) (max (end_of x.elements) (max (of_maybe end_of x.clamp) (max (of_maybe end_of x.signal) (max (of_maybe end_of x.sense) (max (of_maybe end_of x.power) (of_maybe end_of x.ground_net)))))) ≤ n = max_rest (of_maybe end_of x.applies) (max (end_of x.scope) (max (end_of x.elements) (max (of_maybe end_of x.clamp) (max (of_maybe end_of x.signal) (max (of_maybe end_of x.sense) (max (of_maybe end_of x.power) (of_maybe end_of x.ground_net))))))) h2 in
+      let p3 : end_of x.scope ≤ n = max_first (end_of x.scope) (max (end_of x.elements) (max (of_maybe end_of x.clamp) (max (of_maybe end_of x.signal) (max (of_maybe end_of x.sense) (max (of_maybe end_of x.power) (of_maybe end_of x.ground_net)))))) h3 in
+      let h4 : max (end_of x.elements) (max (of_maybe end_of x.clamp) (max (of_maybe end_of x.signal) (max (of_maybe end_of x.sense) (max (of_maybe end_of x.power) (of_maybe end_of x.ground_net))))) ≤ n = max_rest (end_of x.scope) (max (end_of x.elements) (max (of_maybe end_of x.clamp) (max (of_maybe end_of x.signal) (max (of_maybe end_of x.sense) (max (of_maybe end_of x.power) (of_maybe end_of x.ground_net)))))) h3 in
+      let p4 : end_of x.elements ≤ n = max_first (end_of x.elements) (max (of_maybe end_of x.clamp) (max (of_maybe end_of x.signal) (max (of_maybe end_of x.sense) (max (of_maybe end_of x.power) (of_maybe end_of x.ground_net))))) h4 in
+      let h5 : max (of_maybe end_of x.clamp) (max (of_maybe end_of x.signal) (max (of_maybe end_of x.sense) (max (of_maybe end_of x.power) (of_maybe end_of x.ground_net)))) ≤ n = max_rest (end_of x.elements) (max (of_maybe end_of x.clamp) (max (of_maybe end_of x.signal) (max (of_maybe end_of x.sense) (max (of_maybe end_of x.power) (of_maybe end_of x.ground_net))))) h4 in
+      let p5 : of_maybe end_of x.clamp ≤ n = max_first (of_maybe end_of x.clamp) (max (of_maybe end_of x.signal) (max (of_maybe end_of x.sense) (max (of_maybe end_of x.power) (of_maybe end_of x.ground_net)))) h5 in
+      let h6 : max (of_maybe end_of x.signal) (max (of_maybe end_of x.sense) (max (of_maybe end_of x.power) (of_maybe end_of x.ground_net))) ≤ n = max_rest (of_maybe end_of x.clamp) (max (of_maybe end_of x.signal) (max (of_maybe end_of x.sense) (max (of_maybe end_of x.power) (of_maybe end_of x.ground_net)))) h5 in
+      let p6 : of_maybe end_of x.signal ≤ n = max_first (of_maybe end_of x.signal) (max (of_maybe end_of x.sense) (max (of_maybe end_of x.power) (of_maybe end_of x.ground_net))) h6 in
+      let h7 : max (of_maybe end_of x.sense) (max (of_maybe end_of x.power) (of_maybe end_of x.ground_net)) ≤ n = max_rest (of_maybe end_of x.signal) (max (of_maybe end_of x.sense) (max (of_maybe end_of x.power) (of_maybe end_of x.ground_net))) h6 in
+      let p7 : of_maybe end_of x.sense ≤ n = max_first (of_maybe end_of x.sense) (max (of_maybe end_of x.power) (of_maybe end_of x.ground_net)) h7 in
+      let h8 : max (of_maybe end_of x.power) (of_maybe end_of x.ground_net) ≤ n = max_rest (of_maybe end_of x.sense) (max (of_maybe end_of x.power) (of_maybe end_of x.ground_net)) h7 in
+      let p8 : of_maybe end_of x.power ≤ n = max_first (of_maybe end_of x.power) (of_maybe end_of x.ground_net) h8 in
+      let h9 : of_maybe end_of x.ground_net ≤ n = max_rest (of_maybe end_of x.power) (of_maybe end_of x.ground_net) h8 in
+      rw (string_same x.name p0, string_same x.domain p1, maybe_same x.applies p2, string_same x.scope p3, string_same x.elements p4, maybe_same x.clamp p5, maybe_same x.signal p6, maybe_same x.sense p7, maybe_same x.power p8, maybe_same x.ground_net h9)
 
   retention_same : (x : Retention) → of_retention end_of x ≤ n → retention_of mem' x ≡ retention_of mem x
   unfolding retention_of

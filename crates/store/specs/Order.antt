@@ -45,7 +45,7 @@ module _ (e : Stored → ℕ) where
   of_maybe_below (Given-below b) = of_below b
 
   abbrev pub of_domain : Domain → ℕ
-  of_domain d = max (e d.name) (max (e d.elements) (max (of_maybe_below d.power) (max (of_maybe_below d.ground) (e d.scope))))
+  of_domain d = max (e d.name) (max (e d.elements) (max (of_maybe_below d.power) (max (of_maybe_below d.ground_net) (e d.scope))))
 
   abbrev pub of_port : Port → ℕ
   of_port p = max (of_below p.name) (of_maybe p.direction)
@@ -56,7 +56,7 @@ module _ (e : Stored → ℕ) where
   abbrev pub of_isolation : Isolation → ℕ
   of_isolation x =
       max (e x.name) (max (e x.domain) (max (of_maybe x.applies) (max (e x.scope) (max (e x.elements)
-      (max (of_maybe x.clamp) (max (of_maybe x.signal) (max (of_maybe x.sense) (max (of_maybe x.power) (of_maybe x.ground)))))))))
+      (max (of_maybe x.clamp) (max (of_maybe x.signal) (max (of_maybe x.sense) (max (of_maybe x.power) (of_maybe x.ground_net)))))))))
 
   abbrev pub of_retention : Retention → ℕ
   of_retention x = max (e x.name) (max (e x.domain) (max (e x.scope) (e x.elements)))

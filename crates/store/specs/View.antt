@@ -37,7 +37,7 @@ domain_of mem d =
       name = string mem d.name;
       elements = list_below mem d.scope d.elements ++ cond d.whole (string mem d.scope ∷ []) [];
       power = maybe_below_of mem d.power;
-      ground = maybe_below_of mem d.ground;
+      ground_net = maybe_below_of mem d.ground_net;
       scope = string mem d.scope;
     }
 
@@ -81,7 +81,7 @@ isolation_of mem x =
       signal = maybe_of mem x.signal;
       sense = or_else (maybe_of mem x.sense) (ascii "high");
       power = maybe_of mem x.power;
-      ground = maybe_of mem x.ground;
+      ground_net = maybe_of mem x.ground_net;
     }
 
 unfoldable pub retention_of : Bytes → Retention → Retentionʳ

@@ -15,7 +15,7 @@ fn no_domain(z: Stored) -> Domain {
         elements: z,
         whole: false,
         power: MaybeBelow::Not,
-        ground: MaybeBelow::Not,
+        ground_net: MaybeBelow::Not,
         scope: z,
     }
 }
@@ -45,7 +45,7 @@ fn no_isolation(z: Stored) -> Isolation {
         signal: Maybe::Not,
         sense: Maybe::Not,
         power: Maybe::Not,
-        ground: Maybe::Not,
+        ground_net: Maybe::Not,
     }
 }
 

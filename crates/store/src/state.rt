@@ -12,7 +12,7 @@ pub struct Domain {
     pub elements: Stored,
     pub whole: bool,
     pub power: MaybeBelow,
-    pub ground: MaybeBelow,
+    pub ground_net: MaybeBelow,
     pub scope: Stored,
 }
 
@@ -49,7 +49,7 @@ pub struct Isolation {
     pub signal: Maybe,
     pub sense: Maybe,
     pub power: Maybe,
-    pub ground: Maybe,
+    pub ground_net: Maybe,
 }
 
 #[derive(Clone, Copy)]
@@ -186,8 +186,8 @@ pub struct State {
 }
 
 // The domain with these supplies.
-pub fn supplied(d: Domain, power: MaybeBelow, ground: MaybeBelow) -> Domain
-    ensures { result ≡ supplied_by d power ground }
+pub fn supplied(d: Domain, power: MaybeBelow, ground_net: MaybeBelow) -> Domain
+    ensures { result ≡ supplied_by d power ground_net }
 {
     let name = d.name;
     let elements = d.elements;
@@ -197,7 +197,7 @@ pub fn supplied(d: Domain, power: MaybeBelow, ground: MaybeBelow) -> Domain
         elements: elements,
         whole: d.whole,
         power: power,
-        ground: ground,
+        ground_net: ground_net,
         scope: scope,
     }
 }

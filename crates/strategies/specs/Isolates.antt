@@ -33,7 +33,7 @@ shown_by s i key net =
     }
 
 abbrev pub no_strategy : Isolation
-no_strategy = record { name = []; domain = []; applies_to = none; elements = []; clamp = []; signal = none; sense = []; power = none; ground = none }
+no_strategy = record { name = []; domain = []; applies_to = none; elements = []; clamp = []; signal = none; sense = []; power = none; ground_net = none }
 
 abbrev pub isolated_of : Setting → List Isolation → Kept → Isolated
 isolated_of s is x = shown_by s (get_or is x.strategy no_strategy) x.key x.net

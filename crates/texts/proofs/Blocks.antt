@@ -71,49 +71,49 @@ report_for s ds = each (domain_line s) ds
 abbrev pub report_tail : Setting → Bytes
 report_tail s = each shifter_line s.records.shifters ++ (each table_line s.records.tables ++ each warning_line (warnings_of s))
 
-with_both : {A : Type 0} (d : Domain) (z : A) (f : Bytes → Bytes → A) (power ground : Bytes) → d.power ≡ some power → d.ground ≡ some ground → with_supplies d z f ≡ f power ground
-with_both d z f power ground p g = rw (p, g)
+with_both : {A : Type 0} (d : Domain) (z : A) (f : Bytes → Bytes → A) (power ground_net : Bytes) → d.power ≡ some power → d.ground_net ≡ some ground_net → with_supplies d z f ≡ f power ground_net
+with_both d z f power ground_net p g = rw (p, g)
 
 three : (a b c r : Bytes) → ((a ++ b) ++ c) ++ r ≡ a ++ (b ++ (c ++ r))
 three a b c r = rw (append_assoc (a ++ b) c r, append_assoc a b (c ++ r))
 
 -- ---- every domain with both supplies, wherever it stands among the domains
 
-module _ (s : Setting) (front : List Domain) (d : Domain) (back : List Domain) (stands : s.records.domains ≡ front ++ d ∷ back) (power ground : Bytes) (p : d.power ≡ some power) (g : d.ground ≡ some ground) where
+module _ (s : Setting) (front : List Domain) (d : Domain) (back : List Domain) (stands : s.records.domains ≡ front ++ d ∷ back) (power ground_net : Bytes) (p : d.power ≡ some power) (g : d.ground_net ≡ some ground_net) where
   -- 3d: "The blocks are parts of the glue as `generate` writes it: the definition of the glue exhibits them"
-  pub glue_has_blocks : glue_of s ≡ (glue_head s ++ glue_for s front) ++ (wire d power ground ++ (always_of s d ++ (initial_of s d ++ glue_for s back)))
+  pub glue_has_blocks : glue_of s ≡ (glue_head s ++ glue_for s front) ++ (wire d power ground_net ++ (always_of s d ++ (initial_of s d ++ glue_for s back)))
   unfolding glue_of ◌⊕◌
   glue_has_blocks =
       each_at (domain_glue s (isolation s).ports) (glue_head s) s.records.domains front d back stands
-      ∙ ap (λ (t : Bytes). (glue_head s ++ glue_for s front) ++ (t ++ glue_for s back)) (with_both d [] (powered_glue s (isolation s).ports d) power ground p g)
-      ∙ ap (λ (t : Bytes). (glue_head s ++ glue_for s front) ++ t) (three (wire d power ground) (always_of s d) (initial_of s d) (glue_for s back))
+      ∙ ap (λ (t : Bytes). (glue_head s ++ glue_for s front) ++ (t ++ glue_for s back)) (with_both d [] (powered_glue s (isolation s).ports d) power ground_net p g)
+      ∙ ap (λ (t : Bytes). (glue_head s ++ glue_for s front) ++ t) (three (wire d power ground_net) (always_of s d) (initial_of s d) (glue_for s back))
 
   -- 3c: the report has the domain's line
-  pub report_has_line : report_of s ≡ (report_head s ++ report_for s front) ++ (powered_line s d power ground ++ (report_for s back ++ report_tail s))
+  pub report_has_line : report_of s ≡ (report_head s ++ report_for s front) ++ (powered_line s d power ground_net ++ (report_for s back ++ report_tail s))
   unfolding report_of ◌⊕◌
   report_has_line =
       three (report_head s ++ report_for s s.records.domains) (each shifter_line s.records.shifters) (each table_line s.records.tables) (each warning_line (warnings_of s))
       ∙ ap (λ (t : Bytes). t ++ report_tail s) (each_at (domain_line s) (report_head s) s.records.domains front d back stands)
       ∙ append_assoc (report_head s ++ report_for s front) (domain_line s d ++ report_for s back) (report_tail s)
       ∙ ap (λ (t : Bytes). (report_head s ++ report_for s front) ++ t) (append_assoc (domain_line s d) (report_for s back) (report_tail s))
-      ∙ ap (λ (t : Bytes). (report_head s ++ report_for s front) ++ (t ++ (report_for s back ++ report_tail s))) (with_both d (unpowered_line d) (powered_line s d) power ground p g)
+      ∙ ap (λ (t : Bytes). (report_head s ++ report_for s front) ++ (t ++ (report_for s back ++ report_tail s))) (with_both d (unpowered_line d) (powered_line s d) power ground_net p g)
 
 -- which says how many signals there are: `.. ground G, N corruptible signals ..`, where N is the length of the list in decimal digits
-pub line_says : (s : Setting) (d : Domain) (power ground : Bytes) → powered_line s d power ground ≡
-    ascii "power domain " ++ (d.name ++ (ascii ": elements [" ++ (joined (ascii ", ") d.elements ++ (ascii "], power " ++ (power ++ (ascii ", ground " ++ (ground ++ (ascii ", "
+pub line_says : (s : Setting) (d : Domain) (power ground_net : Bytes) → powered_line s d power ground_net ≡
+    ascii "power domain " ++ (d.name ++ (ascii ": elements [" ++ (joined (ascii ", ") d.elements ++ (ascii "], power " ++ (power ++ (ascii ", ground " ++ (ground_net ++ (ascii ", "
     ++ (decimal (length (lost_paths s d)) ++ (ascii " corruptible signals" ++ (exempt (own_retained s d) ++ ascii "\n")))))))))))
 unfolding ◌⊕◌ fill filled adds turns arg pick
-line_says s d power ground = simp append_assoc
+line_says s d power ground_net = simp append_assoc
 
 -- ---- the number
 
-module _ (s : Setting) (within : fits s ≡ true) (d : Domain) (has : Mem d s.records.domains) (power ground : Bytes) (p : d.power ≡ some power) (g : d.ground ≡ some ground) where
+module _ (s : Setting) (within : fits s ≡ true) (d : Domain) (has : Mem d s.records.domains) (power ground_net : Bytes) (p : d.power ≡ some power) (g : d.ground_net ≡ some ground_net) where
   -- "its paths 1,024"
   pub few_paths : length (lost_paths s d) ≤ most_paths
   unfolding fits
   few_paths =
       let domains = both (all (domain_fits s) s.records.domains) _ within in
-      let this = sym (with_both d true _ power ground p g) ∙ all_at (domain_fits s) s.records.domains domains.0 has in
+      let this = sym (with_both d true _ power ground_net p g) ∙ all_at (domain_fits s) s.records.domains domains.0 has in
       let paths = both (leb (domain_entered s.design s.base s.scope (retained_entries s.records) d.elements) most_entered) _ this in
       let number = both (leb (length (lost_paths s d)) most_paths) (leb (path_bytes (lost_paths s d)) most_path_bytes) paths.1 in
       leb-true (length (lost_paths s d)) most_paths number.0

@@ -76,7 +76,7 @@ check_line d c =
 
 -- {0} the domain, {1} and {2} its supplies
 abbrev pub wire : Domain → Bytes → Bytes → Bytes
-wire d power ground = format3 "  wire upf_pd__{a} = upf__{b} & upf__{c};\n" d.name power ground
+wire d power ground_net = format3 "  wire upf_pd__{a} = upf__{b} & upf__{c};\n" d.name power ground_net
 
 -- {0} the domain, {1} the release lines, {2} the isolation checks, {3} the force lines
 unfoldable pub always_block : Domain → List Check → List Bytes → Bytes
@@ -88,7 +88,7 @@ unfoldable pub initial_block : Domain → List Bytes → Bytes
 initial_block d paths = format2 "  initial begin\n    if (upf_pd__{a} !== 1'b1) begin\n{1}    end\n  end\n" d.name (each force paths)
 
 abbrev pub powered_glue : Setting → List Isolated → Domain → Bytes → Bytes → Bytes
-powered_glue s ps d power ground = wire d power ground ⊕ always_block d (checks s ps d) (lost_paths s d) ⊕ initial_block d (lost_paths s d)
+powered_glue s ps d power ground_net = wire d power ground_net ⊕ always_block d (checks s ps d) (lost_paths s d) ⊕ initial_block d (lost_paths s d)
 
 -- ---- the report
 
@@ -102,8 +102,8 @@ exempt (e ∷ es) = format1 ", retention exempt: {0}" (joined (ascii ",") (e ∷
 
 -- {0} the domain, {1} its elements, {2} and {3} its supplies, {4} the number of the paths
 abbrev pub powered_line : Setting → Domain → Bytes → Bytes → Bytes
-powered_line s d power ground =
-    format5 "power domain {0}: elements [{1}], power {2}, ground {3}, {4} corruptible signals" d.name (joined (ascii ", ") d.elements) power ground (decimal (length (lost_paths s d)))
+powered_line s d power ground_net =
+    format5 "power domain {0}: elements [{1}], power {2}, ground {3}, {4} corruptible signals" d.name (joined (ascii ", ") d.elements) power ground_net (decimal (length (lost_paths s d)))
     ⊕ exempt (own_retained s d) ⊕ ascii "\n"
 
 abbrev pub unpowered_line : Domain → Bytes
@@ -118,7 +118,7 @@ not_found s d = map (λ (e : Bytes). format2 "power domain '{0}': element '{1}' 
 
 -- ---- "a domain with both supplies (the commands carried out left its record with a primary power and a primary ground net)"
 abbrev pub with_supplies : {A : Type 0} → Domain → A → (Bytes → Bytes → A) → A
-with_supplies d z f = on_some d.power z λ p. on_some d.ground z λ g. f p g
+with_supplies d z f = on_some d.power z λ p. on_some d.ground_net z λ g. f p g
 
 abbrev pub domain_glue : Setting → List Isolated → Domain → Bytes
 domain_glue s ps d = with_supplies d [] (powered_glue s ps d)

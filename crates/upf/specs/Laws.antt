@@ -8,7 +8,8 @@ use Rattle.text.specs.Ascii.{Bytes}
 use Rattle.text.specs.Compare.{same}
 use Rattle.text.specs.Scan.{any}
 use Rattle.text.specs.Sames.{no_true, both, same_refl, same_eq}
-use Rattle.out.specs.Clear.{cleared_from, cleared_all}
+use Rattle.out.specs.Clear.{cleared_from}
+use Rattle.out.proofs.Cleared.{cleared_all}
 use Rattle.joblines.specs.Job.{Module, Job}
 use Rattle.joblines.specs.Parse.{Parsed, parse}
 use Rattle.jobindex.specs.Index.{module_row, name_at, job_of}

@@ -14,7 +14,7 @@ supplied-requires : tie.Need-supplied-requires
 supplied-requires c κs = c.before.before.before.before.before.before.before.before.before.before.before.before.before.before.before.before.before.before.before.before.before.before.before.before.before.requires
 
 returns-3 : tie.Need-returns-3
-returns-3 c = both_told _ _ _ _ _ _ _ _ _ _ _ _ _ _ _ _ _ _ _ _ c.before.before.before.before.before.before.before.before.before.before.supplied.ensures c.before.before.before.before.before.before.before.before.before.before.before.before.before.before.before.before.before.before.before.before.power.given.1 c.before.before.before.before.before.before.before.before.before.before.before.before.before.before.before.before.before.ground.given.1
+returns-3 c = both_told _ _ _ _ _ _ _ _ _ _ _ _ _ _ _ _ _ _ _ _ c.before.before.before.before.before.before.before.before.before.before.supplied.ensures c.before.before.before.before.before.before.before.before.before.before.before.before.before.before.before.before.before.before.before.before.power.given.1 c.before.before.before.before.before.before.before.before.before.before.before.before.before.before.before.before.before.ground_net.given.1
 
 pub domain-spec : {M : Type 1} → statement M
 domain-spec =
