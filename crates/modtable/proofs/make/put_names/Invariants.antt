@@ -1,0 +1,11 @@
+-- `modtable::make::put_names` meets its contract: the names stored so far, and those behind the cursor, are all. Assumes nothing.
+use lib.ListN.{length}
+use Rattle.ports.specs.Cursors.{candidates_from}
+use Rattle.modtable.proofs.Names.{NamesOn}
+use Rattle.modtable.proofs.make.put_names.Given as goal
+
+abbrev pub invariant-loop-name : goal.invariant-loop-name
+invariant-loop-name l = NamesOn l.job l.index l.k l.inputs l.n l.initial.table l.table l.i l.c
+
+abbrev pub decreases-loop-name : goal.decreases-loop-name
+decreases-loop-name l = length (candidates_from l.job l.index l.k l.c)

@@ -1,0 +1,17 @@
+-- `paths::entry::retained` meets its contract: whether the path is one of the entries left. Assumes nothing.
+use Prim.Native.Nat.{◌-◌}
+use mathlib.Core.List.{[], ◌++◌}
+use Rattle.names.specs.Name.{name_of}
+use Rattle.nametable.specs.Table.{table_names}
+use Rattle.design.specs.Lists.{is_in}
+use Rattle.design.specs.Paths.{dotted}
+use Rattle.walk.specs.Walk.{retained_paths}
+use Rattle.paths.specs.Pieces.{entries_below}
+use Rattle.paths.proofs.Entries.{Among}
+use Rattle.paths.proofs.entry.retained.Given as goal
+
+abbrev pub invariant-loop-k : goal.invariant-loop-k
+invariant-loop-k l = Among (l.files ++ l.area) (dotted (name_of (l.files ++ l.area) l.e) ++ l.tail) l.table l.n (is_in (dotted (name_of (l.files ++ l.area) l.e) ++ l.tail) (retained_paths [] (entries_below l.below (table_names (l.files ++ l.area) l.table l.n)))) l.k
+
+abbrev pub decreases-loop-k : goal.decreases-loop-k
+decreases-loop-k l = l.n - l.k

@@ -1,0 +1,9 @@
+-- `refs::put` meets its contract. Assumes nothing.
+use Rattle.refs.proofs.Written.{written}
+use Rattle.refs.proofs.put.Goals as goal
+
+pub returns-then-not-dots : goal.returns-then-not-dots
+returns-then-not-dots c = search written
+
+pub returns-then-m-eq0 : goal.returns-then-m-eq0
+returns-then-m-eq0 c = search written

@@ -1,0 +1,15 @@
+-- `substitution::variable::last` meets its contract. The answer of the first n is that of the first k. Assumes nothing.
+use Prim.Native.Nat.{◌≤◌}
+use mathlib.Core.List.{◌++◌}
+use lib.ListN.{drop, take}
+use Rattle.substitution.proofs.Names.{Looks}
+use Rattle.substitution.specs.Written.{written}
+use Rattle.tcl.specs.Substitution.{known, lookup}
+use Rattle.substitution.specs.Stored.{variables}
+use Rattle.substitution.proofs.variable.last.Given as goal
+
+abbrev pub invariant-loop-k : goal.invariant-loop-k
+invariant-loop-k l = (l.k ≤ l.n) × Looks (l.files ++ l.known) l.vars (take l.size (written l.quoted (drop l.at l.body))) (lookup (variables (l.files ++ l.known) l.vars l.n) (take l.size (written l.quoted (drop l.at l.body)))) l.k
+
+abbrev pub decreases-loop-k : goal.decreases-loop-k
+decreases-loop-k l = l.k

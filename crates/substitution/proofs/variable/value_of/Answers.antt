@@ -1,0 +1,18 @@
+-- `substitution::variable::value_of` meets its contract. Assumes nothing.
+use Rattle.substitution.proofs.Names.{storeds}
+use Rattle.substitution.proofs.variable.value_of.Goals as goal
+
+pub returns-then-vars-k : goal.returns-then-vars-k
+returns-then-vars-k c = search storeds
+
+pub overflow_mul-k : goal.overflow_mul-k
+overflow_mul-k c = search storeds
+
+pub overflow_add-k : goal.overflow_add-k
+overflow_add-k c = search storeds
+
+pub pair-requires : goal.pair-requires
+pair-requires c = search storeds
+
+pub returns : goal.returns
+returns c = search storeds
