@@ -105,6 +105,7 @@ inputs_few m =
 -- ---- an accepted job
 
 all_at : {A : Type 0} (P : A → Type 0) (l : List A) → All P l → {x : A} → Mem x l → P x
+all_at {A = A} P [] h x4 = elim x4 [ ]
 all_at P (y ∷ l) h (here e) = rw e h.0
 all_at P (y ∷ l) h (there m) = all_at P l h.1 m
 

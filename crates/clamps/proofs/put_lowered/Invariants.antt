@@ -1,0 +1,15 @@
+-- `clamps::put_lowered` meets its contract: what is left is written behind what was. Assumes nothing.
+use mathlib.Core.List.{◌++◌}
+use mathlib.Core.Path.{◌≡◌}
+use lib.ListN.{length}
+use Rattle.out.specs.Emit.{emit, ◌▸◌}
+use Rattle.names.specs.Name.{name_of}
+use Rattle.texts.specs.Isolation.{lowered}
+use Rattle.clamps.proofs.Streams.{Puts}
+use Rattle.clamps.proofs.put_lowered.Given as goal
+
+abbrev pub invariant-loop-b : goal.invariant-loop-b
+invariant-loop-b l = (length l.out ≡ length l.initial.out) × Puts (l.files ++ l.area) (emit (l.initial.out ▸ l.at) (lowered (name_of (l.files ++ l.area) l.initial.x))) (l.out ▸ l.o) l.x
+
+abbrev pub decreases-loop-b : goal.decreases-loop-b
+decreases-loop-b l = length (name_of (l.files ++ l.area) l.x)

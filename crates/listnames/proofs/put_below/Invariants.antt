@@ -1,0 +1,14 @@
+-- `listnames::put_below` meets its contract: what is listed and what is left is the answer. Assumes nothing.
+use mathlib.Core.List.{◌++◌}
+use lib.ListN.{length, drop}
+use Rattle.spans.specs.Span.{bytes}
+use Rattle.entries.specs.Entry.{entries_left}
+use Rattle.names.specs.Scoped.{scoped}
+use Rattle.listnames.proofs.Turns.{Lists}
+use Rattle.listnames.proofs.put_below.Given as goal
+
+abbrev pub invariant-loop-s : goal.invariant-loop-s
+invariant-loop-s l = Lists (scoped (bytes (l.files ++ l.area) l.scope)) (l.files ++ l.area) l.text l.initial.table l.n l.table l.k l.at l.first
+
+abbrev pub decreases-loop-s : goal.decreases-loop-s
+decreases-loop-s l = length (entries_left l.first (drop l.at l.text))
