@@ -1,6 +1,8 @@
 // Replays the stored corpus: generated jobs with the texts of the reference, boundary and malformed jobs with number and place by hand.
 #![tactic(auto)]
 
-fn main() {
-    replay::replay(b"cases");
+use std::io;
+
+fn main(rt: HostRuntime) -> io::Result<()> {
+    replay::replay(&rt, "cases")
 }

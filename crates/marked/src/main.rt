@@ -1,6 +1,8 @@
 // Replays the marked runs and the traps of document 01.
 #![tactic(auto)]
 
-fn main() {
-    replay::replay(b"cases");
+use std::io;
+
+fn main(rt: HostRuntime) -> io::Result<()> {
+    replay::replay(&rt, "cases")
 }

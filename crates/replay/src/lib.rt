@@ -4,9 +4,13 @@
 // and the four texts, nothing between them.
 #![tactic(auto)]
 
-ghost use Rattle.std.specs.Prelude.{◌≤◌};
+ghost use Rattle.std.specs.Prelude.{◌≤◌, IfOk};
 
 use answers::Answer;
+use std::io::Read;
+use std::rt::Files;
+use std::{fs, io};
+use streams::read_full;
 use text::compare::same;
 use text::part::{part, peek};
 
@@ -60,12 +64,12 @@ fn due_by(line: &[u8]) -> Due {
 }
 
 // Reads the next n bytes of the file to the front of a buffer: whether there are so many, and there is room.
-fn read_front(file: i32, buf: &mut [u8], n: usize) -> bool {
+fn read_front<R: Read>(file: &mut R, buf: &mut [u8], n: usize) -> io::Result<bool> {
     if buf.len() < n {
-        return false;
+        return Ok(false);
     }
-    let got = io::read_full(file, &mut buf[..n]);
-    got == n
+    let got = read_full(file, &mut buf[..n])?;
+    Ok(got == n)
 }
 
 // Whether an answer has number, place and lengths that are due.
@@ -119,59 +123,51 @@ fn runs(job: &[u8], d: Due, glue: &[u8], pkg: &[u8], report: &[u8], log: &[u8]) 
 }
 
 // Reads a case's job and texts, and runs it.
-fn replayed(file: i32, d: Due) -> bool {
+fn replayed<R: Read>(file: &mut R, d: Due) -> io::Result<bool> {
     let mut job = [0u8; 65537];
     let mut glue = [0u8; 65536];
     let mut pkg = [0u8; 65536];
     let mut report = [0u8; 65536];
     let mut log = [0u8; 65536];
-    let there = read_front(file, &mut job, d.job)
-        & (read_front(file, &mut glue, d.glue)
-            & (read_front(file, &mut pkg, d.pkg)
-                & (read_front(file, &mut report, d.report) & read_front(file, &mut log, d.log))));
+    let there = read_front(file, &mut job, d.job)?
+        & (read_front(file, &mut glue, d.glue)?
+            & (read_front(file, &mut pkg, d.pkg)?
+                & (read_front(file, &mut report, d.report)? & read_front(file, &mut log, d.log)?)));
     if !there {
-        return false;
+        return Ok(false);
     }
-    runs(part(&job, 0, d.job), d, &glue, &pkg, &report, &log)
-}
-
-// Writes a number and what it counts.
-fn count(n: u64, what: &[u8]) {
-    io::print_decimal(1, n);
-    io::write_all(1, what);
+    Ok(runs(part(&job, 0, d.job), d, &glue, &pkg, &report, &log))
 }
 
 // The next case of the file: 0 where all is as it is due, 1 and a line with the case's number where it is not, 2 at the end.
-fn next(file: i32, k: u64) -> u64
-    ensures { result ≤ 2 }
+fn next<R: Read>(rt: &impl Print, file: &mut R, k: u64) -> io::Result<u64>
+    ensures { IfOk result (λ case. case ≤ 2) }
 {
     let mut line = [0u8; 49];
-    let n = io::read_full(file, &mut line);
+    let n = read_full(file, &mut line)?;
     if n == 0 {
-        return 2;
+        return Ok(2);
     }
-    let alike = replayed(file, due_by(&line));
+    let alike = replayed(file, due_by(&line))?;
     if alike {
-        return 0;
+        return Ok(0);
     }
-    count(k, b" differs\n");
-    1
+    println!(rt; "{k} differs")?;
+    Ok(1)
 }
 
 // Replays the cases of a file, and writes how many there are and how many of them are not as they are due.
-pub fn replay(path: &[u8]) {
-    let file = os::open_read(path);
+pub fn replay(rt: &(impl Files + Print), path: &str) -> io::Result<()> {
+    let mut file = fs::open(rt, path)?;
     let mut jobs: u64 = 0;
     let mut differences: u64 = 0;
     while jobs < 100000 {
-        let case = next(file, jobs);
+        let case = next(rt, &mut file, jobs)?;
         if case == 2 {
             break;
         }
         differences += case;
         jobs += 1;
     }
-    libc::close(file);
-    count(jobs, b" jobs, ");
-    count(differences, b" differences\n");
+    println!(rt; "{jobs} jobs, {differences} differences")
 }
