@@ -7,8 +7,7 @@ ghost use Rattle.jobc.specs.Told.{checked};
 use job::Answer;
 
 // What the job comes to, as one number; `index` gets the index of a job that is accepted.
-#[unsafe(no_mangle)]
-pub extern "C" fn upf_job_check(job: &[u8], index: &mut [u32]) -> u64
+pub fn upf_job_check(job: &[u8], index: &mut [u32]) -> u64
     ensures { result ≡ checked (length index.old) job.now }
 {
     if index.len() < 1280 {

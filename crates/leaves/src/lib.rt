@@ -11,30 +11,26 @@ ghost use Rattle.leaves.specs.Sample.{to_number, sample};
 
 use text::number::Num;
 
-#[unsafe(no_mangle)]
-pub extern "C" fn leaves_same(a: &[u8], b: &[u8]) -> bool
+pub fn leaves_same(a: &[u8], b: &[u8]) -> bool
     ensures { result ≡ same a.now b.now }
 {
     text::compare::same(a, b)
 }
 
-#[unsafe(no_mangle)]
-pub extern "C" fn leaves_starts_with(s: &[u8], p: &[u8]) -> bool
+pub fn leaves_starts_with(s: &[u8], p: &[u8]) -> bool
     ensures { result ≡ starts_with p.now s.now }
 {
     text::compare::starts_with(s, p)
 }
 
-#[unsafe(no_mangle)]
-pub extern "C" fn leaves_less(a: &[u8], b: &[u8]) -> bool
+pub fn leaves_less(a: &[u8], b: &[u8]) -> bool
     ensures { result ≡ less a.now b.now }
 {
     text::compare::less(a, b)
 }
 
 // The number that s is; 2 to the 32nd where it is none of at most `most`.
-#[unsafe(no_mangle)]
-pub extern "C" fn leaves_number(s: &[u8], most: u32) -> usize
+pub fn leaves_number(s: &[u8], most: u32) -> usize
     ensures { result ≡ to_number (number_of most s.now) }
 {
     match text::number::number(s, most) {
@@ -43,37 +39,32 @@ pub extern "C" fn leaves_number(s: &[u8], most: u32) -> usize
     }
 }
 
-#[unsafe(no_mangle)]
-pub extern "C" fn leaves_mangle(out: &mut [u8], piece: &[u8]) -> usize
+pub fn leaves_mangle(out: &mut [u8], piece: &[u8]) -> usize
     ensures { out.new ▸ result ≡ emit (out.old ▸ 0) (mangle piece.now) }
 {
     out::bytewise::mangle(out, 0, piece)
 }
 
-#[unsafe(no_mangle)]
-pub extern "C" fn leaves_dotted(out: &mut [u8], piece: &[u8]) -> usize
+pub fn leaves_dotted(out: &mut [u8], piece: &[u8]) -> usize
     ensures { out.new ▸ result ≡ emit (out.old ▸ 0) (dotted piece.now) }
 {
     out::bytewise::dotted(out, 0, piece)
 }
 
-#[unsafe(no_mangle)]
-pub extern "C" fn leaves_sv_str(out: &mut [u8], piece: &[u8]) -> usize
+pub fn leaves_sv_str(out: &mut [u8], piece: &[u8]) -> usize
     ensures { out.new ▸ result ≡ emit (out.old ▸ 0) (sv_str piece.now) }
 {
     out::bytewise::sv_str(out, 0, piece)
 }
 
-#[unsafe(no_mangle)]
-pub extern "C" fn leaves_decimal(out: &mut [u8], n: u64) -> usize
+pub fn leaves_decimal(out: &mut [u8], n: u64) -> usize
     ensures { out.new ▸ result ≡ emit (out.old ▸ 0) (decimal n) }
 {
     out::number::decimal(out, 0, n)
 }
 
 // A template with every kind of place.
-#[unsafe(no_mangle)]
-pub extern "C" fn leaves_fill<'a>(out: &mut [u8], x: &'a [u8], y: &'a [u8], z: &'a [u8]) -> usize
+pub fn leaves_fill<'a>(out: &mut [u8], x: &'a [u8], y: &'a [u8], z: &'a [u8]) -> usize
     ensures { out.new ▸ result ≡ emit (out.old ▸ 0) (sample x.now y.now z.now) }
 {
     out::template::fill3(

@@ -14,8 +14,7 @@ use job::Answer;
 use store::state::State;
 
 // The number of files of a job, 0 for one that is refused, and the row of the start file; `nums` gets the index of a job that is accepted.
-#[unsafe(no_mangle)]
-pub extern "C" fn readc_index(job: &[u8], nums: &mut [u32], first: &mut usize) -> usize
+pub fn readc_index(job: &[u8], nums: &mut [u32], first: &mut usize) -> usize
     requires { index_size ≤ length nums.old }
     ensures { Indexes job.now nums.old nums.new result first.new }
 {
@@ -45,8 +44,7 @@ fn records(dump: &mut [u8], tag: usize, s: State) -> usize
 
 // Reads the first `count` files of the index, beginning with file `first`: the refusal's number, 0 where there is none; its command, the place in the log,
 // and that in the dump of the records.
-#[unsafe(no_mangle)]
-pub extern "C" fn readc_read(
+pub fn readc_read(
     job: &[u8],
     files: &mut [u8],
     area: &mut [u8],

@@ -18,8 +18,7 @@ use entries::byte::Next as Read;
 use entries::item::Item;
 use spans::span::Found;
 
-#[unsafe(no_mangle)]
-pub extern "C" fn tclc_join(body: &[u8], area: &mut [u8]) -> usize
+pub fn tclc_join(body: &[u8], area: &mut [u8]) -> usize
     requires { 0 + length body.now ≤ length area.old }
     ensures { Wrote area.old area.new 0 (join body.now) result }
 {
@@ -27,8 +26,7 @@ pub extern "C" fn tclc_join(body: &[u8], area: &mut [u8]) -> usize
 }
 
 // The next command of the file that is the part of `len` bytes at `base`.
-#[unsafe(no_mangle)]
-pub extern "C" fn tclc_next(
+pub fn tclc_next(
     files: &[u8],
     base: usize,
     len: usize,
@@ -60,8 +58,7 @@ pub extern "C" fn tclc_next(
 }
 
 // The first entry of a value from `at` on.
-#[unsafe(no_mangle)]
-pub extern "C" fn tclc_entry(
+pub fn tclc_entry(
     v: &[u8],
     at: usize,
     first: bool,
@@ -86,16 +83,14 @@ pub extern "C" fn tclc_entry(
     }
 }
 
-#[unsafe(no_mangle)]
-pub extern "C" fn tclc_count(v: &[u8]) -> usize
+pub fn tclc_count(v: &[u8]) -> usize
     ensures { result ≡ length (list v.now) }
 {
     entries::item::count(v)
 }
 
 // Positional word k.
-#[unsafe(no_mangle)]
-pub extern "C" fn tclc_positional(
+pub fn tclc_positional(
     files: &[u8],
     area: &[u8],
     words: &[u32],
@@ -118,8 +113,7 @@ pub extern "C" fn tclc_positional(
 }
 
 // The value of an option.
-#[unsafe(no_mangle)]
-pub extern "C" fn tclc_option<'a>(
+pub fn tclc_option<'a>(
     files: &'a [u8],
     area: &'a [u8],
     words: &[u32],
@@ -141,28 +135,14 @@ pub extern "C" fn tclc_option<'a>(
     }
 }
 
-#[unsafe(no_mangle)]
-pub extern "C" fn tclc_flag<'a>(
-    files: &'a [u8],
-    area: &'a [u8],
-    words: &[u32],
-    n: usize,
-    key: &[u8],
-) -> bool
+pub fn tclc_flag<'a>(files: &'a [u8], area: &'a [u8], words: &[u32], n: usize, key: &[u8]) -> bool
     ensures { result ≡ has_flag key.now (words_from (files.now ++ area.now) words.now n 1) }
 {
     args::argument::flag(files, area, words, n, key)
 }
 
 // The next byte of an entry from i on.
-#[unsafe(no_mangle)]
-pub extern "C" fn tclc_byte(
-    raw: &[u8],
-    i: usize,
-    quoted: bool,
-    byte: &mut u8,
-    next: &mut usize,
-) -> u32
+pub fn tclc_byte(raw: &[u8], i: usize, quoted: bool, byte: &mut u8, next: &mut usize) -> u32
     ensures { entry_bytes quoted (drop i raw.now) ≡ next_of quoted raw.now (read_by result byte.new next.new) }
 {
     let r = entries::byte::next_byte(raw, i, quoted);

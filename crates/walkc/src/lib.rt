@@ -20,8 +20,7 @@ use names::name::Name;
 use spans::span::Span;
 
 // The number of modules of a job, 0 for one that is refused; `index` gets the index of a job that is accepted.
-#[unsafe(no_mangle)]
-pub extern "C" fn walkc_index(job: &[u8], index: &mut [u32]) -> usize
+pub fn walkc_index(job: &[u8], index: &mut [u32]) -> usize
     requires { index_size ≤ length index.old }
     ensures { result ≡ module_count (parse job.now) }
 {
@@ -33,14 +32,7 @@ pub extern "C" fn walkc_index(job: &[u8], index: &mut [u32]) -> usize
 }
 
 // Makes the table of the first `count` modules.
-#[unsafe(no_mangle)]
-pub extern "C" fn walkc_table(
-    job: &[u8],
-    index: &[u32],
-    count: usize,
-    inputs: &mut [u32],
-    table: &mut [u32],
-)
+pub fn walkc_table(job: &[u8], index: &[u32], count: usize, inputs: &mut [u32], table: &mut [u32])
     requires { MakeGiven job.now index.now count inputs.old table.old }
     ensures { Tabled job.now index.now count table.new }
 {
@@ -48,8 +40,7 @@ pub extern "C" fn walkc_table(
 }
 
 // Puts a name into row k of a table.
-#[unsafe(no_mangle)]
-pub extern "C" fn walkc_put(
+pub fn walkc_put(
     table: &mut [u32],
     k: usize,
     from: usize,
@@ -75,8 +66,7 @@ pub extern "C" fn walkc_put(
 }
 
 // The paths that a domain loses: whether a limit is passed.
-#[unsafe(no_mangle)]
-pub extern "C" fn walkc_paths(
+pub fn walkc_paths(
     job: &[u8],
     index: &[u32],
     count: usize,
