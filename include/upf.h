@@ -1,7 +1,7 @@
 /*
  * The power reader: a job in, four texts or a numbered refusal out.
  *
- * Link target/staticlib/libupf.a (made by `rt staticlib upf`; x86-64, Linux, the System V calling convention). The library calls nothing
+ * Link target/staticlib/libupf.a (made by `tools/build upf`; x86-64, Linux, the System V calling convention). The library calls nothing
  * but memcpy, memmove, memset and memcmp: it allocates nothing, opens nothing, keeps nothing between calls and has no state of its own. So it may be called from
  * several threads at a time, each lending its own memory.
  */

@@ -1,4 +1,4 @@
-//! The power reader for a program in Rust. Take this file as a module and link `target/staticlib/libupf.a` (`rt staticlib upf`).
+//! The power reader for a program in Rust. Take this file as a module and link `target/staticlib/libupf.a` (`tools/build upf`).
 //! `include/upf.h` has the numbers, the limits and the rules; what C must take care of, the borrows here see to.
 
 use std::fmt;
