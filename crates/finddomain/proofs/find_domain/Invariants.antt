@@ -1,0 +1,12 @@
+-- `finddomain::find_domain` meets its contract: the domains passed are not of the name. Assumes nothing.
+use Prim.Native.Nat.{◌-◌}
+use mathlib.Core.List.{◌++◌}
+use Rattle.made.specs.Firsts.{Looks}
+use Rattle.finddomain.specs.Named.{is_named}
+use Rattle.finddomain.proofs.find_domain.Given as goal
+
+abbrev pub invariant-loop-i : goal.invariant-loop-i
+invariant-loop-i l = Looks (is_named (l.files ++ l.area) l.name) l.t.all l.n l.i
+
+abbrev pub decreases-loop-i : goal.decreases-loop-i
+decreases-loop-i l = l.n - l.i

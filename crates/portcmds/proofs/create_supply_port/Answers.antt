@@ -1,0 +1,9 @@
+-- `portcmds::create_supply_port` meets its contract. Assumes nothing.
+use Rattle.portcmds.proofs.Laws.{ports}
+use Rattle.portcmds.proofs.create_supply_port.Goals as goal
+
+pub returns-then-b-ge32 : goal.returns-then-b-ge32
+returns-then-b-ge32 c = search ports
+
+pub returns : goal.returns
+returns c = search ports
