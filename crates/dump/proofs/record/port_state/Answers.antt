@@ -1,0 +1,14 @@
+-- `dump::record::port_state` meets its contract. Assumes nothing.
+use Rattle.dump.specs.Records.{port_state_text}
+use Rattle.out.specs.Emit.{wrote, ◌then◌, kept}
+use Rattle.dump.proofs.record.port_state.Goals as goal
+
+pub returns : goal.returns
+unfolding port_state_text
+returns c =
+    (wrote c.below-o1.ensures then
+    wrote c.number-o2.ensures then
+    wrote c.number.ensures).is
+
+pub shape_of-out : goal.shape_of-out
+shape_of-out c = kept (wrote (returns c))

@@ -1,0 +1,13 @@
+-- `dump::record::shifter` meets its contract. Assumes nothing.
+use Rattle.dump.specs.Records.{shifter_text}
+use Rattle.out.specs.Emit.{wrote, ◌then◌, kept}
+use Rattle.dump.proofs.record.shifter.Goals as goal
+
+pub returns : goal.returns
+unfolding shifter_text
+returns c =
+    (wrote c.stored-o1.ensures then
+    wrote c.stored.ensures).is
+
+pub shape_of-out : goal.shape_of-out
+shape_of-out c = kept (wrote (returns c))
