@@ -29,7 +29,7 @@ use Rattle.held.specs.Laws.{end_low, whole_model}
 use Rattle.job.specs.Reader.{JobRead}
 use Rattle.job.specs.declared.Answer.{Answer}
 use Rattle.job.specs.declared.Answer.TheVariants as answer
-use Rattle.reader.specs.Accepted.{accepted_starts}
+use Rattle.reader.proofs.AcceptedStarts.{accepted_starts}
 use Rattle.reader.specs.Whole.{reading_at, Starts, WasRead}
 use Rattle.scopes.specs.declared.go.Out.{Out}
 use Rattle.findscope.specs.Scopes.{Whole}

@@ -1,7 +1,7 @@
 -- Laws: an accepted job, indexed, can be read whole, and its reading is the job's. Assumes nothing.
-use Rattle.std.specs.Prelude.{ℕ, zero, suc, ◌+◌, ◌≤◌, ◌<◌, ◌^◌, ◌≡◌, refl, Bool, true, false, not, ◌||◌, List, [], ◌∷◌, map, length, drop}
+use Rattle.std.specs.Prelude.{ℕ, zero, suc, ◌≤◌, ◌≡◌, refl, Bool, true, false, not, ◌||◌, List, [], ◌∷◌, map, length, drop}
 use Rattle.std.proofs.Common.{arith, sym, ap, ◌∙◌}
-use Rattle.std.proofs.Math.Option.{none, some}
+use Rattle.std.proofs.Math.Option.{some}
 use Rattle.text.specs.Ascii.{Bytes}
 use Rattle.text.specs.Compare.{same}
 use Rattle.text.specs.Scan.{any}
@@ -17,7 +17,6 @@ use Rattle.jobfacts.specs.Bodies.{body_size, size_more, accepted_bodies}
 use Rattle.joined.specs.Joined.{body_bytes}
 use Rattle.read.specs.Reading.{file_named}
 use Rattle.loads.specs.Steps.{files_in}
-use Rattle.reader.specs.Whole.{Starts}
 use Rattle.std.proofs.lemmas.Bool.{not-true}
 
 -- ---- of distinct paths, each names its own file
@@ -71,7 +70,7 @@ module _ (job files area nums : List ℕ) (head : Header) (j : Job) (v : Indexed
   good : WellFormed j
   good = accepted_good job j p
 
-  few : head.files ≤ 32
+  pub few : head.files ≤ 32
   few = omega (arith, good.lists.files_few, ap length files_are, rows_length (file_at job nums) head.files)
 
   pub start_named : file_named (files_in job nums head.files) (path_at job nums head.startfile) ≡ some (body_at job nums head.startfile)
@@ -83,16 +82,3 @@ module _ (job files area nums : List ℕ) (head : Header) (j : Job) (v : Indexed
   bodies_within =
       let q : body_size (files_in job nums head.files) ≡ body_size j.files = ap body_size files_are in
       omega (arith, q, bodies_size job nums head.files, (accepted_bodies job j p).0, (accepted_bodies job j p).1)
-
-  pub accepted_starts : length files ≡ 65536 → 24576 ≤ length area → length files + length area < 2 ^ 32 → 16384 ≤ length nums → Starts job files area nums head.files head.startfile
-  accepted_starts f a s n =
-      record {
-        few = few;
-        start_row = v.start_row;
-        start_is = start_named;
-        bodies = omega (arith, f, bodies_within);
-        files_short = omega (arith, f);
-        area_long = a;
-        small = s;
-        nums_long = n;
-      }

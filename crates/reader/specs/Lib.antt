@@ -3,5 +3,4 @@ pub mod Load
 pub mod File
 pub mod Turn
 pub mod Whole
-pub mod Opens
 pub mod Accepted

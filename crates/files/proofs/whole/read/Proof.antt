@@ -1,4 +1,4 @@
-use Rattle.reader.specs.Opens.{room, opening, was_read}
+use Rattle.reader.proofs.Opens.{room, opening, was_read}
 -- `files::whole::read` meets its contract: joined, then read from the fresh state. Assumes nothing.
 use borrow.Author.Rules.{rules}
 use Rattle.files.proofs.whole.read.Statement.{statement}

@@ -1,0 +1,12 @@
+-- `conditions::control` meets its contract: the ports that are left, behind what was found, have the answer. Assumes nothing.
+use Prim.Native.Nat.{◌-◌}
+use mathlib.Core.List.{◌++◌}
+use Rattle.refs.specs.Text.{text_of}
+use Rattle.conditions.proofs.Words.{Controls, controls}
+use Rattle.conditions.proofs.control.Given as goal
+
+abbrev pub invariant-loop-i : goal.invariant-loop-i
+invariant-loop-i l = Controls (l.files ++ l.area) l.controls l.n (text_of l.job (l.files ++ l.area) l.w) l.found l.i
+
+abbrev pub decreases-loop-i : goal.decreases-loop-i
+decreases-loop-i l = l.n - l.i

@@ -1,0 +1,14 @@
+-- `conditions::word_size` meets its contract: what was passed and the word that is left are the word. Assumes nothing.
+use lib.ListN.{length}
+use mathlib.Core.List.{◌++◌}
+use Rattle.names.specs.Name.{name_of}
+use Rattle.text.specs.Scan.{before}
+use Rattle.tcl.specs.Substitution.{no_variable}
+use Rattle.conditions.proofs.Words.{Sizes}
+use Rattle.conditions.proofs.word_size.Given as goal
+
+abbrev pub invariant-loop-b : goal.invariant-loop-b
+invariant-loop-b l = Sizes (l.files ++ l.area) (before no_variable (name_of (l.files ++ l.area) l.initial.x)) l.x l.n
+
+abbrev pub decreases-loop-b : goal.decreases-loop-b
+decreases-loop-b l = length (name_of (l.files ++ l.area) l.x)

@@ -1,0 +1,32 @@
+-- `format::fill::number` meets its contract. Assumes nothing.
+use native.Mathlib.Omega.{arith}
+use Rattle.text.specs.Cases.{cases}
+use Rattle.text.specs.Sames.{within_low}
+use Rattle.format.proofs.fill.number.Goals as goal
+
+pub overflow_sub-result : goal.overflow_sub-result
+overflow_sub-result c = omega (arith, within_low 48 52 c.args.k c.if-k.true)
+
+pub returns-then-k : goal.returns-then-k
+returns-then-k c = search cases
+
+pub overflow_sub-result-then-k-2 : goal.overflow_sub-result-then-k-2
+overflow_sub-result-then-k-2 c = omega (arith, within_low 65 69 c.args.k c.if-k-2.true)
+
+pub returns-then-k-2 : goal.returns-then-k-2
+returns-then-k-2 c = search cases
+
+pub overflow_sub-result-then-k-3 : goal.overflow_sub-result-then-k-3
+overflow_sub-result-then-k-3 c = omega (arith, within_low 97 101 c.args.k c.if-k-3.true)
+
+pub returns-then-k-3 : goal.returns-then-k-3
+returns-then-k-3 c = search cases
+
+pub overflow_sub-result-then-k-4 : goal.overflow_sub-result-then-k-4
+overflow_sub-result-then-k-4 c = omega (arith, within_low 112 116 c.args.k c.if-k-4.true)
+
+pub returns-then-k-4 : goal.returns-then-k-4
+returns-then-k-4 c = search cases
+
+pub returns : goal.returns
+returns c = search cases

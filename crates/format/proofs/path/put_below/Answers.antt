@@ -1,0 +1,12 @@
+-- `format::path::put_below` meets its contract. Assumes nothing.
+use Rattle.format.proofs.Scopes.{below_more, below_none}
+use mathlib.Core.List.{◌++◌}
+use Rattle.scope.specs.Parts.{parts}
+use Rattle.refs.specs.Text.{text_of}
+use Rattle.format.proofs.path.put_below.Goals as goal
+
+pub returns-then-has_bytes : goal.returns-then-has_bytes
+returns-then-has_bytes c = below_more _ c.args.dots (parts c.args.over.now c.args.from) (text_of c.args.job.now (c.args.files.now ++ c.args.area.now) c.args.r) _ _ _ c.put_parts-o.ensures c.dot.ensures _ c.has_bytes.ensures _ _ _ c.put.ensures c.becomes-p.ensures c.dot-then-has_bytes.ensures c.if-has_bytes.true
+
+pub returns : goal.returns
+returns c = below_none _ c.args.dots (parts c.args.over.now c.args.from) (text_of c.args.job.now (c.args.files.now ++ c.args.area.now) c.args.r) _ _ _ c.put_parts-o.ensures c.dot.ensures _ c.has_bytes.ensures c.if-has_bytes.false

@@ -1,0 +1,12 @@
+-- `plaincmds::shifter` meets its contract. Assumes nothing.
+use Rattle.plaincmds.proofs.Laws.{plain}
+use Rattle.plaincmds.proofs.shifter.Goals as goal
+
+pub narrow-requires : goal.narrow-requires
+narrow-requires c = search plain
+
+pub or_empty-requires : goal.or_empty-requires
+or_empty-requires c = search plain
+
+pub returns : goal.returns
+returns c = search plain

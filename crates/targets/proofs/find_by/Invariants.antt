@@ -1,0 +1,12 @@
+-- `targets::find_by` meets its contract: what the whole text leads to is what is left of it leads to. Assumes nothing.
+use mathlib.Core.List.{◌++◌}
+use lib.ListN.{length}
+use Rattle.refs.specs.Text.{text_of}
+use Rattle.targets.proofs.Turns.{Seeks}
+use Rattle.targets.proofs.find_by.Given as goal
+
+abbrev pub invariant-loop-kind : goal.invariant-loop-kind
+invariant-loop-kind l = Seeks l.job l.index l.count l.initial.m (text_of l.job (l.files ++ l.area) l.initial.x) l.m (text_of l.job (l.files ++ l.area) l.x) l.upto l.memo
+
+abbrev pub decreases-loop-kind : goal.decreases-loop-kind
+decreases-loop-kind l = length (text_of l.job (l.files ++ l.area) l.x)

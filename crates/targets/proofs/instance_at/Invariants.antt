@@ -1,0 +1,13 @@
+-- `targets::instance_at` meets its contract: the instance looked for is the first of those that are left. Assumes nothing.
+use Prim.Native.Nat.{◌-◌}
+use mathlib.Core.List.{◌++◌}
+use Rattle.memo.specs.Known.{Begins}
+use Rattle.names.specs.Parts.{parts, first_part}
+use Rattle.refs.specs.Text.{text_of}
+use Rattle.targets.proofs.instance_at.Given as goal
+
+abbrev pub invariant-loop-name : goal.invariant-loop-name
+invariant-loop-name l = Begins l.job l.index l.k (first_part (parts (text_of l.job (l.files ++ l.area) l.r))) l.at
+
+abbrev pub decreases-loop-name : goal.decreases-loop-name
+decreases-loop-name l = l.end - l.at

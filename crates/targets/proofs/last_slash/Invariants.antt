@@ -1,0 +1,12 @@
+-- `targets::last_slash` meets its contract. Assumes nothing.
+use mathlib.Core.List.{◌++◌}
+use lib.ListN.{length}
+use Rattle.names.specs.Name.{name_of}
+use Rattle.targets.proofs.Slashes.{Scans}
+use Rattle.targets.proofs.last_slash.Given as goal
+
+abbrev pub invariant-loop-s : goal.invariant-loop-s
+invariant-loop-s l = Scans l.files l.area l.initial.x l.s l.x l.n
+
+abbrev pub decreases-loop-s : goal.decreases-loop-s
+decreases-loop-s l = length (name_of (l.files ++ l.area) l.x)

@@ -1,0 +1,12 @@
+-- `targets::word_off` meets its contract: what is left of the word is compared with what is left of w. Assumes nothing.
+use Prim.Native.Nat.{◌-◌}
+use mathlib.Core.List.{◌++◌}
+use lib.ListN.{length}
+use Rattle.targets.proofs.Off.{Goes}
+use Rattle.targets.proofs.word_off.Given as goal
+
+abbrev pub invariant-loop-i : goal.invariant-loop-i
+invariant-loop-i l = Goes (l.files ++ l.area) l.initial.x l.w l.x l.i
+
+abbrev pub decreases-loop-i : goal.decreases-loop-i
+decreases-loop-i l = length l.w - l.i
