@@ -1,0 +1,12 @@
+-- `keep::is_covered` meets its contract: the ports passed are not this one. Assumes nothing.
+use mathlib.Core.List.{◌++◌}
+use Rattle.refs.specs.Text.{text_of}
+use Rattle.keep.proofs.Aims.{Seeks}
+use Prim.Native.Nat.{◌-◌}
+use Rattle.keep.proofs.is_covered.Given as goal
+
+abbrev pub invariant-loop-k : goal.invariant-loop-k
+invariant-loop-k l = Seeks l.job (l.files ++ l.area) l.ports l.n (text_of l.job (l.files ++ l.area) l.p) l.k
+
+abbrev pub decreases-loop-k : goal.decreases-loop-k
+decreases-loop-k l = l.n - l.k

@@ -1,0 +1,15 @@
+-- `supplies::nets::has_entry` meets its contract: whether the name is among the entries that are left. Assumes nothing.
+use mathlib.Core.List.{◌++◌}
+use lib.ListN.{length, drop}
+use Rattle.text.specs.Scan.{any}
+use Rattle.tcl.specs.Lists.{list}
+use Rattle.entries.specs.Entry.{entries_left}
+use Rattle.supplies.specs.Nets.{is_below}
+use Rattle.supplies.proofs.Rows.{Tests}
+use Rattle.supplies.proofs.nets.has_entry.Given as goal
+
+abbrev pub invariant-loop-s : goal.invariant-loop-s
+invariant-loop-s l = Tests (l.files ++ l.area) l.scope l.p l.text (any (is_below (l.files ++ l.area) l.scope l.p) (list l.text)) l.at l.first
+
+abbrev pub decreases-loop-s : goal.decreases-loop-s
+decreases-loop-s l = length (entries_left l.first (drop l.at l.text))

@@ -1,0 +1,14 @@
+-- `supplies::nets::is_listed` meets its contract: whether the name is among those that are left. Assumes nothing.
+use Prim.Native.Nat.{◌-◌}
+use mathlib.Core.List.{◌++◌}
+use Rattle.names.specs.Name.{name_of}
+use Rattle.nametable.specs.Table.{table_names}
+use Rattle.design.specs.Lists.{is_in}
+use Rattle.supplies.proofs.Tables.{Looks}
+use Rattle.supplies.proofs.nets.is_listed.Given as goal
+
+abbrev pub invariant-loop-k : goal.invariant-loop-k
+invariant-loop-k l = Looks (l.files ++ l.area) l.table l.n (name_of (l.files ++ l.area) l.x) (is_in (name_of (l.files ++ l.area) l.x) (table_names (l.files ++ l.area) l.table l.n)) l.k
+
+abbrev pub decreases-loop-k : goal.decreases-loop-k
+decreases-loop-k l = l.n - l.k

@@ -1,0 +1,11 @@
+-- `supplies::nets::net_of` meets its contract: the net behind the first k rows. Assumes nothing.
+use Prim.Native.Nat.{◌≤◌, ◌-◌}
+use mathlib.Core.List.{◌++◌}
+use Rattle.supplies.proofs.Rows.{Nets}
+use Rattle.supplies.proofs.nets.net_of.Given as goal
+
+abbrev pub invariant-loop-k : goal.invariant-loop-k
+invariant-loop-k l = (l.k ≤ l.rows) × Nets (l.files ++ l.area) l.nums l.p l.net l.k
+
+abbrev pub decreases-loop-k : goal.decreases-loop-k
+decreases-loop-k l = l.rows - l.k

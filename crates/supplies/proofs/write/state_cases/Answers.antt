@@ -1,0 +1,6 @@
+-- `supplies::write::state_cases` meets its contract. Assumes nothing.
+use Rattle.supplies.proofs.Written.{cases_are}
+use Rattle.supplies.proofs.write.state_cases.Goals as goal
+
+pub returns : goal.returns
+returns c = cases_are _ _ _ _ c.cases.ensures
