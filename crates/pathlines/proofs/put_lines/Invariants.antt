@@ -1,0 +1,18 @@
+-- `pathlines::put_lines` meets its contract: the lines of the paths left are written behind what was. Assumes nothing.
+use Prim.Native.Nat.{◌-◌}
+use mathlib.Core.Path.{◌≡◌}
+use lib.ListN.{length}
+use Rattle.out.specs.Emit.{emit, ◌▸◌}
+use Rattle.out.specs.Items.{each}
+use Rattle.scope.specs.Parts.{parts}
+use Rattle.listing.specs.Listing.{paths_of}
+use Rattle.pathlines.specs.Lines.{line_of}
+use Rattle.pathlines.proofs.Writes.{Left}
+use Rattle.pathlines.proofs.put_lines.Given as goal
+
+abbrev pub invariant-loop-k : goal.invariant-loop-k
+invariant-loop-k l = (length l.out ≡ length l.initial.out)
+    × Left (line_of l.before l.after (parts l.over l.from)) l.text l.ends l.n (emit (l.initial.out ▸ l.at) (each (line_of l.before l.after (parts l.over l.from)) (paths_of l.text l.ends l.n))) (l.out ▸ l.o) l.k l.a
+
+abbrev pub decreases-loop-k : goal.decreases-loop-k
+decreases-loop-k l = l.n - l.k
