@@ -1,0 +1,6 @@
+-- `remarks::put_line` meets its contract. Assumes nothing.
+use Rattle.remarks.proofs.Texts.{line_written}
+use Rattle.remarks.proofs.put_line.Goals as goal
+
+pub returns : goal.returns
+returns c = line_written _ _ _ _ c.args.x _ _ _ _ _ _ _ _ _ _ c.fill.ensures c.name.ensures c.stored-n.ensures c.name-2.ensures c.stored-d.ensures c.or_literal-clamp.ensures c.name-3.ensures c.or_literal-sense.ensures
