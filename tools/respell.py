@@ -1,7 +1,7 @@
 #!/usr/bin/env python3
 """Brings the repository's own definitions, laws and fields to today's spelling: words in snake case, types and modules in camel case.
 
-usage: python3 tools/respell.py [--dry]      at the top of the repository, once, after the toolchain's port.py
+usage: python3 tools/respell.py [--dry|--list]      at the top of the repository, once, after the toolchain's port.py
 
 A name of specs/ or proofs/ that has a dash or a capital inside, and is no type or module, gets underscores: isDigit and is-digit become is_digit.
 Where a definition and a law of it would get one name, the definition keeps it and the law gets _lem behind it.
@@ -202,6 +202,9 @@ def main():
     crates = {name for name in os.listdir("crates") if os.path.isdir(os.path.join("crates", name, "src"))}
     found = definitions()
     turned = table(found)
+    if "--list" in sys.argv:
+        print(*(f"{old} {new}" for old, new in sorted(turned.items())), sep="\n")
+        return
     changed = 0
     for path in [*files(".antt"), *files(".rt"), *edits(), *pages()]:
         if path.endswith(".antt"):

@@ -1,0 +1,19 @@
+-- `coverall::cover_all` meets its contract: what is left to gain is that of the elements left. Assumes nothing.
+use Prim.Native.Nat.{◌-◌}
+use mathlib.Core.Path.{◌≡◌}
+use mathlib.Core.List.{◌++◌}
+use lib.ListN.{length}
+use Rattle.jobindex.specs.Index.{module_row}
+use Rattle.lookup.specs.Rows.{modules}
+use Rattle.names.specs.Name.{name_of}
+use Rattle.coverall.specs.Elements.{aims_for}
+use Rattle.coverall.proofs.Turns.{Alls}
+use Rattle.coverall.proofs.cover_all.Given as goal
+
+abbrev pub invariant-loop-i : goal.invariant-loop-i
+invariant-loop-i l = (length l.out ≡ length l.initial.out)
+    × ((length l.ports ≡ length l.initial.ports)
+    × Alls l.job (l.files ++ l.area) l.warn l.initial.x l.initial.out l.initial.ports l.s.number (name_of (l.files ++ l.area) l.s.name) (aims_for l.outputs (modules l.job l.index l.count) (module_row l.job l.index l.k)) l.table l.n l.x l.out l.ports l.i)
+
+abbrev pub decreases-loop-i : goal.decreases-loop-i
+decreases-loop-i l = l.n - l.i

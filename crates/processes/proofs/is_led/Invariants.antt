@@ -1,0 +1,12 @@
+-- `processes::is_led` meets its contract: none of the ports passed is of a strategy like this one. Assumes nothing.
+use mathlib.Core.List.{◌++◌}
+use Rattle.alike.specs.Strategies.{strategy_at}
+use Rattle.processes.proofs.Led.{Seeks}
+use Prim.Native.Nat.{◌-◌}
+use Rattle.processes.proofs.is_led.Given as goal
+
+abbrev pub invariant-loop-k : goal.invariant-loop-k
+invariant-loop-k l = Seeks (strategy_at (l.files ++ l.area) l.t) l.ports l.n l.i l.k l.s
+
+abbrev pub decreases-loop-k : goal.decreases-loop-k
+decreases-loop-k l = l.n - l.k
