@@ -1,0 +1,11 @@
+-- `checks::sole_of` meets its contract: of the strategies passed at most one is of the domain. Assumes nothing.
+use Prim.Native.Nat.{◌-◌}
+use mathlib.Core.List.{◌++◌}
+use Rattle.checks.proofs.Soles.{Passes}
+use Rattle.checks.proofs.sole_of.Given as goal
+
+abbrev pub invariant-loop-j : goal.invariant-loop-j
+invariant-loop-j l = Passes (l.files ++ l.area) l.t l.domain l.found l.name l.j
+
+abbrev pub decreases-loop-j : goal.decreases-loop-j
+decreases-loop-j l = l.t.n - l.j

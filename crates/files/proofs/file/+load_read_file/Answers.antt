@@ -1,0 +1,528 @@
+use Rattle.reader.specs.Turn.{going_start, next_asks, turn_none, turn_full, begun_asks, turn_less, turn_doing, turn_failed, turn_again}
+use Rattle.files.proofs.Does.{named_at, end_in_lem, front_long, lists, past, asks, does, placed_ran, said, scoped, acting, acts_of, deed_refused, deed_fits, deed_done, told, Did, with_counts, load_over, load_asks, not_opened, deep, opening, failed, behind, placed_opening, placed_reads, head_back_lem}
+use Rattle.files.proofs.Moved.{scope_asks}
+use Rattle.store.specs.declared.state.State.{State}
+use Rattle.made.specs.declared.Deed.{Deed}
+use Rattle.held.specs.Laws.{begun_at, with_entries}
+use Rattle.deeds.specs.Dones.{variable_fits, variable_done, top_done, domain_fits_lem, domain_done, supplied_fits, supplied_done, net_fits, net_done, port_fits, port_done, isolation_fits, isolation_done, controlled_fits, controlled_done, retention_fits, retention_done, shifter_fits, shifter_done, table_fits, table_done, switch_fits, switch_done, portstate_fits, portstate_done, done_other}
+use native.Mathlib.Omega.{arith}
+use Prim.Native.Nat.{ℕ}
+use borrow.Author.Rules.{rules}
+use mathlib.Core.Path.{refl, sym, ◌∙◌}
+use Rattle.loads.specs.Behind.{asked_by}
+use Rattle.files.proofs.file.+load_read_file.Goals as goal
+use Rattle.files.proofs.file.+load_read_file.Goals.{read_file-After-warnings_with-warnings}
+
+pub load-returns-then-s-gt1024 : goal.load-returns-then-s-gt1024
+load-returns-then-s-gt1024 t c =
+    let h = c.requires in
+    load_over c.args.job.now c.args.files.now c.args.area.now c.args.nums.now c.args.words.now c.args.count c.args.n c.args.k c.args.left c.args.s h c.if-s-gt1024.true c.args.log.now
+
+pub load-before_load-b-requires : goal.load-before_load-b-requires
+load-before_load-b-requires t c =
+    let h = c.requires in
+    asked_by _ _ _ _ _ _ _ _ _ _ (load_asks c.args.job.now c.args.files.now c.args.area.now c.args.nums.now c.args.words.now c.args.count c.args.n c.args.k c.args.left c.args.s h c.if-s-gt1024.false)
+
+pub load-returns-then-w-ne0 : goal.load-returns-then-w-ne0
+load-returns-then-w-ne0 t c =
+    let h = c.requires in
+    let b = c.before_load-b in
+    placed_ran c.args.s _ b.result.went c.in_scope-u.ensures _ _ _ _ _ _ _ _ (not_opened c.args.job.now c.args.files.now c.args.area.now c.args.nums.now c.args.words.now c.args.count c.args.n c.args.k c.args.left c.args.s h c.if-s-gt1024.false _ _ _ (b.ensures _ (load_asks c.args.job.now c.args.files.now c.args.area.now c.args.nums.now c.args.words.now c.args.count c.args.n c.args.k c.args.left c.args.s h c.if-s-gt1024.false) refl) c.args.log.now c.if-w-ne0.true)
+
+pub load-overflow_sub-left : goal.load-overflow_sub-left
+load-overflow_sub-left t c =
+    let h = c.requires in
+    let b = c.before_load-b in
+    deep c.args.job.now c.args.files.now c.args.area.now c.args.nums.now c.args.words.now c.args.count c.args.n c.args.k c.args.left c.args.s h c.if-s-gt1024.false _ _ _ (b.ensures _ (load_asks c.args.job.now c.args.files.now c.args.area.now c.args.nums.now c.args.words.now c.args.count c.args.n c.args.k c.args.left c.args.s h c.if-s-gt1024.false) refl) c.if-w-ne0.false
+
+pub load-read_file-r-requires : goal.load-read_file-r-requires
+load-read_file-r-requires t c =
+    let h = c.requires in
+    let b = c.before_load-b in
+    (omega (arith, c.decreases, deep c.args.job.now c.args.files.now c.args.area.now c.args.nums.now c.args.words.now c.args.count c.args.n c.args.k c.args.left c.args.s h c.if-s-gt1024.false _ _ _ (b.ensures _ (load_asks c.args.job.now c.args.files.now c.args.area.now c.args.nums.now c.args.words.now c.args.count c.args.n c.args.k c.args.left c.args.s h c.if-s-gt1024.false) refl) c.if-w-ne0.false), placed_opening c.args.s _ b.result.went c.in_scope-u.ensures _ _ _ _ _ _ _ (opening c.args.job.now c.args.files.now c.args.area.now c.args.nums.now c.args.words.now c.args.count c.args.n c.args.k c.args.left c.args.s h c.if-s-gt1024.false _ _ _ (b.ensures _ (load_asks c.args.job.now c.args.files.now c.args.area.now c.args.nums.now c.args.words.now c.args.count c.args.n c.args.k c.args.left c.args.s h c.if-s-gt1024.false) refl) c.if-w-ne0.false))
+
+pub load-shape_of-area-then-r-ne0 : goal.load-shape_of-area-then-r-ne0
+load-shape_of-area-then-r-ne0 t c =
+    c.read_file-r.auto.area ∙ c.before_load-b.auto.area
+
+pub load-returns-then-r-ne0 : goal.load-returns-then-r-ne0
+load-returns-then-r-ne0 t c =
+    let h = c.requires in
+    let b = c.before_load-b in
+    failed c.args.job.now c.args.files.now c.args.area.now c.args.nums.now c.args.words.now c.args.count c.args.n c.args.k c.args.left c.args.s h c.if-s-gt1024.false _ _ _ (b.ensures _ (load_asks c.args.job.now c.args.files.now c.args.area.now c.args.nums.now c.args.words.now c.args.count c.args.n c.args.k c.args.left c.args.s h c.if-s-gt1024.false) refl) c.if-w-ne0.false _ _ _ _ _ (placed_reads c.args.s _ b.result.went c.in_scope-u.ensures _ _ _ _ _ _ _ _ _ _ _ _ c.read_file-r.ensures) c.if-r-ne0.true
+
+pub load-shape_of-area : goal.load-shape_of-area
+load-shape_of-area t c =
+    c.read_file-r.auto.area ∙ c.before_load-b.auto.area
+
+pub load-returns : goal.load-returns
+load-returns t c =
+    let h = c.requires in
+    let b = c.before_load-b in
+    behind c.args.job.now c.args.files.now c.args.area.now c.args.nums.now c.args.words.now c.args.count c.args.n c.args.k c.args.left c.args.s h c.if-s-gt1024.false _ _ _ (b.ensures _ (load_asks c.args.job.now c.args.files.now c.args.area.now c.args.nums.now c.args.words.now c.args.count c.args.n c.args.k c.args.left c.args.s h c.if-s-gt1024.false) refl) c.if-w-ne0.false _ _ _ _ _ (placed_reads c.args.s _ b.result.went c.in_scope-u.ensures _ _ _ _ _ _ _ _ _ _ _ _ c.read_file-r.ensures) c.if-r-ne0.false _ (head_back_lem c.args.s c.read_file-r.result.state _ c.back-u.ensures)
+
+pub read_file-slice_bounds-next_command-end-in-loop-v : goal.read_file-slice_bounds-next_command-end-in-loop-v
+read_file-slice_bounds-next_command-end-in-loop-v t c =
+    sym c.loop-v.invariant.spans
+
+pub read_file-loop-v-init : goal.read_file-loop-v-init
+read_file-loop-v-init t c =
+    let b = c.place-base in let z = c.place-len in
+    going_start c.args.job.now c.args.files.now c.args.area.now c.args.nums.now c.args.log.now c.args.count c.args.k c.args.left c.args.s b.result z.result c.requires b.ensures z.ensures _ refl
+
+pub read_file-slice_bounds-next_command-end : goal.read_file-slice_bounds-next_command-end
+read_file-slice_bounds-next_command-end t c =
+    sym c.requires.held.shaped.long
+
+pub read_file-next_command-requires : goal.read_file-next_command-requires
+read_file-next_command-requires t c =
+    let l = c.loop-v in let b = c.place-base in let z = c.place-len in
+    next_asks c.args.job.now c.args.files.now c.args.area.now c.args.nums.now c.args.log.now c.args.count c.args.k c.args.left c.args.s b.result z.result c.requires b.ensures z.ensures l.area l.nums l.log l.words l.at l.u l.invariant
+
+pub read_file-shape_of-area-in-None : goal.read_file-shape_of-area-in-None
+read_file-shape_of-area-in-None t c =
+    c.next_command.auto.area ∙ c.loop-v.invariant.area_long
+
+pub read_file-shape_of-nums-in-None : goal.read_file-shape_of-nums-in-None
+read_file-shape_of-nums-in-None t c =
+    c.loop-v.invariant.nums_long
+
+pub read_file-shape_of-log-in-None : goal.read_file-shape_of-log-in-None
+read_file-shape_of-log-in-None t c =
+    c.loop-v.invariant.log_long
+
+pub read_file-returns-in-None : goal.read_file-returns-in-None
+read_file-returns-in-None t c =
+    let h = c.requires in let l = c.loop-v in let b = c.place-base in let z = c.place-len in let d = c.next_command in
+    turn_none c.args.job.now c.args.files.now c.args.area.now c.args.nums.now c.args.log.now c.args.count c.args.k c.args.left c.args.s b.result z.result h b.ensures z.ensures l.area l.nums l.log l.words l.at l.u l.invariant _ _ d.result d.ensures c.in-None.is
+
+pub read_file-begun-v-requires : goal.read_file-begun-v-requires
+read_file-begun-v-requires t c =
+    let l = c.loop-v in
+    (omega (arith, l.invariant.held.commands), (omega arith, omega (arith, l.invariant.held.substituted)))
+
+pub read_file-shape_of-area-in-Full : goal.read_file-shape_of-area-in-Full
+read_file-shape_of-area-in-Full t c =
+    c.next_command.auto.area ∙ c.loop-v.invariant.area_long
+
+pub read_file-shape_of-nums-in-Full : goal.read_file-shape_of-nums-in-Full
+read_file-shape_of-nums-in-Full t c =
+    c.loop-v.invariant.nums_long
+
+pub read_file-shape_of-log-in-Full : goal.read_file-shape_of-log-in-Full
+read_file-shape_of-log-in-Full t c =
+    c.loop-v.invariant.log_long
+
+pub read_file-returns-in-Full : goal.read_file-returns-in-Full
+read_file-returns-in-Full t c =
+    let h = c.requires in let l = c.loop-v in let b = c.place-base in let z = c.place-len in let d = c.next_command in
+    turn_full c.args.job.now c.args.files.now c.args.area.now c.args.nums.now c.args.log.now c.args.count c.args.k c.args.left c.args.s b.result z.result h b.ensures z.ensures l.area l.nums l.log l.words l.at l.u l.invariant _ _ d.result d.ensures c.in-Full.is _ c.begun-v.ensures
+
+pub read_file-overflow_add-commands : goal.read_file-overflow_add-commands
+read_file-overflow_add-commands t c =
+    let h = c.requires in let l = c.loop-v in let b = c.place-base in let z = c.place-len in let d = c.next_command in
+    omega (arith, (begun_asks c.args.job.now c.args.files.now c.args.area.now c.args.nums.now c.args.log.now c.args.count c.args.k c.args.left c.args.s b.result z.result h b.ensures z.ensures l.area l.nums l.log l.words l.at l.u l.invariant _ _ d.result d.ensures _ _ _ c.in-Words.is).0)
+
+pub read_file-overflow_sub-substituted : goal.read_file-overflow_sub-substituted
+read_file-overflow_sub-substituted t c =
+    let h = c.requires in let l = c.loop-v in let b = c.place-base in let z = c.place-len in let d = c.next_command in
+    (begun_asks c.args.job.now c.args.files.now c.args.area.now c.args.nums.now c.args.log.now c.args.count c.args.k c.args.left c.args.s b.result z.result h b.ensures z.ensures l.area l.nums l.log l.words l.at l.u l.invariant _ _ d.result d.ensures _ _ _ c.in-Words.is).1.0
+
+pub read_file-overflow_add-substituted : goal.read_file-overflow_add-substituted
+read_file-overflow_add-substituted t c =
+    let h = c.requires in let l = c.loop-v in let b = c.place-base in let z = c.place-len in let d = c.next_command in
+    omega (arith, (begun_asks c.args.job.now c.args.files.now c.args.area.now c.args.nums.now c.args.log.now c.args.count c.args.k c.args.left c.args.s b.result z.result h b.ensures z.ensures l.area l.nums l.log l.words l.at l.u l.invariant _ _ d.result d.ensures _ _ _ c.in-Words.is).1.1)
+
+pub read_file-slice_bounds-number-end : goal.read_file-slice_bounds-number-end
+read_file-slice_bounds-number-end t c =
+    let h = c.requires in let l = c.loop-v in let b = c.place-base in let z = c.place-len in let d = c.next_command in
+    end_in_lem c.args.job.now c.args.files.now _ l.nums _ c.args.count _ c.args.k c.args.left _ (turn_doing c.args.job.now c.args.files.now c.args.area.now c.args.nums.now c.args.log.now c.args.count c.args.k c.args.left c.args.s b.result z.result h b.ensures z.ensures l.area l.nums l.log l.words l.at l.u l.invariant _ _ d.result d.ensures _ _ _ c.in-Words.is d.auto.area _ refl)
+
+pub read_file-slice_bounds-number-end-in-Words : goal.read_file-slice_bounds-number-end-in-Words
+read_file-slice_bounds-number-end-in-Words t c =
+    let h = c.requires in let l = c.loop-v in let b = c.place-base in let z = c.place-len in let d = c.next_command in
+    front_long c.args.job.now c.args.files.now _ l.nums _ c.args.count _ c.args.k c.args.left _ (turn_doing c.args.job.now c.args.files.now c.args.area.now c.args.nums.now c.args.log.now c.args.count c.args.k c.args.left c.args.s b.result z.result h b.ensures z.ensures l.area l.nums l.log l.words l.at l.u l.invariant _ _ d.result d.ensures _ _ _ c.in-Words.is d.auto.area _ refl)
+
+pub read_file-slice_bounds-pair-end : goal.read_file-slice_bounds-pair-end
+read_file-slice_bounds-pair-end t c =
+    sym (c.next_command.auto.words ∙ c.loop-v.invariant.spans)
+
+pub read_file-slice_bounds-load-end : goal.read_file-slice_bounds-load-end
+read_file-slice_bounds-load-end t c =
+    sym (c.next_command.auto.words ∙ c.loop-v.invariant.spans)
+
+pub read_file-load-r-requires : goal.read_file-load-r-requires
+read_file-load-r-requires t c =
+    let h = c.requires in let l = c.loop-v in let b = c.place-base in let z = c.place-len in let d = c.next_command in
+    let p = c.pair in let m = c.number-c in
+    (omega (arith, c.decreases), (record { doing = (turn_doing c.args.job.now c.args.files.now c.args.area.now c.args.nums.now c.args.log.now c.args.count c.args.k c.args.left c.args.s b.result z.result h b.ensures z.ensures l.area l.nums l.log l.words l.at l.u l.invariant _ _ d.result d.ensures _ _ _ c.in-Words.is d.auto.area _ refl); is = named_at _ _ _ m.result 2 p.ensures m.ensures.is c.if-c-eq2.true }))
+
+pub read_file-shape_of-area-then-r-ne0 : goal.read_file-shape_of-area-then-r-ne0
+read_file-shape_of-area-then-r-ne0 t c =
+    c.load-r.auto.area ∙ c.next_command.auto.area ∙ c.loop-v.invariant.area_long
+
+pub read_file-shape_of-nums-then-r-ne0 : goal.read_file-shape_of-nums-then-r-ne0
+read_file-shape_of-nums-then-r-ne0 t c =
+    c.load-r.auto.nums ∙ c.loop-v.invariant.nums_long
+
+pub read_file-shape_of-log-then-r-ne0 : goal.read_file-shape_of-log-then-r-ne0
+read_file-shape_of-log-then-r-ne0 t c =
+    c.load-r.auto.log ∙ c.loop-v.invariant.log_long
+
+pub read_file-returns-then-r-ne0 : goal.read_file-returns-then-r-ne0
+read_file-returns-then-r-ne0 t c =
+    let h = c.requires in let l = c.loop-v in let b = c.place-base in let z = c.place-len in let d = c.next_command in
+    turn_failed c.args.job.now c.args.files.now c.args.area.now c.args.nums.now c.args.log.now c.args.count c.args.k c.args.left c.args.s b.result z.result h b.ensures z.ensures l.area l.nums l.log l.words l.at l.u l.invariant _ _ d.result d.ensures _ _ _ c.in-Words.is d.auto.area _ refl _ _ _ _ c.load-r.ensures c.if-r-ne0.true
+
+pub read_file-loop-v-smaller-then-c-eq2 : goal.read_file-loop-v-smaller-then-c-eq2
+read_file-loop-v-smaller-then-c-eq2 t c =
+    let h = c.requires in let l = c.loop-v in let b = c.place-base in let z = c.place-len in let d = c.next_command in
+    turn_less c.args.job.now c.args.files.now c.args.area.now c.args.nums.now c.args.log.now c.args.count c.args.k c.args.left c.args.s b.result z.result h b.ensures z.ensures l.area l.nums l.log l.words l.at l.u l.invariant _ _ d.result d.ensures _ _ _ c.in-Words.is
+
+pub read_file-loop-v-preserved-then-c-eq2 : goal.read_file-loop-v-preserved-then-c-eq2
+read_file-loop-v-preserved-then-c-eq2 t c =
+    let h = c.requires in let l = c.loop-v in let b = c.place-base in let z = c.place-len in let d = c.next_command in
+    turn_again c.args.job.now c.args.files.now c.args.area.now c.args.nums.now c.args.log.now c.args.count c.args.k c.args.left c.args.s b.result z.result h b.ensures z.ensures l.area l.nums l.log l.words l.at l.u l.invariant _ _ d.result d.ensures _ _ _ c.in-Words.is d.auto.area _ refl _ _ _ _ c.load-r.ensures c.if-r-ne0.false d.auto.words c.load-r.auto.area c.load-r.auto.nums c.load-r.auto.log
+
+pub read_file-slice_bounds-counted-end : goal.read_file-slice_bounds-counted-end
+read_file-slice_bounds-counted-end t c =
+    let h = c.requires in let l = c.loop-v in let b = c.place-base in let z = c.place-len in let d = c.next_command in
+    end_in_lem c.args.job.now c.args.files.now _ l.nums _ c.args.count _ c.args.k c.args.left _ (turn_doing c.args.job.now c.args.files.now c.args.area.now c.args.nums.now c.args.log.now c.args.count c.args.k c.args.left c.args.s b.result z.result h b.ensures z.ensures l.area l.nums l.log l.words l.at l.u l.invariant _ _ d.result d.ensures _ _ _ c.in-Words.is d.auto.area _ refl)
+
+pub read_file-slice_bounds-counted-end-in-Words : goal.read_file-slice_bounds-counted-end-in-Words
+read_file-slice_bounds-counted-end-in-Words t c =
+    let h = c.requires in let l = c.loop-v in let b = c.place-base in let z = c.place-len in let d = c.next_command in
+    front_long c.args.job.now c.args.files.now _ l.nums _ c.args.count _ c.args.k c.args.left _ (turn_doing c.args.job.now c.args.files.now c.args.area.now c.args.nums.now c.args.log.now c.args.count c.args.k c.args.left c.args.s b.result z.result h b.ensures z.ensures l.area l.nums l.log l.words l.at l.u l.invariant _ _ d.result d.ensures _ _ _ c.in-Words.is d.auto.area _ refl)
+
+pub read_file-slice_bounds-counted-end-in-Words-2 : goal.read_file-slice_bounds-counted-end-in-Words-2
+read_file-slice_bounds-counted-end-in-Words-2 t c =
+    sym (c.next_command.auto.words ∙ c.loop-v.invariant.spans)
+
+pub read_file-counted-requires : goal.read_file-counted-requires
+read_file-counted-requires t c =
+    let h = c.requires in let l = c.loop-v in let b = c.place-base in let z = c.place-len in let d = c.next_command in
+    lists c.args.job.now c.args.files.now _ l.nums _ c.args.count _ c.args.k c.args.left _ (turn_doing c.args.job.now c.args.files.now c.args.area.now c.args.nums.now c.args.log.now c.args.count c.args.k c.args.left c.args.s b.result z.result h b.ensures z.ensures l.area l.nums l.log l.words l.at l.u l.invariant _ _ d.result d.ensures _ _ _ c.in-Words.is d.auto.area _ refl)
+
+pub read_file-shape_of-area-in_default : goal.read_file-shape_of-area-in_default
+read_file-shape_of-area-in_default t c =
+    c.next_command.auto.area ∙ c.loop-v.invariant.area_long
+
+pub read_file-shape_of-nums-in_default : goal.read_file-shape_of-nums-in_default
+read_file-shape_of-nums-in_default t c =
+    c.loop-v.invariant.nums_long
+
+pub read_file-shape_of-log-in_default : goal.read_file-shape_of-log-in_default
+read_file-shape_of-log-in_default t c =
+    c.loop-v.invariant.log_long
+
+pub read_file-returns-in_default : goal.read_file-returns-in_default
+read_file-returns-in_default t c =
+    let h = c.requires in let l = c.loop-v in let b = c.place-base in let z = c.place-len in let d = c.next_command in
+    let p = c.pair in let m = c.number-c in let x = c.counted in
+    turn_failed c.args.job.now c.args.files.now c.args.area.now c.args.nums.now c.args.log.now c.args.count c.args.k c.args.left c.args.s b.result z.result h b.ensures z.ensures l.area l.nums l.log l.words l.at l.u l.invariant _ _ d.result d.ensures _ _ _ c.in-Words.is d.auto.area _ refl _ _ _ _ (past c.args.job.now c.args.files.now _ l.nums _ c.args.count _ c.args.k c.args.left _ (turn_doing c.args.job.now c.args.files.now c.args.area.now c.args.nums.now c.args.log.now c.args.count c.args.k c.args.left c.args.s b.result z.result h b.ensures z.ensures l.area l.nums l.log l.words l.at l.u l.invariant _ _ d.result d.ensures _ _ _ c.in-Words.is d.auto.area _ refl) m.result (named_at _ _ _ m.result m.result p.ensures m.ensures.is refl) x.result x.ensures c.in_default.is _) (λ q. absurd (omega (arith, q)))
+
+pub read_file-slice_bounds-puts-end : goal.read_file-slice_bounds-puts-end
+read_file-slice_bounds-puts-end t c =
+    let h = c.requires in let l = c.loop-v in let b = c.place-base in let z = c.place-len in let d = c.next_command in
+    end_in_lem c.args.job.now c.args.files.now _ l.nums _ c.args.count _ c.args.k c.args.left _ (turn_doing c.args.job.now c.args.files.now c.args.area.now c.args.nums.now c.args.log.now c.args.count c.args.k c.args.left c.args.s b.result z.result h b.ensures z.ensures l.area l.nums l.log l.words l.at l.u l.invariant _ _ d.result d.ensures _ _ _ c.in-Words.is d.auto.area _ refl)
+
+pub read_file-slice_bounds-puts-end-then-c-eq1 : goal.read_file-slice_bounds-puts-end-then-c-eq1
+read_file-slice_bounds-puts-end-then-c-eq1 t c =
+    let h = c.requires in let l = c.loop-v in let b = c.place-base in let z = c.place-len in let d = c.next_command in
+    front_long c.args.job.now c.args.files.now _ l.nums _ c.args.count _ c.args.k c.args.left _ (turn_doing c.args.job.now c.args.files.now c.args.area.now c.args.nums.now c.args.log.now c.args.count c.args.k c.args.left c.args.s b.result z.result h b.ensures z.ensures l.area l.nums l.log l.words l.at l.u l.invariant _ _ d.result d.ensures _ _ _ c.in-Words.is d.auto.area _ refl)
+
+pub read_file-slice_bounds-puts-end-then-c-eq1-2 : goal.read_file-slice_bounds-puts-end-then-c-eq1-2
+read_file-slice_bounds-puts-end-then-c-eq1-2 t c =
+    sym (c.next_command.auto.words ∙ c.loop-v.invariant.spans)
+
+pub read_file-loop-v-smaller-then-c-eq1 : goal.read_file-loop-v-smaller-then-c-eq1
+read_file-loop-v-smaller-then-c-eq1 t c =
+    let h = c.requires in let l = c.loop-v in let b = c.place-base in let z = c.place-len in let d = c.next_command in
+    turn_less c.args.job.now c.args.files.now c.args.area.now c.args.nums.now c.args.log.now c.args.count c.args.k c.args.left c.args.s b.result z.result h b.ensures z.ensures l.area l.nums l.log l.words l.at l.u l.invariant _ _ d.result d.ensures _ _ _ c.in-Words.is
+
+pub read_file-loop-v-preserved-then-c-eq1 : goal.read_file-loop-v-preserved-then-c-eq1
+read_file-loop-v-preserved-then-c-eq1 t c =
+    let h = c.requires in let l = c.loop-v in let b = c.place-base in let z = c.place-len in let d = c.next_command in
+    let p = c.pair in let m = c.number-c in let x = c.counted in
+    turn_again c.args.job.now c.args.files.now c.args.area.now c.args.nums.now c.args.log.now c.args.count c.args.k c.args.left c.args.s b.result z.result h b.ensures z.ensures l.area l.nums l.log l.words l.at l.u l.invariant _ _ d.result d.ensures _ _ _ c.in-Words.is d.auto.area _ refl _ _ _ _ (does c.args.job.now c.args.files.now _ l.nums _ c.args.count _ c.args.k c.args.left _ (turn_doing c.args.job.now c.args.files.now c.args.area.now c.args.nums.now c.args.log.now c.args.count c.args.k c.args.left c.args.s b.result z.result h b.ensures z.ensures l.area l.nums l.log l.words l.at l.u l.invariant _ _ d.result d.ensures _ _ _ c.in-Words.is d.auto.area _ refl) m.result (named_at _ _ _ m.result m.result p.ensures m.ensures.is refl) x.result x.ensures _ c.in-Of.is c.if-c-eq2.false _ _ _ _ _ (said _ _ _ _ _ _ _ c.if-c-eq1.true (asks c.args.job.now c.args.files.now _ l.nums _ c.args.count _ c.args.k c.args.left _ (turn_doing c.args.job.now c.args.files.now c.args.area.now c.args.nums.now c.args.log.now c.args.count c.args.k c.args.left c.args.s b.result z.result h b.ensures z.ensures l.area l.nums l.log l.words l.at l.u l.invariant _ _ d.result d.ensures _ _ _ c.in-Words.is d.auto.area _ refl) m.result (named_at _ _ _ m.result m.result p.ensures m.ensures.is refl) x.result x.ensures _ c.in-Of.is c.if-c-eq2.false m.ensures.known) _ _ _ c.puts-end.ensures)) refl d.auto.words refl refl c.puts-end.auto.log
+
+pub read_file-slice_bounds-set_scope-end : goal.read_file-slice_bounds-set_scope-end
+read_file-slice_bounds-set_scope-end t c =
+    sym (c.next_command.auto.words ∙ c.loop-v.invariant.spans)
+
+pub read_file-set_scope-w-requires : goal.read_file-set_scope-w-requires
+read_file-set_scope-w-requires t c =
+    let h = c.requires in let l = c.loop-v in let b = c.place-base in let z = c.place-len in let d = c.next_command in
+    let p = c.pair in let m = c.number-c in let x = c.counted in
+    scope_asks _ _ _ _ _ _ _ (asks c.args.job.now c.args.files.now _ l.nums _ c.args.count _ c.args.k c.args.left _ (turn_doing c.args.job.now c.args.files.now c.args.area.now c.args.nums.now c.args.log.now c.args.count c.args.k c.args.left c.args.s b.result z.result h b.ensures z.ensures l.area l.nums l.log l.words l.at l.u l.invariant _ _ d.result d.ensures _ _ _ c.in-Words.is d.auto.area _ refl) m.result (named_at _ _ _ m.result m.result p.ensures m.ensures.is refl) x.result x.ensures _ c.in-Of.is c.if-c-eq2.false m.ensures.known)
+
+pub read_file-shape_of-area-then-w-ne0 : goal.read_file-shape_of-area-then-w-ne0
+read_file-shape_of-area-then-w-ne0 t c =
+    c.set_scope-w.auto.area ∙ c.next_command.auto.area ∙ c.loop-v.invariant.area_long
+
+pub read_file-shape_of-nums-then-w-ne0 : goal.read_file-shape_of-nums-then-w-ne0
+read_file-shape_of-nums-then-w-ne0 t c =
+    c.loop-v.invariant.nums_long
+
+pub read_file-shape_of-log-then-w-ne0 : goal.read_file-shape_of-log-then-w-ne0
+read_file-shape_of-log-then-w-ne0 t c =
+    c.loop-v.invariant.log_long
+
+pub read_file-returns-then-w-ne0 : goal.read_file-returns-then-w-ne0
+read_file-returns-then-w-ne0 t c =
+    let h = c.requires in let l = c.loop-v in let b = c.place-base in let z = c.place-len in let d = c.next_command in
+    let p = c.pair in let m = c.number-c in let x = c.counted in
+    turn_failed c.args.job.now c.args.files.now c.args.area.now c.args.nums.now c.args.log.now c.args.count c.args.k c.args.left c.args.s b.result z.result h b.ensures z.ensures l.area l.nums l.log l.words l.at l.u l.invariant _ _ d.result d.ensures _ _ _ c.in-Words.is d.auto.area _ refl _ _ _ _ (does c.args.job.now c.args.files.now _ l.nums _ c.args.count _ c.args.k c.args.left _ (turn_doing c.args.job.now c.args.files.now c.args.area.now c.args.nums.now c.args.log.now c.args.count c.args.k c.args.left c.args.s b.result z.result h b.ensures z.ensures l.area l.nums l.log l.words l.at l.u l.invariant _ _ d.result d.ensures _ _ _ c.in-Words.is d.auto.area _ refl) m.result (named_at _ _ _ m.result m.result p.ensures m.ensures.is refl) x.result x.ensures _ c.in-Of.is c.if-c-eq2.false _ _ _ _ _ (placed_ran _ _ c.set_scope-w.result c.in_scope-u.ensures _ _ _ _ _ _ _ _ (scoped _ _ _ _ _ _ _ c.if-c-eq4.true (asks c.args.job.now c.args.files.now _ l.nums _ c.args.count _ c.args.k c.args.left _ (turn_doing c.args.job.now c.args.files.now c.args.area.now c.args.nums.now c.args.log.now c.args.count c.args.k c.args.left c.args.s b.result z.result h b.ensures z.ensures l.area l.nums l.log l.words l.at l.u l.invariant _ _ d.result d.ensures _ _ _ c.in-Words.is d.auto.area _ refl) m.result (named_at _ _ _ m.result m.result p.ensures m.ensures.is refl) x.result x.ensures _ c.in-Of.is c.if-c-eq2.false m.ensures.known) _ _ _ c.set_scope-w.auto.area (c.set_scope-w.ensures _ refl)))) c.if-w-ne0.true
+
+pub read_file-loop-v-smaller-then-c-eq4 : goal.read_file-loop-v-smaller-then-c-eq4
+read_file-loop-v-smaller-then-c-eq4 t c =
+    let h = c.requires in let l = c.loop-v in let b = c.place-base in let z = c.place-len in let d = c.next_command in
+    turn_less c.args.job.now c.args.files.now c.args.area.now c.args.nums.now c.args.log.now c.args.count c.args.k c.args.left c.args.s b.result z.result h b.ensures z.ensures l.area l.nums l.log l.words l.at l.u l.invariant _ _ d.result d.ensures _ _ _ c.in-Words.is
+
+pub read_file-loop-v-preserved-then-c-eq4 : goal.read_file-loop-v-preserved-then-c-eq4
+read_file-loop-v-preserved-then-c-eq4 t c =
+    let h = c.requires in let l = c.loop-v in let b = c.place-base in let z = c.place-len in let d = c.next_command in
+    let p = c.pair in let m = c.number-c in let x = c.counted in
+    turn_again c.args.job.now c.args.files.now c.args.area.now c.args.nums.now c.args.log.now c.args.count c.args.k c.args.left c.args.s b.result z.result h b.ensures z.ensures l.area l.nums l.log l.words l.at l.u l.invariant _ _ d.result d.ensures _ _ _ c.in-Words.is d.auto.area _ refl _ _ _ _ (does c.args.job.now c.args.files.now _ l.nums _ c.args.count _ c.args.k c.args.left _ (turn_doing c.args.job.now c.args.files.now c.args.area.now c.args.nums.now c.args.log.now c.args.count c.args.k c.args.left c.args.s b.result z.result h b.ensures z.ensures l.area l.nums l.log l.words l.at l.u l.invariant _ _ d.result d.ensures _ _ _ c.in-Words.is d.auto.area _ refl) m.result (named_at _ _ _ m.result m.result p.ensures m.ensures.is refl) x.result x.ensures _ c.in-Of.is c.if-c-eq2.false _ _ _ _ _ (placed_ran _ _ c.set_scope-w.result c.in_scope-u.ensures _ _ _ _ _ _ _ _ (scoped _ _ _ _ _ _ _ c.if-c-eq4.true (asks c.args.job.now c.args.files.now _ l.nums _ c.args.count _ c.args.k c.args.left _ (turn_doing c.args.job.now c.args.files.now c.args.area.now c.args.nums.now c.args.log.now c.args.count c.args.k c.args.left c.args.s b.result z.result h b.ensures z.ensures l.area l.nums l.log l.words l.at l.u l.invariant _ _ d.result d.ensures _ _ _ c.in-Words.is d.auto.area _ refl) m.result (named_at _ _ _ m.result m.result p.ensures m.ensures.is refl) x.result x.ensures _ c.in-Of.is c.if-c-eq2.false m.ensures.known) _ _ _ c.set_scope-w.auto.area (c.set_scope-w.ensures _ refl)))) c.if-w-ne0.false d.auto.words c.set_scope-w.auto.area refl refl
+
+pub read_file-slice_bounds-act-end : goal.read_file-slice_bounds-act-end
+read_file-slice_bounds-act-end t c =
+    let h = c.requires in let l = c.loop-v in let b = c.place-base in let z = c.place-len in let d = c.next_command in
+    end_in_lem c.args.job.now c.args.files.now _ l.nums _ c.args.count _ c.args.k c.args.left _ (turn_doing c.args.job.now c.args.files.now c.args.area.now c.args.nums.now c.args.log.now c.args.count c.args.k c.args.left c.args.s b.result z.result h b.ensures z.ensures l.area l.nums l.log l.words l.at l.u l.invariant _ _ d.result d.ensures _ _ _ c.in-Words.is d.auto.area _ refl)
+
+pub read_file-slice_bounds-act-end-in-Words : goal.read_file-slice_bounds-act-end-in-Words
+read_file-slice_bounds-act-end-in-Words t c =
+    let h = c.requires in let l = c.loop-v in let b = c.place-base in let z = c.place-len in let d = c.next_command in
+    front_long c.args.job.now c.args.files.now _ l.nums _ c.args.count _ c.args.k c.args.left _ (turn_doing c.args.job.now c.args.files.now c.args.area.now c.args.nums.now c.args.log.now c.args.count c.args.k c.args.left c.args.s b.result z.result h b.ensures z.ensures l.area l.nums l.log l.words l.at l.u l.invariant _ _ d.result d.ensures _ _ _ c.in-Words.is d.auto.area _ refl)
+
+pub read_file-slice_bounds-act-end-in-Words-2 : goal.read_file-slice_bounds-act-end-in-Words-2
+read_file-slice_bounds-act-end-in-Words-2 t c =
+    sym (c.next_command.auto.words ∙ c.loop-v.invariant.spans)
+
+pub read_file-act-d-requires : goal.read_file-act-d-requires
+read_file-act-d-requires t c =
+    let h = c.requires in let l = c.loop-v in let b = c.place-base in let z = c.place-len in let d = c.next_command in
+    let p = c.pair in let m = c.number-c in let x = c.counted in
+    (acting _ _ _ _ _ _ _ (asks c.args.job.now c.args.files.now _ l.nums _ c.args.count _ c.args.k c.args.left _ (turn_doing c.args.job.now c.args.files.now c.args.area.now c.args.nums.now c.args.log.now c.args.count c.args.k c.args.left c.args.s b.result z.result h b.ensures z.ensures l.area l.nums l.log l.words l.at l.u l.invariant _ _ d.result d.ensures _ _ _ c.in-Words.is d.auto.area _ refl) m.result (named_at _ _ _ m.result m.result p.ensures m.ensures.is refl) x.result x.ensures _ c.in-Of.is c.if-c-eq2.false m.ensures.known) c.brief_of-b.result c.brief_of-b.ensures c.if-c-eq1.false c.if-c-eq4.false)
+
+pub read_file-shape_of-area-then-refused : goal.read_file-shape_of-area-then-refused
+read_file-shape_of-area-then-refused t c =
+    c.next_command.auto.area ∙ c.loop-v.invariant.area_long
+
+pub read_file-shape_of-nums-then-refused : goal.read_file-shape_of-nums-then-refused
+read_file-shape_of-nums-then-refused t c =
+    c.act-d.auto.nums ∙ c.loop-v.invariant.nums_long
+
+pub read_file-shape_of-log-then-refused : goal.read_file-shape_of-log-then-refused
+read_file-shape_of-log-then-refused t c =
+    c.loop-v.invariant.log_long
+
+pub read_file-returns-then-refused : goal.read_file-returns-then-refused
+read_file-returns-then-refused t c =
+    let h = c.requires in let l = c.loop-v in let b = c.place-base in let z = c.place-len in let d = c.next_command in
+    let p = c.pair in let m = c.number-c in let x = c.counted in
+    turn_failed c.args.job.now c.args.files.now c.args.area.now c.args.nums.now c.args.log.now c.args.count c.args.k c.args.left c.args.s b.result z.result h b.ensures z.ensures l.area l.nums l.log l.words l.at l.u l.invariant _ _ d.result d.ensures _ _ _ c.in-Words.is d.auto.area _ refl _ _ _ _ (does c.args.job.now c.args.files.now _ l.nums _ c.args.count _ c.args.k c.args.left _ (turn_doing c.args.job.now c.args.files.now c.args.area.now c.args.nums.now c.args.log.now c.args.count c.args.k c.args.left c.args.s b.result z.result h b.ensures z.ensures l.area l.nums l.log l.words l.at l.u l.invariant _ _ d.result d.ensures _ _ _ c.in-Words.is d.auto.area _ refl) m.result (named_at _ _ _ m.result m.result p.ensures m.ensures.is refl) x.result x.ensures _ c.in-Of.is c.if-c-eq2.false _ _ _ _ _ (deed_refused _ _ _ _ _ _ _ _ c.act-d.result (acts_of _ _ _ _ _ _ _ (asks c.args.job.now c.args.files.now _ l.nums _ c.args.count _ c.args.k c.args.left _ (turn_doing c.args.job.now c.args.files.now c.args.area.now c.args.nums.now c.args.log.now c.args.count c.args.k c.args.left c.args.s b.result z.result h b.ensures z.ensures l.area l.nums l.log l.words l.at l.u l.invariant _ _ d.result d.ensures _ _ _ c.in-Words.is d.auto.area _ refl) m.result (named_at _ _ _ m.result m.result p.ensures m.ensures.is refl) x.result x.ensures _ c.in-Of.is c.if-c-eq2.false m.ensures.known) c.brief_of-b.result c.brief_of-b.ensures c.if-c-eq1.false c.if-c-eq4.false _ _ c.act-d.ensures) l.log (told _ _ _ c.refused.ensures c.if-refused.true))) (λ q. absurd (omega (arith, q)))
+
+pub read_file-rows_with-rows-requires : goal.read_file-rows_with-rows-requires
+read_file-rows_with-rows-requires t c =
+    let l = c.loop-v in
+    omega (arith, l.invariant.held.rows, l.invariant.held.commands)
+
+pub read_file-warnings_with-warnings-requires : goal.read_file-warnings_with-warnings-requires
+read_file-warnings_with-warnings-requires t c =
+    (told _ _ _ c.refused.ensures c.if-refused.false)
+
+-- the deed, and the state when its rows and warnings are counted
+abbrev read_file-deed : (t : ℕ) → read_file-After-warnings_with-warnings t → Deed
+read_file-deed t c = c.act-d.result
+
+abbrev read_file-state : (t : ℕ) → read_file-After-warnings_with-warnings t → State
+read_file-state t c = with_counts (with_entries (begun_at c.loop-v.u c.in-Words.e) c.in-Of.t) c.rows_with-rows.result c.warnings_with-warnings.result
+
+abbrev read_file-Did : (t : ℕ) → read_file-After-warnings_with-warnings t → Type 0
+read_file-Did t c =
+    let a = c.args in let h = c.requires in let l = c.loop-v in let b = c.place-base in let z = c.place-len in let d = c.next_command in
+    Did a.job.now a.files.now a.area.now a.nums.now a.log.now a.count a.k a.left a.s b.result z.result l.at d.new.area c.act-d.new.nums l.log d.new.words c.in-Words.next (read_file-state t c) (read_file-deed t c)
+
+-- a deed that is not refused: its place is in its table, and with its record the loop goes on
+read_file-did : (t : ℕ) (c : read_file-After-warnings_with-warnings t) → read_file-Did t c
+read_file-did t c =
+    let a = c.args in let h = c.requires in let l = c.loop-v in let b = c.place-base in let z = c.place-len in let d = c.next_command in
+    let p = c.pair in let m = c.number-c in let x = c.counted in
+    record {
+      fits = deed_fits _ _ _ _ _ _ _ _ c.act-d.result (acts_of _ _ _ _ _ _ _ (asks a.job.now a.files.now _ l.nums _ a.count _ a.k a.left _ (turn_doing a.job.now a.files.now a.area.now a.nums.now a.log.now a.count a.k a.left a.s b.result z.result h b.ensures z.ensures l.area l.nums l.log l.words l.at l.u l.invariant _ _ d.result d.ensures _ _ _ c.in-Words.is d.auto.area _ refl) m.result (named_at _ _ _ m.result m.result p.ensures m.ensures.is refl) x.result x.ensures _ c.in-Of.is c.if-c-eq2.false m.ensures.known) c.brief_of-b.result c.brief_of-b.ensures c.if-c-eq1.false c.if-c-eq4.false _ _ c.act-d.ensures) l.log (told _ _ _ c.refused.ensures c.if-refused.false) c.rows_with-rows.result c.warnings_with-warnings.result c.rows_with-rows.ensures c.warnings_with-warnings.ensures;
+      less = turn_less a.job.now a.files.now a.area.now a.nums.now a.log.now a.count a.k a.left a.s b.result z.result h b.ensures z.ensures l.area l.nums l.log l.words l.at l.u l.invariant _ _ d.result d.ensures _ _ _ c.in-Words.is;
+      again = λ v e. turn_again a.job.now a.files.now a.area.now a.nums.now a.log.now a.count a.k a.left a.s b.result z.result h b.ensures z.ensures l.area l.nums l.log l.words l.at l.u l.invariant _ _ d.result d.ensures _ _ _ c.in-Words.is d.auto.area _ refl _ _ _ _ (does a.job.now a.files.now _ l.nums _ a.count _ a.k a.left _ (turn_doing a.job.now a.files.now a.area.now a.nums.now a.log.now a.count a.k a.left a.s b.result z.result h b.ensures z.ensures l.area l.nums l.log l.words l.at l.u l.invariant _ _ d.result d.ensures _ _ _ c.in-Words.is d.auto.area _ refl) m.result (named_at _ _ _ m.result m.result p.ensures m.ensures.is refl) x.result x.ensures _ c.in-Of.is c.if-c-eq2.false _ _ _ _ _ (deed_done _ _ _ _ _ _ _ _ c.act-d.result (acts_of _ _ _ _ _ _ _ (asks a.job.now a.files.now _ l.nums _ a.count _ a.k a.left _ (turn_doing a.job.now a.files.now a.area.now a.nums.now a.log.now a.count a.k a.left a.s b.result z.result h b.ensures z.ensures l.area l.nums l.log l.words l.at l.u l.invariant _ _ d.result d.ensures _ _ _ c.in-Words.is d.auto.area _ refl) m.result (named_at _ _ _ m.result m.result p.ensures m.ensures.is refl) x.result x.ensures _ c.in-Of.is c.if-c-eq2.false m.ensures.known) c.brief_of-b.result c.brief_of-b.ensures c.if-c-eq1.false c.if-c-eq4.false _ _ c.act-d.ensures) l.log (told _ _ _ c.refused.ensures c.if-refused.false) c.rows_with-rows.result c.warnings_with-warnings.result c.rows_with-rows.ensures c.warnings_with-warnings.ensures v e)) refl d.auto.words refl c.act-d.auto.nums refl;
+    }
+
+pub read_file-add_variable-u-requires : goal.read_file-add_variable-u-requires
+read_file-add_variable-u-requires t c =
+    let e = (goal.at.read_file-add_variable-u-requires t c).After-warnings_with-warnings in
+    variable_fits (read_file-state t e) (read_file-deed t e) _ _ c.in-Variable.is (read_file-did t e).fits
+
+pub read_file-loop-v-smaller-in-Variable : goal.read_file-loop-v-smaller-in-Variable
+read_file-loop-v-smaller-in-Variable t c = (read_file-did t (goal.at.read_file-loop-v-smaller-in-Variable t c).After-warnings_with-warnings).less
+
+pub read_file-loop-v-preserved-in-Variable : goal.read_file-loop-v-preserved-in-Variable
+read_file-loop-v-preserved-in-Variable t c =
+    let e = (goal.at.read_file-loop-v-preserved-in-Variable t c).After-warnings_with-warnings in
+    (read_file-did t e).again _ (variable_done (read_file-state t e) (read_file-deed t e) _ _ _ c.in-Variable.is c.add_variable-u.ensures)
+
+pub read_file-loop-v-smaller-in-Top : goal.read_file-loop-v-smaller-in-Top
+read_file-loop-v-smaller-in-Top t c = (read_file-did t (goal.at.read_file-loop-v-smaller-in-Top t c).After-warnings_with-warnings).less
+
+pub read_file-loop-v-preserved-in-Top : goal.read_file-loop-v-preserved-in-Top
+read_file-loop-v-preserved-in-Top t c =
+    let e = (goal.at.read_file-loop-v-preserved-in-Top t c).After-warnings_with-warnings in
+    (read_file-did t e).again _ (top_done (read_file-state t e) (read_file-deed t e) _ _ c.in-Top.is c.with_top-u.ensures)
+
+pub read_file-add_domain-u-requires : goal.read_file-add_domain-u-requires
+read_file-add_domain-u-requires t c =
+    let e = (goal.at.read_file-add_domain-u-requires t c).After-warnings_with-warnings in
+    domain_fits_lem (read_file-state t e) (read_file-deed t e) _ c.in-Domain.is (read_file-did t e).fits
+
+pub read_file-loop-v-smaller-in-Domain : goal.read_file-loop-v-smaller-in-Domain
+read_file-loop-v-smaller-in-Domain t c = (read_file-did t (goal.at.read_file-loop-v-smaller-in-Domain t c).After-warnings_with-warnings).less
+
+pub read_file-loop-v-preserved-in-Domain : goal.read_file-loop-v-preserved-in-Domain
+read_file-loop-v-preserved-in-Domain t c =
+    let e = (goal.at.read_file-loop-v-preserved-in-Domain t c).After-warnings_with-warnings in
+    (read_file-did t e).again _ (domain_done (read_file-state t e) (read_file-deed t e) _ _ c.in-Domain.is c.add_domain-u.ensures)
+
+pub read_file-set_domain-u-requires : goal.read_file-set_domain-u-requires
+read_file-set_domain-u-requires t c =
+    let e = (goal.at.read_file-set_domain-u-requires t c).After-warnings_with-warnings in
+    supplied_fits (read_file-state t e) (read_file-deed t e) _ _ c.in-Supplied.is (read_file-did t e).fits
+
+pub read_file-loop-v-smaller-in-Supplied : goal.read_file-loop-v-smaller-in-Supplied
+read_file-loop-v-smaller-in-Supplied t c = (read_file-did t (goal.at.read_file-loop-v-smaller-in-Supplied t c).After-warnings_with-warnings).less
+
+pub read_file-loop-v-preserved-in-Supplied : goal.read_file-loop-v-preserved-in-Supplied
+read_file-loop-v-preserved-in-Supplied t c =
+    let e = (goal.at.read_file-loop-v-preserved-in-Supplied t c).After-warnings_with-warnings in
+    (read_file-did t e).again _ (supplied_done (read_file-state t e) (read_file-deed t e) _ _ _ c.in-Supplied.is c.set_domain-u.ensures)
+
+pub read_file-add_net-u-requires : goal.read_file-add_net-u-requires
+read_file-add_net-u-requires t c =
+    let e = (goal.at.read_file-add_net-u-requires t c).After-warnings_with-warnings in
+    net_fits (read_file-state t e) (read_file-deed t e) _ c.in-Net.is (read_file-did t e).fits
+
+pub read_file-loop-v-smaller-in-Net : goal.read_file-loop-v-smaller-in-Net
+read_file-loop-v-smaller-in-Net t c = (read_file-did t (goal.at.read_file-loop-v-smaller-in-Net t c).After-warnings_with-warnings).less
+
+pub read_file-loop-v-preserved-in-Net : goal.read_file-loop-v-preserved-in-Net
+read_file-loop-v-preserved-in-Net t c =
+    let e = (goal.at.read_file-loop-v-preserved-in-Net t c).After-warnings_with-warnings in
+    (read_file-did t e).again _ (net_done (read_file-state t e) (read_file-deed t e) _ _ c.in-Net.is c.add_net-u.ensures)
+
+pub read_file-add_port-u-requires : goal.read_file-add_port-u-requires
+read_file-add_port-u-requires t c =
+    let e = (goal.at.read_file-add_port-u-requires t c).After-warnings_with-warnings in
+    port_fits (read_file-state t e) (read_file-deed t e) _ c.in-Port.is (read_file-did t e).fits
+
+pub read_file-loop-v-smaller-in-Port : goal.read_file-loop-v-smaller-in-Port
+read_file-loop-v-smaller-in-Port t c = (read_file-did t (goal.at.read_file-loop-v-smaller-in-Port t c).After-warnings_with-warnings).less
+
+pub read_file-loop-v-preserved-in-Port : goal.read_file-loop-v-preserved-in-Port
+read_file-loop-v-preserved-in-Port t c =
+    let e = (goal.at.read_file-loop-v-preserved-in-Port t c).After-warnings_with-warnings in
+    (read_file-did t e).again _ (port_done (read_file-state t e) (read_file-deed t e) _ _ c.in-Port.is c.add_port-u.ensures)
+
+pub read_file-add_isolation-u-requires : goal.read_file-add_isolation-u-requires
+read_file-add_isolation-u-requires t c =
+    let e = (goal.at.read_file-add_isolation-u-requires t c).After-warnings_with-warnings in
+    isolation_fits (read_file-state t e) (read_file-deed t e) _ c.in-Isolation.is (read_file-did t e).fits
+
+pub read_file-loop-v-smaller-in-Isolation : goal.read_file-loop-v-smaller-in-Isolation
+read_file-loop-v-smaller-in-Isolation t c = (read_file-did t (goal.at.read_file-loop-v-smaller-in-Isolation t c).After-warnings_with-warnings).less
+
+pub read_file-loop-v-preserved-in-Isolation : goal.read_file-loop-v-preserved-in-Isolation
+read_file-loop-v-preserved-in-Isolation t c =
+    let e = (goal.at.read_file-loop-v-preserved-in-Isolation t c).After-warnings_with-warnings in
+    (read_file-did t e).again _ (isolation_done (read_file-state t e) (read_file-deed t e) _ _ c.in-Isolation.is c.add_isolation-u.ensures)
+
+pub read_file-set_isolation-u-requires : goal.read_file-set_isolation-u-requires
+read_file-set_isolation-u-requires t c =
+    let e = (goal.at.read_file-set_isolation-u-requires t c).After-warnings_with-warnings in
+    controlled_fits (read_file-state t e) (read_file-deed t e) _ _ c.in-Controlled.is (read_file-did t e).fits
+
+pub read_file-loop-v-smaller-in-Controlled : goal.read_file-loop-v-smaller-in-Controlled
+read_file-loop-v-smaller-in-Controlled t c = (read_file-did t (goal.at.read_file-loop-v-smaller-in-Controlled t c).After-warnings_with-warnings).less
+
+pub read_file-loop-v-preserved-in-Controlled : goal.read_file-loop-v-preserved-in-Controlled
+read_file-loop-v-preserved-in-Controlled t c =
+    let e = (goal.at.read_file-loop-v-preserved-in-Controlled t c).After-warnings_with-warnings in
+    (read_file-did t e).again _ (controlled_done (read_file-state t e) (read_file-deed t e) _ _ _ c.in-Controlled.is c.set_isolation-u.ensures)
+
+pub read_file-add_retention-u-requires : goal.read_file-add_retention-u-requires
+read_file-add_retention-u-requires t c =
+    let e = (goal.at.read_file-add_retention-u-requires t c).After-warnings_with-warnings in
+    retention_fits (read_file-state t e) (read_file-deed t e) _ c.in-Retention.is (read_file-did t e).fits
+
+pub read_file-loop-v-smaller-in-Retention : goal.read_file-loop-v-smaller-in-Retention
+read_file-loop-v-smaller-in-Retention t c = (read_file-did t (goal.at.read_file-loop-v-smaller-in-Retention t c).After-warnings_with-warnings).less
+
+pub read_file-loop-v-preserved-in-Retention : goal.read_file-loop-v-preserved-in-Retention
+read_file-loop-v-preserved-in-Retention t c =
+    let e = (goal.at.read_file-loop-v-preserved-in-Retention t c).After-warnings_with-warnings in
+    (read_file-did t e).again _ (retention_done (read_file-state t e) (read_file-deed t e) _ _ c.in-Retention.is c.add_retention-u.ensures)
+
+pub read_file-add_shifter-u-requires : goal.read_file-add_shifter-u-requires
+read_file-add_shifter-u-requires t c =
+    let e = (goal.at.read_file-add_shifter-u-requires t c).After-warnings_with-warnings in
+    shifter_fits (read_file-state t e) (read_file-deed t e) _ c.in-Shifter.is (read_file-did t e).fits
+
+pub read_file-loop-v-smaller-in-Shifter : goal.read_file-loop-v-smaller-in-Shifter
+read_file-loop-v-smaller-in-Shifter t c = (read_file-did t (goal.at.read_file-loop-v-smaller-in-Shifter t c).After-warnings_with-warnings).less
+
+pub read_file-loop-v-preserved-in-Shifter : goal.read_file-loop-v-preserved-in-Shifter
+read_file-loop-v-preserved-in-Shifter t c =
+    let e = (goal.at.read_file-loop-v-preserved-in-Shifter t c).After-warnings_with-warnings in
+    (read_file-did t e).again _ (shifter_done (read_file-state t e) (read_file-deed t e) _ _ c.in-Shifter.is c.add_shifter-u.ensures)
+
+pub read_file-add_table-u-requires : goal.read_file-add_table-u-requires
+read_file-add_table-u-requires t c =
+    let e = (goal.at.read_file-add_table-u-requires t c).After-warnings_with-warnings in
+    table_fits (read_file-state t e) (read_file-deed t e) _ c.in-Table.is (read_file-did t e).fits
+
+pub read_file-loop-v-smaller-in-Table : goal.read_file-loop-v-smaller-in-Table
+read_file-loop-v-smaller-in-Table t c = (read_file-did t (goal.at.read_file-loop-v-smaller-in-Table t c).After-warnings_with-warnings).less
+
+pub read_file-loop-v-preserved-in-Table : goal.read_file-loop-v-preserved-in-Table
+read_file-loop-v-preserved-in-Table t c =
+    let e = (goal.at.read_file-loop-v-preserved-in-Table t c).After-warnings_with-warnings in
+    (read_file-did t e).again _ (table_done (read_file-state t e) (read_file-deed t e) _ _ c.in-Table.is c.add_table-u.ensures)
+
+pub read_file-add_switch-u-requires : goal.read_file-add_switch-u-requires
+read_file-add_switch-u-requires t c =
+    let e = (goal.at.read_file-add_switch-u-requires t c).After-warnings_with-warnings in
+    switch_fits (read_file-state t e) (read_file-deed t e) _ _ c.in-Switch.is (read_file-did t e).fits
+
+pub read_file-loop-v-smaller-in-Switch : goal.read_file-loop-v-smaller-in-Switch
+read_file-loop-v-smaller-in-Switch t c = (read_file-did t (goal.at.read_file-loop-v-smaller-in-Switch t c).After-warnings_with-warnings).less
+
+pub read_file-loop-v-preserved-in-Switch : goal.read_file-loop-v-preserved-in-Switch
+read_file-loop-v-preserved-in-Switch t c =
+    let e = (goal.at.read_file-loop-v-preserved-in-Switch t c).After-warnings_with-warnings in
+    (read_file-did t e).again _ (switch_done (read_file-state t e) (read_file-deed t e) _ _ _ c.in-Switch.is c.add_switch-u.ensures)
+
+pub read_file-add_port_state-u-requires : goal.read_file-add_port_state-u-requires
+read_file-add_port_state-u-requires t c =
+    let e = (goal.at.read_file-add_port_state-u-requires t c).After-warnings_with-warnings in
+    portstate_fits (read_file-state t e) (read_file-deed t e) _ _ c.in-PortState.is (read_file-did t e).fits
+
+pub read_file-loop-v-smaller-in-PortState : goal.read_file-loop-v-smaller-in-PortState
+read_file-loop-v-smaller-in-PortState t c = (read_file-did t (goal.at.read_file-loop-v-smaller-in-PortState t c).After-warnings_with-warnings).less
+
+pub read_file-loop-v-preserved-in-PortState : goal.read_file-loop-v-preserved-in-PortState
+read_file-loop-v-preserved-in-PortState t c =
+    let e = (goal.at.read_file-loop-v-preserved-in-PortState t c).After-warnings_with-warnings in
+    (read_file-did t e).again _ (portstate_done (read_file-state t e) (read_file-deed t e) _ _ _ c.in-PortState.is c.add_port_state-u.ensures)
+
+pub read_file-loop-v-smaller : goal.read_file-loop-v-smaller
+read_file-loop-v-smaller t c = (read_file-did t (goal.at.read_file-loop-v-smaller t c).After-warnings_with-warnings).less
+
+pub read_file-loop-v-preserved : goal.read_file-loop-v-preserved
+read_file-loop-v-preserved t c =
+    let e = (goal.at.read_file-loop-v-preserved t c).After-warnings_with-warnings in
+    (read_file-did t e).again _ (done_other (read_file-state t e) (read_file-deed t e) (search rules))
