@@ -8,7 +8,7 @@ use Rattle.deeds.specs.Dones.{variable_fits, variable_done, top_done, domain_fit
 use native.Mathlib.Omega.{arith}
 use Prim.Native.Nat.{ℕ}
 use borrow.Author.Rules.{rules}
-use mathlib.Core.Path.{refl, sym, ◌∙◌}
+use mathlib.Core.Path.{refl}
 use Rattle.loads.specs.Behind.{asked_by}
 use Rattle.files.proofs.file.+load_read_file.Goals as goal
 use Rattle.files.proofs.file.+load_read_file.Goals.{read_file-After-warnings_with-warnings}
@@ -41,19 +41,11 @@ load-read_file-r-requires t c =
     let b = c.before_load-b in
     (omega (arith, c.decreases, deep c.args.job.now c.args.files.now c.args.area.now c.args.nums.now c.args.words.now c.args.count c.args.n c.args.k c.args.left c.args.s h c.if-s-gt1024.false _ _ _ (b.ensures _ (load_asks c.args.job.now c.args.files.now c.args.area.now c.args.nums.now c.args.words.now c.args.count c.args.n c.args.k c.args.left c.args.s h c.if-s-gt1024.false) refl) c.if-w-ne0.false), placed_opening c.args.s _ b.result.went c.in_scope-u.ensures _ _ _ _ _ _ _ (opening c.args.job.now c.args.files.now c.args.area.now c.args.nums.now c.args.words.now c.args.count c.args.n c.args.k c.args.left c.args.s h c.if-s-gt1024.false _ _ _ (b.ensures _ (load_asks c.args.job.now c.args.files.now c.args.area.now c.args.nums.now c.args.words.now c.args.count c.args.n c.args.k c.args.left c.args.s h c.if-s-gt1024.false) refl) c.if-w-ne0.false))
 
-pub load-shape_of-area-then-r-ne0 : goal.load-shape_of-area-then-r-ne0
-load-shape_of-area-then-r-ne0 t c =
-    c.read_file-r.auto.area ∙ c.before_load-b.auto.area
-
 pub load-returns-then-r-ne0 : goal.load-returns-then-r-ne0
 load-returns-then-r-ne0 t c =
     let h = c.requires in
     let b = c.before_load-b in
     failed c.args.job.now c.args.files.now c.args.area.now c.args.nums.now c.args.words.now c.args.count c.args.n c.args.k c.args.left c.args.s h c.if-s-gt1024.false _ _ _ (b.ensures _ (load_asks c.args.job.now c.args.files.now c.args.area.now c.args.nums.now c.args.words.now c.args.count c.args.n c.args.k c.args.left c.args.s h c.if-s-gt1024.false) refl) c.if-w-ne0.false _ _ _ _ _ (placed_reads c.args.s _ b.result.went c.in_scope-u.ensures _ _ _ _ _ _ _ _ _ _ _ _ c.read_file-r.ensures) c.if-r-ne0.true
-
-pub load-shape_of-area : goal.load-shape_of-area
-load-shape_of-area t c =
-    c.read_file-r.auto.area ∙ c.before_load-b.auto.area
 
 pub load-returns : goal.load-returns
 load-returns t c =
@@ -61,57 +53,20 @@ load-returns t c =
     let b = c.before_load-b in
     behind c.args.job.now c.args.files.now c.args.area.now c.args.nums.now c.args.words.now c.args.count c.args.n c.args.k c.args.left c.args.s h c.if-s-gt1024.false _ _ _ (b.ensures _ (load_asks c.args.job.now c.args.files.now c.args.area.now c.args.nums.now c.args.words.now c.args.count c.args.n c.args.k c.args.left c.args.s h c.if-s-gt1024.false) refl) c.if-w-ne0.false _ _ _ _ _ (placed_reads c.args.s _ b.result.went c.in_scope-u.ensures _ _ _ _ _ _ _ _ _ _ _ _ c.read_file-r.ensures) c.if-r-ne0.false _ (head_back_lem c.args.s c.read_file-r.result.state _ c.back-u.ensures)
 
-pub read_file-slice_bounds-next_command-end-in-loop-v : goal.read_file-slice_bounds-next_command-end-in-loop-v
-read_file-slice_bounds-next_command-end-in-loop-v t c =
-    sym c.loop-v.invariant.spans
-
 pub read_file-loop-v-init : goal.read_file-loop-v-init
 read_file-loop-v-init t c =
     let b = c.place-base in let z = c.place-len in
     going_start c.args.job.now c.args.files.now c.args.area.now c.args.nums.now c.args.log.now c.args.count c.args.k c.args.left c.args.s b.result z.result c.requires b.ensures z.ensures _ refl
-
-pub read_file-slice_bounds-next_command-end : goal.read_file-slice_bounds-next_command-end
-read_file-slice_bounds-next_command-end t c =
-    sym c.requires.held.shaped.long
 
 pub read_file-next_command-requires : goal.read_file-next_command-requires
 read_file-next_command-requires t c =
     let l = c.loop-v in let b = c.place-base in let z = c.place-len in
     next_asks c.args.job.now c.args.files.now c.args.area.now c.args.nums.now c.args.log.now c.args.count c.args.k c.args.left c.args.s b.result z.result c.requires b.ensures z.ensures l.area l.nums l.log l.words l.at l.u l.invariant
 
-pub read_file-shape_of-area-in-None : goal.read_file-shape_of-area-in-None
-read_file-shape_of-area-in-None t c =
-    c.next_command.auto.area ∙ c.loop-v.invariant.area_long
-
-pub read_file-shape_of-nums-in-None : goal.read_file-shape_of-nums-in-None
-read_file-shape_of-nums-in-None t c =
-    c.loop-v.invariant.nums_long
-
-pub read_file-shape_of-log-in-None : goal.read_file-shape_of-log-in-None
-read_file-shape_of-log-in-None t c =
-    c.loop-v.invariant.log_long
-
 pub read_file-returns-in-None : goal.read_file-returns-in-None
 read_file-returns-in-None t c =
     let h = c.requires in let l = c.loop-v in let b = c.place-base in let z = c.place-len in let d = c.next_command in
     turn_none c.args.job.now c.args.files.now c.args.area.now c.args.nums.now c.args.log.now c.args.count c.args.k c.args.left c.args.s b.result z.result h b.ensures z.ensures l.area l.nums l.log l.words l.at l.u l.invariant _ _ d.result d.ensures c.in-None.is
-
-pub read_file-begun-v-requires : goal.read_file-begun-v-requires
-read_file-begun-v-requires t c =
-    let l = c.loop-v in
-    (omega (arith, l.invariant.held.commands), (omega arith, omega (arith, l.invariant.held.substituted)))
-
-pub read_file-shape_of-area-in-Full : goal.read_file-shape_of-area-in-Full
-read_file-shape_of-area-in-Full t c =
-    c.next_command.auto.area ∙ c.loop-v.invariant.area_long
-
-pub read_file-shape_of-nums-in-Full : goal.read_file-shape_of-nums-in-Full
-read_file-shape_of-nums-in-Full t c =
-    c.loop-v.invariant.nums_long
-
-pub read_file-shape_of-log-in-Full : goal.read_file-shape_of-log-in-Full
-read_file-shape_of-log-in-Full t c =
-    c.loop-v.invariant.log_long
 
 pub read_file-returns-in-Full : goal.read_file-returns-in-Full
 read_file-returns-in-Full t c =
@@ -143,31 +98,11 @@ read_file-slice_bounds-number-end-in-Words t c =
     let h = c.requires in let l = c.loop-v in let b = c.place-base in let z = c.place-len in let d = c.next_command in
     front_long c.args.job.now c.args.files.now _ l.nums _ c.args.count _ c.args.k c.args.left _ (turn_doing c.args.job.now c.args.files.now c.args.area.now c.args.nums.now c.args.log.now c.args.count c.args.k c.args.left c.args.s b.result z.result h b.ensures z.ensures l.area l.nums l.log l.words l.at l.u l.invariant _ _ d.result d.ensures _ _ _ c.in-Words.is d.auto.area _ refl)
 
-pub read_file-slice_bounds-pair-end : goal.read_file-slice_bounds-pair-end
-read_file-slice_bounds-pair-end t c =
-    sym (c.next_command.auto.words ∙ c.loop-v.invariant.spans)
-
-pub read_file-slice_bounds-load-end : goal.read_file-slice_bounds-load-end
-read_file-slice_bounds-load-end t c =
-    sym (c.next_command.auto.words ∙ c.loop-v.invariant.spans)
-
 pub read_file-load-r-requires : goal.read_file-load-r-requires
 read_file-load-r-requires t c =
     let h = c.requires in let l = c.loop-v in let b = c.place-base in let z = c.place-len in let d = c.next_command in
     let p = c.pair in let m = c.number-c in
     (omega (arith, c.decreases), (record { doing = (turn_doing c.args.job.now c.args.files.now c.args.area.now c.args.nums.now c.args.log.now c.args.count c.args.k c.args.left c.args.s b.result z.result h b.ensures z.ensures l.area l.nums l.log l.words l.at l.u l.invariant _ _ d.result d.ensures _ _ _ c.in-Words.is d.auto.area _ refl); is = named_at _ _ _ m.result 2 p.ensures m.ensures.is c.if-c-eq2.true }))
-
-pub read_file-shape_of-area-then-r-ne0 : goal.read_file-shape_of-area-then-r-ne0
-read_file-shape_of-area-then-r-ne0 t c =
-    c.load-r.auto.area ∙ c.next_command.auto.area ∙ c.loop-v.invariant.area_long
-
-pub read_file-shape_of-nums-then-r-ne0 : goal.read_file-shape_of-nums-then-r-ne0
-read_file-shape_of-nums-then-r-ne0 t c =
-    c.load-r.auto.nums ∙ c.loop-v.invariant.nums_long
-
-pub read_file-shape_of-log-then-r-ne0 : goal.read_file-shape_of-log-then-r-ne0
-read_file-shape_of-log-then-r-ne0 t c =
-    c.load-r.auto.log ∙ c.loop-v.invariant.log_long
 
 pub read_file-returns-then-r-ne0 : goal.read_file-returns-then-r-ne0
 read_file-returns-then-r-ne0 t c =
@@ -194,26 +129,10 @@ read_file-slice_bounds-counted-end-in-Words t c =
     let h = c.requires in let l = c.loop-v in let b = c.place-base in let z = c.place-len in let d = c.next_command in
     front_long c.args.job.now c.args.files.now _ l.nums _ c.args.count _ c.args.k c.args.left _ (turn_doing c.args.job.now c.args.files.now c.args.area.now c.args.nums.now c.args.log.now c.args.count c.args.k c.args.left c.args.s b.result z.result h b.ensures z.ensures l.area l.nums l.log l.words l.at l.u l.invariant _ _ d.result d.ensures _ _ _ c.in-Words.is d.auto.area _ refl)
 
-pub read_file-slice_bounds-counted-end-in-Words-2 : goal.read_file-slice_bounds-counted-end-in-Words-2
-read_file-slice_bounds-counted-end-in-Words-2 t c =
-    sym (c.next_command.auto.words ∙ c.loop-v.invariant.spans)
-
 pub read_file-counted-requires : goal.read_file-counted-requires
 read_file-counted-requires t c =
     let h = c.requires in let l = c.loop-v in let b = c.place-base in let z = c.place-len in let d = c.next_command in
     lists c.args.job.now c.args.files.now _ l.nums _ c.args.count _ c.args.k c.args.left _ (turn_doing c.args.job.now c.args.files.now c.args.area.now c.args.nums.now c.args.log.now c.args.count c.args.k c.args.left c.args.s b.result z.result h b.ensures z.ensures l.area l.nums l.log l.words l.at l.u l.invariant _ _ d.result d.ensures _ _ _ c.in-Words.is d.auto.area _ refl)
-
-pub read_file-shape_of-area-in_default : goal.read_file-shape_of-area-in_default
-read_file-shape_of-area-in_default t c =
-    c.next_command.auto.area ∙ c.loop-v.invariant.area_long
-
-pub read_file-shape_of-nums-in_default : goal.read_file-shape_of-nums-in_default
-read_file-shape_of-nums-in_default t c =
-    c.loop-v.invariant.nums_long
-
-pub read_file-shape_of-log-in_default : goal.read_file-shape_of-log-in_default
-read_file-shape_of-log-in_default t c =
-    c.loop-v.invariant.log_long
 
 pub read_file-returns-in_default : goal.read_file-returns-in_default
 read_file-returns-in_default t c =
@@ -231,10 +150,6 @@ read_file-slice_bounds-puts-end-then-c-eq1 t c =
     let h = c.requires in let l = c.loop-v in let b = c.place-base in let z = c.place-len in let d = c.next_command in
     front_long c.args.job.now c.args.files.now _ l.nums _ c.args.count _ c.args.k c.args.left _ (turn_doing c.args.job.now c.args.files.now c.args.area.now c.args.nums.now c.args.log.now c.args.count c.args.k c.args.left c.args.s b.result z.result h b.ensures z.ensures l.area l.nums l.log l.words l.at l.u l.invariant _ _ d.result d.ensures _ _ _ c.in-Words.is d.auto.area _ refl)
 
-pub read_file-slice_bounds-puts-end-then-c-eq1-2 : goal.read_file-slice_bounds-puts-end-then-c-eq1-2
-read_file-slice_bounds-puts-end-then-c-eq1-2 t c =
-    sym (c.next_command.auto.words ∙ c.loop-v.invariant.spans)
-
 pub read_file-loop-v-smaller-then-c-eq1 : goal.read_file-loop-v-smaller-then-c-eq1
 read_file-loop-v-smaller-then-c-eq1 t c =
     let h = c.requires in let l = c.loop-v in let b = c.place-base in let z = c.place-len in let d = c.next_command in
@@ -246,27 +161,11 @@ read_file-loop-v-preserved-then-c-eq1 t c =
     let p = c.pair in let m = c.number-c in let x = c.counted in
     turn_again c.args.job.now c.args.files.now c.args.area.now c.args.nums.now c.args.log.now c.args.count c.args.k c.args.left c.args.s b.result z.result h b.ensures z.ensures l.area l.nums l.log l.words l.at l.u l.invariant _ _ d.result d.ensures _ _ _ c.in-Words.is d.auto.area _ refl _ _ _ _ (does c.args.job.now c.args.files.now _ l.nums _ c.args.count _ c.args.k c.args.left _ (turn_doing c.args.job.now c.args.files.now c.args.area.now c.args.nums.now c.args.log.now c.args.count c.args.k c.args.left c.args.s b.result z.result h b.ensures z.ensures l.area l.nums l.log l.words l.at l.u l.invariant _ _ d.result d.ensures _ _ _ c.in-Words.is d.auto.area _ refl) m.result (named_at _ _ _ m.result m.result p.ensures m.ensures.is refl) x.result x.ensures _ c.in-Of.is c.if-c-eq2.false _ _ _ _ _ (said _ _ _ _ _ _ _ c.if-c-eq1.true (asks c.args.job.now c.args.files.now _ l.nums _ c.args.count _ c.args.k c.args.left _ (turn_doing c.args.job.now c.args.files.now c.args.area.now c.args.nums.now c.args.log.now c.args.count c.args.k c.args.left c.args.s b.result z.result h b.ensures z.ensures l.area l.nums l.log l.words l.at l.u l.invariant _ _ d.result d.ensures _ _ _ c.in-Words.is d.auto.area _ refl) m.result (named_at _ _ _ m.result m.result p.ensures m.ensures.is refl) x.result x.ensures _ c.in-Of.is c.if-c-eq2.false m.ensures.known) _ _ _ c.puts-end.ensures)) refl d.auto.words refl refl c.puts-end.auto.log
 
-pub read_file-slice_bounds-set_scope-end : goal.read_file-slice_bounds-set_scope-end
-read_file-slice_bounds-set_scope-end t c =
-    sym (c.next_command.auto.words ∙ c.loop-v.invariant.spans)
-
 pub read_file-set_scope-w-requires : goal.read_file-set_scope-w-requires
 read_file-set_scope-w-requires t c =
     let h = c.requires in let l = c.loop-v in let b = c.place-base in let z = c.place-len in let d = c.next_command in
     let p = c.pair in let m = c.number-c in let x = c.counted in
     scope_asks _ _ _ _ _ _ _ (asks c.args.job.now c.args.files.now _ l.nums _ c.args.count _ c.args.k c.args.left _ (turn_doing c.args.job.now c.args.files.now c.args.area.now c.args.nums.now c.args.log.now c.args.count c.args.k c.args.left c.args.s b.result z.result h b.ensures z.ensures l.area l.nums l.log l.words l.at l.u l.invariant _ _ d.result d.ensures _ _ _ c.in-Words.is d.auto.area _ refl) m.result (named_at _ _ _ m.result m.result p.ensures m.ensures.is refl) x.result x.ensures _ c.in-Of.is c.if-c-eq2.false m.ensures.known)
-
-pub read_file-shape_of-area-then-w-ne0 : goal.read_file-shape_of-area-then-w-ne0
-read_file-shape_of-area-then-w-ne0 t c =
-    c.set_scope-w.auto.area ∙ c.next_command.auto.area ∙ c.loop-v.invariant.area_long
-
-pub read_file-shape_of-nums-then-w-ne0 : goal.read_file-shape_of-nums-then-w-ne0
-read_file-shape_of-nums-then-w-ne0 t c =
-    c.loop-v.invariant.nums_long
-
-pub read_file-shape_of-log-then-w-ne0 : goal.read_file-shape_of-log-then-w-ne0
-read_file-shape_of-log-then-w-ne0 t c =
-    c.loop-v.invariant.log_long
 
 pub read_file-returns-then-w-ne0 : goal.read_file-returns-then-w-ne0
 read_file-returns-then-w-ne0 t c =
@@ -295,42 +194,17 @@ read_file-slice_bounds-act-end-in-Words t c =
     let h = c.requires in let l = c.loop-v in let b = c.place-base in let z = c.place-len in let d = c.next_command in
     front_long c.args.job.now c.args.files.now _ l.nums _ c.args.count _ c.args.k c.args.left _ (turn_doing c.args.job.now c.args.files.now c.args.area.now c.args.nums.now c.args.log.now c.args.count c.args.k c.args.left c.args.s b.result z.result h b.ensures z.ensures l.area l.nums l.log l.words l.at l.u l.invariant _ _ d.result d.ensures _ _ _ c.in-Words.is d.auto.area _ refl)
 
-pub read_file-slice_bounds-act-end-in-Words-2 : goal.read_file-slice_bounds-act-end-in-Words-2
-read_file-slice_bounds-act-end-in-Words-2 t c =
-    sym (c.next_command.auto.words ∙ c.loop-v.invariant.spans)
-
 pub read_file-act-d-requires : goal.read_file-act-d-requires
 read_file-act-d-requires t c =
     let h = c.requires in let l = c.loop-v in let b = c.place-base in let z = c.place-len in let d = c.next_command in
     let p = c.pair in let m = c.number-c in let x = c.counted in
     (acting _ _ _ _ _ _ _ (asks c.args.job.now c.args.files.now _ l.nums _ c.args.count _ c.args.k c.args.left _ (turn_doing c.args.job.now c.args.files.now c.args.area.now c.args.nums.now c.args.log.now c.args.count c.args.k c.args.left c.args.s b.result z.result h b.ensures z.ensures l.area l.nums l.log l.words l.at l.u l.invariant _ _ d.result d.ensures _ _ _ c.in-Words.is d.auto.area _ refl) m.result (named_at _ _ _ m.result m.result p.ensures m.ensures.is refl) x.result x.ensures _ c.in-Of.is c.if-c-eq2.false m.ensures.known) c.brief_of-b.result c.brief_of-b.ensures c.if-c-eq1.false c.if-c-eq4.false)
 
-pub read_file-shape_of-area-then-refused : goal.read_file-shape_of-area-then-refused
-read_file-shape_of-area-then-refused t c =
-    c.next_command.auto.area ∙ c.loop-v.invariant.area_long
-
-pub read_file-shape_of-nums-then-refused : goal.read_file-shape_of-nums-then-refused
-read_file-shape_of-nums-then-refused t c =
-    c.act-d.auto.nums ∙ c.loop-v.invariant.nums_long
-
-pub read_file-shape_of-log-then-refused : goal.read_file-shape_of-log-then-refused
-read_file-shape_of-log-then-refused t c =
-    c.loop-v.invariant.log_long
-
 pub read_file-returns-then-refused : goal.read_file-returns-then-refused
 read_file-returns-then-refused t c =
     let h = c.requires in let l = c.loop-v in let b = c.place-base in let z = c.place-len in let d = c.next_command in
     let p = c.pair in let m = c.number-c in let x = c.counted in
     turn_failed c.args.job.now c.args.files.now c.args.area.now c.args.nums.now c.args.log.now c.args.count c.args.k c.args.left c.args.s b.result z.result h b.ensures z.ensures l.area l.nums l.log l.words l.at l.u l.invariant _ _ d.result d.ensures _ _ _ c.in-Words.is d.auto.area _ refl _ _ _ _ (does c.args.job.now c.args.files.now _ l.nums _ c.args.count _ c.args.k c.args.left _ (turn_doing c.args.job.now c.args.files.now c.args.area.now c.args.nums.now c.args.log.now c.args.count c.args.k c.args.left c.args.s b.result z.result h b.ensures z.ensures l.area l.nums l.log l.words l.at l.u l.invariant _ _ d.result d.ensures _ _ _ c.in-Words.is d.auto.area _ refl) m.result (named_at _ _ _ m.result m.result p.ensures m.ensures.is refl) x.result x.ensures _ c.in-Of.is c.if-c-eq2.false _ _ _ _ _ (deed_refused _ _ _ _ _ _ _ _ c.act-d.result (acts_of _ _ _ _ _ _ _ (asks c.args.job.now c.args.files.now _ l.nums _ c.args.count _ c.args.k c.args.left _ (turn_doing c.args.job.now c.args.files.now c.args.area.now c.args.nums.now c.args.log.now c.args.count c.args.k c.args.left c.args.s b.result z.result h b.ensures z.ensures l.area l.nums l.log l.words l.at l.u l.invariant _ _ d.result d.ensures _ _ _ c.in-Words.is d.auto.area _ refl) m.result (named_at _ _ _ m.result m.result p.ensures m.ensures.is refl) x.result x.ensures _ c.in-Of.is c.if-c-eq2.false m.ensures.known) c.brief_of-b.result c.brief_of-b.ensures c.if-c-eq1.false c.if-c-eq4.false _ _ c.act-d.ensures) l.log (told _ _ _ c.refused.ensures c.if-refused.true))) (λ q. absurd (omega (arith, q)))
-
-pub read_file-rows_with-rows-requires : goal.read_file-rows_with-rows-requires
-read_file-rows_with-rows-requires t c =
-    let l = c.loop-v in
-    omega (arith, l.invariant.held.rows, l.invariant.held.commands)
-
-pub read_file-warnings_with-warnings-requires : goal.read_file-warnings_with-warnings-requires
-read_file-warnings_with-warnings-requires t c =
-    (told _ _ _ c.refused.ensures c.if-refused.false)
 
 -- the deed, and the state when its rows and warnings are counted
 abbrev read_file-deed : (t : ℕ) → read_file-After-warnings_with-warnings t → Deed
