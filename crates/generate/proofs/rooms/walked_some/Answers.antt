@@ -1,0 +1,7 @@
+-- `generate::rooms::walked_some` meets its contract. Assumes nothing.
+use Rattle.generate.proofs.Walking.{make_some}
+use borrow.Author.Rules.{rules}
+use Rattle.generate.proofs.rooms.walked_some.Goals as goal
+
+pub make-requires : goal.make-requires
+make-requires c = make_some c.args.job.now c.args.nums.now c.args.count c.args.k c.args.files.now c.args.area.now c.args.path.now c.args.s c.requires.0.0 _ _ (search rules) c.requires.0.1 (search rules)
