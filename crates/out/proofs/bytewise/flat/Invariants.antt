@@ -1,0 +1,14 @@
+use Prim.Native.Nat.{◌≤◌, ◌-◌}
+use mathlib.Core.Path.{◌≡◌}
+use lib.ListN.{length, drop}
+use Rattle.out.specs.Emit.{◌▸◌, emit}
+use Rattle.out.specs.Bytewise.{becomes, flat}
+use Rattle.out.proofs.bytewise.flat.Given as goal
+
+abbrev pub invariant-loop-i : goal.invariant-loop-i
+invariant-loop-i l = (l.i ≤ length l.piece)
+    × (length l.out ≡ length l.initial.out)
+    × (emit (l.out ▸ l.o) (flat (becomes l.m) (drop l.i l.piece)) ≡ emit (l.initial.out ▸ l.at) (flat (becomes l.m) l.piece))
+
+abbrev pub decreases-loop-i : goal.decreases-loop-i
+decreases-loop-i l = length l.piece - l.i
