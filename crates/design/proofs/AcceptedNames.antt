@@ -29,17 +29,9 @@ use Rattle.joblines.specs.Lines.{top_line, override_line, start_line, file_read,
 use Rattle.joblines.specs.Parse.{Parsed, accepted, refused, is_nothing, has_line, first_line, behind_line, carry_on, lines, listed, parse}
 use Rattle.design.specs.Ports.{losable}
 use Rattle.design.specs.Losables.{losable_name}
+use Rattle.design.specs.AcceptedNames.{Named, AllNamed, Plain}
 
 -- ---- what is claimed
-
--- the names of a module's lines are NAMEs
-pub record Named (m : Module) : Type 0 where
-  pub ports : (p : Port) → Mem p m.ports → is_name p.name ≡ true
-  pub decls : (d : Decl) → Mem d m.decls → is_name d.name ≡ true
-  pub insts : (i : Inst) → Mem i m.insts → is_name i.name ≡ true
-
-abbrev pub AllNamed : List Module → Type 0
-AllNamed d = (m : Module) → Mem m d → Named m
 
 -- ---- a module with one line more
 
@@ -333,12 +325,6 @@ pub name_filled : (s : Bytes) → is_name s ≡ true → 0 < length s
 unfolding is_name
 name_filled [] e = absurd (no_true e)
 name_filled (b ∷ s) e = omega arith
-
--- no name of an instance and no losable name has a dot or is empty
-pub record Plain (d : List Module) : Type 0 where
-  pub inst_dotless : (m : Module) → Mem m d → (i : Inst) → Mem i m.insts → Mem (byte ".") i.name → ⊥
-  pub inst_filled : (m : Module) → Mem m d → (i : Inst) → Mem i m.insts → 0 < length i.name
-  pub name_dotless : (m : Module) → Mem m d → (n : Bytes) → Mem n (losable m) → Mem (byte ".") n → ⊥
 
 pub accepted_plain : (t : Bytes) (j : Job) → parse t ≡ accepted j → Plain j.modules
 accepted_plain t j e =

@@ -10,3 +10,4 @@ pub mod Examples
 -- Laws.
 pub mod Laws
 pub mod Losables
+pub mod AcceptedNames

@@ -9,7 +9,7 @@ use Rattle.nametable.specs.Table.{table_names}
 use Rattle.design.specs.Paths.{child_path, scope_path}
 use Rattle.walk.specs.Limits.{most_paths, most_path_bytes}
 use Rattle.walk.specs.Walk.{domain_list, domain_entered, walk_fits}
-use Rattle.walk.proofs.Relative.{Filled}
+use Rattle.walk.specs.Relative.{Filled}
 use Rattle.paths.specs.Pieces.{entries_below, stem}
 use Rattle.listing.specs.Listing.{paths_of, flag_count, cut_length, Answer}
 use Rattle.modtable.specs.Table.{Tabled}

@@ -8,7 +8,7 @@ use Rattle.lookup.specs.Rows.{modules}
 use Rattle.nametable.specs.Table.{table_names}
 use Rattle.design.specs.Paths.{scope_path}
 use Rattle.walk.specs.Limits.{most_paths, most_path_bytes}
-use Rattle.walk.proofs.Relative.{Filled}
+use Rattle.walk.specs.Relative.{Filled}
 use Rattle.paths.specs.Pieces.{stem}
 use Rattle.listing.specs.Listing.{flag_count}
 use Rattle.modtable.specs.Table.{Tabled}

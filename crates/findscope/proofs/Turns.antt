@@ -24,7 +24,8 @@ use Rattle.joblines.specs.Job.{Module}
 use Rattle.jobindex.specs.Index.{module_row, job_of}
 use Rattle.jobindex.specs.declared.Header.{Header}
 use Rattle.jobindex.specs.declared.Span.{Span}
-use Rattle.design.proofs.AcceptedNames.{AllNamed, accepted_names}
+use Rattle.design.specs.AcceptedNames.{AllNamed}
+use Rattle.design.proofs.AcceptedNames.{accepted_names}
 use Rattle.design.specs.Limits.{most_calls}
 use Rattle.design.specs.Lookup.{module_at}
 use Rattle.design.specs.Search.{search_type, calls_made}

@@ -17,7 +17,8 @@ use Rattle.out.specs.Items.{behind, joined}
 use Rattle.fields.specs.Fields.{is_name}
 use Rattle.fields.specs.Names.{name_bytes, name_some, name_short}
 use Rattle.joblines.specs.Job.{Inst, Module}
-use Rattle.design.proofs.AcceptedNames.{Named, AllNamed, no_some}
+use Rattle.design.specs.AcceptedNames.{Named, AllNamed}
+use Rattle.design.proofs.AcceptedNames.{no_some}
 use Rattle.design.specs.Laws.{first_mem}
 use Rattle.design.specs.Lists.{on_some}
 use Rattle.design.specs.Lookup.{module_named}

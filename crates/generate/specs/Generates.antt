@@ -3,7 +3,7 @@
 use Rattle.std.specs.Prelude.{ℕ, ◌+◌, ◌≤◌, ◌<◌, ◌^◌, List, length}
 use Rattle.text.specs.Ascii.{Bytes}
 use Rattle.lookup.specs.Rows.{modules}
-use Rattle.walk.proofs.Relative.{Filled}
+use Rattle.walk.specs.Relative.{Filled}
 use Rattle.modtable.specs.Making.{Limited}
 use Rattle.corrupt.specs.Corrupt.{Short}
 use Rattle.store.specs.declared.state.State.{State}

@@ -10,7 +10,7 @@ use Rattle.joblines.specs.Job.{Module}
 use Rattle.design.specs.Lists.{those}
 use Rattle.design.specs.Paths.{child_path, scope_path}
 use Rattle.walk.specs.Walk.{domain_list, domain_entered, walk_fits}
-use Rattle.walk.proofs.Relative.{Filled}
+use Rattle.walk.specs.Relative.{Filled}
 use Rattle.listing.specs.declared.Walk.{Walk}
 use Rattle.listing.specs.Listing.{paths_of, Answer}
 use Rattle.walkfits.specs.Exact.{top_over, top_paths, scope_over, scope_paths}

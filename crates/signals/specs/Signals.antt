@@ -16,7 +16,8 @@ use Rattle.walk.proofs.Demand.{listed_iff, listed_once, listed_number, three_lis
 use Rattle.model.specs.Records.{Domain}
 use Rattle.texts.specs.Domains.{retained_entries, wire, powered_line, exempt, own_retained}
 use Rattle.texts.specs.ForceLines.{force_lines, force_line, names_on_one_line}
-use Rattle.texts.proofs.Blocks.{always_of, initial_of, glue_head, glue_for, report_head, report_for, report_tail, glue_has_blocks, report_has_line, line_says, number_printed, always_lines, initial_lines, lines_number, lines_once}
+use Rattle.texts.specs.Blocks.{always_of, initial_of, glue_head, glue_for, report_head, report_for, report_tail}
+use Rattle.texts.proofs.Blocks.{glue_has_blocks, report_has_line, line_says, number_printed, always_lines, initial_lines, lines_number, lines_once}
 use Rattle.answers.specs.Answer.{Lent}
 use Rattle.signals.specs.Accepted.{Accepted, setting_in, listed, its_scope, mem_at, Alike, listed_alike}
 

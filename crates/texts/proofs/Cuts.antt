@@ -18,16 +18,9 @@ use Rattle.texts.specs.Laws.{all_append}
 use Rattle.model.specs.Records.{Domain}
 use Rattle.texts.specs.Domains.{Check, force, release, check_line, always_block, initial_block}
 use Rattle.texts.specs.ForceLines.{lines_of, is_force, force_lines, force_line, on_one_line}
+use Rattle.texts.specs.Cuts.{written, line, check_on_one_line}
 
 -- ---- one line and what is behind it
-
--- the pieces of a line, and t behind them
-abbrev pub written : List Bytes → Bytes → Bytes
-written [] t = t
-written (p ∷ ps) t = p ++ written ps t
-
-abbrev pub line : List Bytes → Bytes
-line ps = written ps []
 
 pub written_behind : (ps : List Bytes) (t u : Bytes) → written ps t ++ u ≡ written ps (t ++ u)
 written_behind [] t u = refl
@@ -84,10 +77,6 @@ release_skipped p u h = rw (append_assoc p (ascii ";\n") u) (skip (ascii "      
 force_kept : (p u : Bytes) → on_one_line p ≡ true → force_lines (force p ++ u) ≡ force_line p ∷ force_lines u
 unfolding fill filled adds turns arg pick all same
 force_kept p u h = rw (append_assoc p (ascii " = 'x;\n") u) (keep (ascii "      force " ∷ p ∷ ascii " = 'x;" ∷ []) u (rw h) refl)
-
--- the parts of a check have no LF
-abbrev pub check_on_one_line : Check → Bool
-check_on_one_line c = on_one_line c.signal && (on_one_line c.active && on_one_line c.strategy)
 
 -- the pieces of a check's line
 abbrev check_pieces : Bytes → Check → List Bytes

@@ -22,7 +22,7 @@ use Rattle.design.specs.Paths.{child_path, scope_path, dotted, element_path, par
 use Rattle.design.specs.Laws.{some_of, first_mem, first_passes}
 use Rattle.design.specs.Ports.{losable}
 use Rattle.design.specs.Losables.{named_mem, module_at_mem, losable_name}
-use Rattle.design.proofs.AcceptedNames.{AllNamed}
+use Rattle.design.specs.AcceptedNames.{AllNamed}
 use Rattle.walk.specs.Walk.{domain_list}
 use Rattle.walk.specs.Reach.{Leads, end_of, DomainReaches}
 use Rattle.walk.proofs.Listed.{listed_reached}
@@ -34,7 +34,7 @@ use Rattle.texts.proofs.Covers.{strategies_hold}
 use Rattle.texts.proofs.Sorted.{checks_are}
 use Rattle.texts.specs.Laws.{all_append, all_at, all_of, all_those, all_weaker}
 use Rattle.texts.specs.ForceLines.{on_one_line}
-use Rattle.texts.proofs.Cuts.{check_on_one_line}
+use Rattle.texts.specs.Cuts.{check_on_one_line}
 
 -- ---- NAMEs
 

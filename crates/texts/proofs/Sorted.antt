@@ -19,6 +19,7 @@ use Rattle.model.specs.Records.{Domain}
 use Rattle.texts.specs.Setting.{Setting}
 use Rattle.texts.specs.Isolation.{Isolated}
 use Rattle.texts.specs.Domains.{Check, earlier, is_same, sorted_in_lem, sorted, check_of, belongs, checks}
+use Rattle.texts.specs.Sorted.{Ascending}
 
 -- ---- the order of byte strings
 
@@ -116,10 +117,6 @@ same_check a b h =
     ∙ ap (λ (z : Bytes). made b.signal b.active z) (same_eq a.strategy b.strategy q.1)
 
 -- ---- a sorted list without doubles: each comes before all that stand behind it
-abbrev pub Ascending : List Check → Type 0
-Ascending [] = Unit {0}
-Ascending (a ∷ l) = ((b : Check) → Mem b l → earlier a b ≡ true) × Ascending l
-
 in_from : (a : Check) (l : List Check) {c : Check} → Mem c (sorted_in_lem a l) → (c ≡ a) ⊎ Mem c l
 unfolding sorted_in_lem
 in_from a [] m = cases_cons m

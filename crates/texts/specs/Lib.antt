@@ -12,3 +12,6 @@ pub mod Examples
 -- Laws.
 pub mod Laws
 pub mod Decimals
+pub mod Sorted
+pub mod Cuts
+pub mod Blocks

@@ -19,13 +19,10 @@ use Rattle.design.specs.Paths.{child_path}
 use Rattle.design.specs.Laws.{le_or_lt}
 use Rattle.design.specs.Losables.{named_mem}
 use Rattle.walk.specs.Reach.{Leads, end_of, on_way}
+use Rattle.walk.specs.Chains.{Dotless}
 
 abbrev dot : ℕ
 dot = byte "."
-
--- a name without a dot
-abbrev pub Dotless : Bytes → Type 0
-Dotless n = Mem dot n → ⊥
 
 -- ---- dots in byte strings
 

@@ -14,7 +14,8 @@ use Rattle.design.specs.Lookup.{instances, module_named, instance_named, module_
 use Rattle.design.specs.Paths.{element_path, scope_path}
 use Rattle.design.specs.Laws.{some_of, first_mem, first_passes}
 use Rattle.design.specs.Losables.{named_mem, module_at_mem}
-use Rattle.design.proofs.AcceptedNames.{Plain, accepted_plain}
+use Rattle.design.specs.AcceptedNames.{Plain}
+use Rattle.design.proofs.AcceptedNames.{accepted_plain}
 use Rattle.walk.specs.Walk.{corruptible, retained_paths, element_list, domain_list}
 use Rattle.walk.specs.Reach.{ElementReaches, DomainReaches, Beneath, Distinct, NumberOf, Joined, Whole, Scope}
 use Rattle.walk.proofs.Listed.{listed_reached, reached_listed, add_all_distinct, number_unique as one_number}

@@ -2,7 +2,7 @@
 -- entries that are empty equal no path there.
 -- Assumes nothing.
 use Prim.Native.Nat.{ℕ, zero, suc, ◌+◌, ◌<◌}
-use Rattle.std.specs.Prelude.{◌≡◌, Bool, not, length}
+use Rattle.std.specs.Prelude.{◌≡◌, Bool, length}
 use Rattle.std.proofs.Math.Path.{refl, sym, ap, ap₂}
 use Rattle.std.proofs.Common.{◌∙◌, arith, length-append}
 use Rattle.std.proofs.Math.Bool.{true, false, cond, ◌||◌}
@@ -17,21 +17,14 @@ use Rattle.text.specs.Scan.{any}
 use Rattle.text.specs.Sames.{differ, same_front, same_refl}
 use Rattle.joblines.specs.Job.{Inst, Module}
 use Rattle.design.specs.Lists.{on_some, those, is_in, add_new, add_all}
-use Rattle.design.specs.Lookup.{instances, module_at}
+use Rattle.design.specs.Lookup.{module_at}
 use Rattle.design.specs.Ports.{losable}
 use Rattle.design.specs.Paths.{child_path, scope_path, dotted, element_path, filled_parts}
 use Rattle.design.specs.Losables.{named_mem, module_at_mem}
 use Rattle.walk.specs.Limits.{most_depth}
 use Rattle.walk.specs.Walk.{entered, own, corruptible, sum_over, modules_entered, retained_paths, element_list, domain_list, element_entered, domain_entered, path_bytes}
 use Rattle.walk.proofs.Listed.{entered_inv}
-
--- the entries that are not empty
-abbrev pub filled_entries : List Bytes → List Bytes
-filled_entries es = those (λ e. not (same e [])) es
-
--- the names of instances are not empty
-abbrev pub Filled : List Module → Type 0
-Filled d = (m : Module) → Mem m d → (i : Inst) → Mem i m.insts → 0 < length i.name
+use Rattle.walk.specs.Relative.{filled_entries, Filled}
 
 -- ---- the scope's path, c and s
 

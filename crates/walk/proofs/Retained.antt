@@ -20,10 +20,11 @@ use Rattle.design.specs.Lookup.{instances, module_at}
 use Rattle.design.specs.Paths.{child_path, scope_path, dotted, element_path, retained_path, filled_parts}
 use Rattle.design.specs.Laws.{le_or_lt, mem_is_in, map_mem, flat_same}
 use Rattle.design.specs.Losables.{named_mem, module_at_mem}
-use Rattle.design.proofs.AcceptedNames.{Plain}
+use Rattle.design.specs.AcceptedNames.{Plain}
 use Rattle.walk.specs.Walk.{entered, own, corruptible, retained_paths, element_list, domain_list}
 use Rattle.walk.specs.Reach.{on_way, Reaches, ElementReaches, DomainReaches, Beneath}
-use Rattle.walk.proofs.Chains.{Dotless, child_longer, cut_before, begins, way_first, way_of_cut, leads_mem, leads_all}
+use Rattle.walk.specs.Chains.{Dotless}
+use Rattle.walk.proofs.Chains.{child_longer, cut_before, begins, way_first, way_of_cut, leads_mem, leads_all}
 use Rattle.walk.proofs.Listed.{entered_inv}
 
 -- ---- more retained entries

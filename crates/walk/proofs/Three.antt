@@ -11,10 +11,11 @@ use Rattle.joblines.specs.Job.{Module}
 use Rattle.design.specs.Paths.{element_path, retained_path, filled_parts}
 use Rattle.design.specs.Laws.{le_or_lt, map_mem}
 use Rattle.design.specs.Losables.{module_at_mem}
-use Rattle.design.proofs.AcceptedNames.{Plain}
+use Rattle.design.specs.AcceptedNames.{Plain}
 use Rattle.walk.specs.Walk.{retained_paths}
 use Rattle.walk.specs.Reach.{on_way, Reaches, DomainReaches, Joined}
-use Rattle.walk.proofs.Chains.{Dotless, way_both, leads_mem, leads_all}
+use Rattle.walk.specs.Chains.{Dotless}
+use Rattle.walk.proofs.Chains.{way_both, leads_mem, leads_all}
 
 -- r₁ begins no deeper than r₂, so r₂'s chain is clear of both
 both_at : {d : List Module} {R₁ R₂ R₃ : List Bytes} {k : ℕ} {m₁ m₂ : Module} {p₁ p₂ q : Bytes} → Plain d → ((v : Bytes) → Mem v R₃ → Mem v R₁ ⊎ Mem v R₂) → Mem m₁ d → length p₁ ≤ length p₂ → Reaches d R₁ k m₁ p₁ q → Reaches d R₂ k m₂ p₂ q → Reaches d R₃ k m₂ p₂ q

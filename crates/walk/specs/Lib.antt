@@ -3,3 +3,5 @@ pub mod Limits
 pub mod Walk
 pub mod Reach
 pub mod Examples
+pub mod Chains
+pub mod Relative

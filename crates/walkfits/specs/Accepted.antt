@@ -15,7 +15,7 @@ use Rattle.jobindex.specs.Index.{module_row, Indexed}
 use Rattle.jobindex.specs.declared.Header.{Header}
 use Rattle.lookup.specs.Rows.{modules}
 use Rattle.design.proofs.AcceptedNames.{accepted_names, name_filled}
-use Rattle.walk.proofs.Relative.{Filled}
+use Rattle.walk.specs.Relative.{Filled}
 use Rattle.corrupt.specs.RowMem.{row_mem}
 use Rattle.corrupt.specs.Corrupt.{Short}
 

@@ -12,7 +12,8 @@ use Rattle.joblines.specs.Job.{Module}
 use Rattle.design.specs.Paths.{child_path, scope_path}
 use Rattle.walk.specs.Limits.{most_entered, most_paths, most_path_bytes}
 use Rattle.walk.specs.Walk.{sum_over, path_bytes, domain_list, domain_entered, walk_fits}
-use Rattle.walk.proofs.Relative.{Filled, filled_entries, relative_list, relative_entered, relative_bytes}
+use Rattle.walk.specs.Relative.{Filled, filled_entries}
+use Rattle.walk.proofs.Relative.{relative_list, relative_entered, relative_bytes}
 use Rattle.listing.specs.declared.Walk.{Walk}
 use Rattle.listing.specs.Listing.{paths_of, cost, cut_length, Within, Answer}
 
