@@ -2,7 +2,7 @@
 // gives or what is printed.
 #![tactic(auto)]
 
-ghost use Rattle.std.specs.Prelude.{IfOk};
+ghost use Rattle.std.specs.Prelude.{◌≡◌, IfOk, OnErr};
 ghost use Rattle.program.specs.Answers.{AnswersJob};
 
 use answers::Answer;
@@ -18,7 +18,8 @@ pub fn answer<R: Read>(
     report: &mut [u8],
     log: &mut [u8],
 ) -> io::Result<Answer>
-    ensures { IfOk result (λ a. AnswersJob (R.remaining reader.old) glue.old glue.new pkg.old pkg.new report.old report.new log.old log.new a) }
+    ensures ok { IfOk result (λ a. AnswersJob (R.remaining reader.old) glue.old glue.new pkg.old pkg.new report.old report.new log.old log.new a) }
+    ensures err { OnErr result ((glue.new ≡ glue.old) × ((pkg.new ≡ pkg.old) × ((report.new ≡ report.old) × (log.new ≡ log.old)))) }
 {
     let mut job = [0u8; 65537];
     let n = read_full(reader, &mut job)?;
