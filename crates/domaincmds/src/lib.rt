@@ -17,6 +17,9 @@ use made::{Brief, Deed};
 use store::state::{Domain, Domains, supplied};
 use store::stored::{MaybeBelow, Stored, maybe_below, narrow, or_empty};
 
+// "domains .. 32 of each"
+const MOST_DOMAINS: usize = 32;
+
 // The domain that the words of a command name.
 fn domain<'a>(files: &'a [u8], area: &'a [u8], words: &[u32], n: usize, scope: Stored) -> Domain
     requires { last_of span_end (pairs words.now 0 n) < 2 ^ 32 }
@@ -46,7 +49,7 @@ pub fn create_power_domain<'a>(
     requires { Line words.now n }
     ensures { Does files.now area.now words.now n (λ (s : State). brief_of s ≡ b) result (λ (m : Model). domain_command m (words_from (files.now ++ area.now) words.now n 1)) }
 {
-    if 32 <= b.domains {
+    if MOST_DOMAINS <= b.domains {
         return Deed::Full;
     }
     let scope = b.scope;
