@@ -1,53 +1,40 @@
 -- One turn along the connections of an instance: the first that is the port's decides, `star` last.
 -- Assumes nothing.
+use Rattle.std.specs.Prelude.{Option}
 use mathlib.Core.Path.{◌≡◌, refl, ap, ◌∙◌, sym}
 use Prim.Native.Nat.{ℕ, ◌+◌, ◌-◌, ◌<◌}
 use native.Mathlib.Omega.{arith}
 use mathlib.Core.Bool.{Bool, true, false, not, ◌||◌, or-false}
 use mathlib.Core.List.{List, [], ◌∷◌, map, tail}
-use mathlib.Core.Option.{none, some}
+use Rattle.std.specs.Prelude.{None, Some}
 use borrow.Author.Rules.{rules}
 use borrow.Author.Tests.{not-true, not-false}
 use Rattle.text.specs.Ascii.{Bytes, ascii}
 use Rattle.text.specs.Compare.{same}
 use Rattle.text.specs.Scan.{any}
-use Rattle.text.specs.Sames.{no_true}
 use Rattle.joblines.specs.Job.{Port, Conn, star, implicit, named, pos}
 use Rattle.joblines.specs.Lines.{when}
 use Rattle.joblines.specs.Sections.{ports_in, conns_in}
 use Rattle.jobindex.specs.Index.{num, row_at, section, module_row}
 use Rattle.jobindex.specs.declared.Span.{Span}
-use Rattle.fields.specs.declared.Dir.{Dir as Dir·code}
 use Rattle.design.specs.Connections.{plain, is_first, says_of, is_star, decided}
 use Rattle.lines.specs.Cursors.{spanned, Stepped, ConnSeen, PortSeen}
 use Rattle.lines.specs.Steps.{no_ports}
 use Rattle.lines.specs.declared.ConnAt.{ConnAt}
 use Rattle.lines.specs.declared.ConnAt.TheVariants as conn
 use Rattle.lines.specs.declared.PortAt.{PortAt}
-use Rattle.lines.specs.declared.PortAt.TheVariants as port
 use Rattle.actual.specs.declared.Net.{Net}
 use Rattle.actual.specs.declared.Net.TheVariants as net
-use Rattle.actual.specs.declared.Says.{Says}
-use Rattle.actual.specs.declared.Says.TheVariants as says
 use Rattle.refs.specs.Text.{text_of, job_ref}
 use Rattle.refs.specs.Laws.{job_is}
 use Rattle.refs.specs.declared.Ref.{Ref}
-use Rattle.actual.specs.Nets.{net_is, PlainSeen, said_is, actual_of, at_end, star_at, conn_next, port_next, is_first_at, says_at, last_of}
+use Rattle.actual.specs.Nets.{net_is, PlainSeen, said_is, actual_of, star_at, conn_next, port_next, is_first_at, says_at, last_of}
 
 -- ---- the port's name
 pub port_is : (job mem : Bytes) (n : Span) (y : Ref) (x : Ref) (b : Bool) → x ≡ job_ref n.at n.len → b ≡ same (text_of job mem x) (text_of job mem y) → b ≡ same (spanned job n) (text_of job mem y)
 port_is job mem n y x b e h = h ∙ rw (e, job_is job mem n.at n.len)
 
 -- ---- one connection
-module _ (b : Bool) (c : ConnAt) where
-  pub star_had : b ≡ true → true ≡ b || star_at c
-  star_had h = rw h
-
-  pub star_new : b ≡ false → (r : Bool) → r ≡ star_at c → r ≡ b || star_at c
-  star_new h r e = rw h e
-
-pub ruleset stars = (rules, star_had, star_new)
-
 module _ (job : Bytes) (n : Span) (w : Bytes) (ew : w ≡ spanned job n) (b : Bool) (eb : b ≡ same w (ascii "-")) where
   pub plain_not : b ≡ true → PlainSeen job n net.None
   plain_not h = record { is = λ p. rw (← ew, ← eb, h) }
@@ -57,65 +44,44 @@ module _ (job : Bytes) (n : Span) (w : Bytes) (ew : w ≡ spanned job n) (b : Bo
 
 pub ruleset plains = (rules, plain_not, plain_is)
 
-module _ (job : Bytes) (q : PortAt) (p : Bytes) where
-  pub first_none : q ≡ port.End → false ≡ is_first_at job q p
-  first_none g = rw g
-
-  pub first_is : (d : Dir·code) (n : Span) (next : ℕ) → q ≡ port.Port d n next → (b : Bool) → b ≡ same (spanned job n) p → b ≡ is_first_at job q p
-  first_is d n next g b eb = rw g eb
-
-pub ruleset firsts = (rules, first_none, first_is)
-
-module _ (job : Bytes) (c : ConnAt) (q : PortAt) (p : Bytes) where
-  pub said_end : c ≡ conn.End → none ≡ says_at job c q p
-  said_end g = rw g
-
-  pub said_star : (next : ℕ) → c ≡ conn.Star next → none ≡ says_at job c q p
+module _ (job : Bytes) (c : ConnAt) (q : Option PortAt) (p : Bytes) where
+  pub said_star : (next : ℕ) → c ≡ conn.Star next → None ≡ says_at job (Some c) q p
   said_star next g = rw g
 
   module _ (x : Span) (next : ℕ) (g : c ≡ conn.Implicit x next) (b : Bool) (eb : b ≡ same (spanned job x) p) where
-    implicit_is : says_at job c q p ≡ when b (some p)
+    implicit_is : says_at job (Some c) q p ≡ when b (Some p)
     implicit_is = rw (g, ← eb)
 
-    pub said_implicit_not : not b ≡ true → none ≡ says_at job c q p
+    pub said_implicit_not : not b ≡ true → None ≡ says_at job (Some c) q p
     said_implicit_not h = sym (implicit_is ∙ rw (not-true b h))
 
-    pub said_implicit : not b ≡ false → some (some p) ≡ says_at job c q p
+    pub said_implicit : not b ≡ false → Some (Some p) ≡ says_at job (Some c) q p
     said_implicit h = sym (implicit_is ∙ rw (not-false b h))
 
   module _ (x n : Span) (next : ℕ) (g : c ≡ conn.Named x n next) (b : Bool) (eb : b ≡ same (spanned job x) p) where
-    named_is : says_at job c q p ≡ when b (plain (spanned job n))
+    named_is : says_at job (Some c) q p ≡ when b (plain (spanned job n))
     named_is = rw (g, ← eb)
 
-    pub said_named_not : not b ≡ true → none ≡ says_at job c q p
+    pub said_named_not : not b ≡ true → None ≡ says_at job (Some c) q p
     said_named_not h = sym (named_is ∙ rw (not-true b h))
 
-    pub said_named : not b ≡ false → (r : Net) → PlainSeen job n r → said_is job p (says.This r) ≡ says_at job c q p
+    pub said_named : not b ≡ false → (r : Net) → PlainSeen job n r → said_is job p (Some r) ≡ says_at job (Some c) q p
     said_named h r e = sym (named_is ∙ rw (not-false b h, e.is p))
 
   module _ (n : Span) (next : ℕ) (g : c ≡ conn.Pos n next) (b : Bool) (eb : b ≡ is_first_at job q p) where
-    pos_is : says_at job c q p ≡ when b (plain (spanned job n))
+    pos_is : says_at job (Some c) q p ≡ when b (plain (spanned job n))
     pos_is = rw (g, ← eb)
 
-    pub said_pos_not : not b ≡ true → none ≡ says_at job c q p
+    pub said_pos_not : not b ≡ true → None ≡ says_at job (Some c) q p
     said_pos_not h = sym (pos_is ∙ rw (not-true b h))
 
-    pub said_pos : not b ≡ false → (r : Net) → PlainSeen job n r → said_is job p (says.This r) ≡ says_at job c q p
+    pub said_pos : not b ≡ false → (r : Net) → PlainSeen job n r → said_is job p (Some r) ≡ says_at job (Some c) q p
     said_pos h r e = sym (pos_is ∙ rw (not-false b h, e.is p))
 
-pub ruleset saids = (rules, said_end, said_star, said_implicit_not, said_implicit, said_named_not, said_named, said_pos_not, said_pos)
-
-pub last_star : (b : Bool) → b ≡ true → net.Own ≡ last_of b
-last_star b h = rw h
-
-pub last_none : (b : Bool) → b ≡ false → net.None ≡ last_of b
-last_none b h = rw h
-
-pub ruleset lasts = (rules, last_star, last_none)
+pub ruleset saids = (rules, said_star, said_implicit_not, said_implicit, said_named_not, said_named, said_pos_not, said_pos)
 
 -- ---- the connection that a line is
 abbrev conn_is : Bytes → ConnAt → Conn
-conn_is job conn.End = star
 conn_is job (conn.Star next) = star
 conn_is job (conn.Implicit p next) = implicit (spanned job p)
 conn_is job (conn.Named p n next) = named (spanned job p) (spanned job n)
@@ -125,49 +91,38 @@ abbrev order : Bytes → ℕ → ℕ → List Bytes
 order job p pe = map (λ (x : Port). x.name) (ports_in (section job p pe))
 
 module _ (job : Bytes) (at end : ℕ) where
-  conns_are : (c : ConnAt) → ConnSeen job at end c → at_end c ≡ false → conns_in (section job at end) ≡ conn_is job c ∷ conns_in (section job (conn_next c end) end)
-  conns_are conn.End s h = absurd (no_true (sym h))
-  conns_are (conn.Star next) s h = sym s.says
-  conns_are (conn.Implicit p next) s h = sym s.says
-  conns_are (conn.Named p n next) s h = sym s.says
-  conns_are (conn.Pos n next) s h = sym s.says
+  conns_are : (c : ConnAt) → ConnSeen job at end (Some c) → conns_in (section job at end) ≡ conn_is job c ∷ conns_in (section job (conn_next (Some c) end) end)
+  conns_are (conn.Star next) s = sym s.says
+  conns_are (conn.Implicit p next) s = sym s.says
+  conns_are (conn.Named p n next) s = sym s.says
+  conns_are (conn.Pos n next) s = sym s.says
 
-  conns_none : (c : ConnAt) → ConnSeen job at end c → at_end c ≡ true → conns_in (section job at end) ≡ []
-  conns_none conn.End s h = sym s.says
-  conns_none (conn.Star next) s h = absurd (no_true h)
-  conns_none (conn.Implicit p next) s h = absurd (no_true h)
-  conns_none (conn.Named p n next) s h = absurd (no_true h)
-  conns_none (conn.Pos n next) s h = absurd (no_true h)
+  conns_on : (c : ConnAt) → ConnSeen job at end (Some c) → Stepped job at end (conn_next (Some c) end)
+  conns_on (conn.Star next) s = s.goes
+  conns_on (conn.Implicit p next) s = s.goes
+  conns_on (conn.Named p n next) s = s.goes
+  conns_on (conn.Pos n next) s = s.goes
 
-  conns_on : (c : ConnAt) → ConnSeen job at end c → at_end c ≡ false → Stepped job at end (conn_next c end)
-  conns_on conn.End s h = absurd (no_true (sym h))
-  conns_on (conn.Star next) s h = s.goes
-  conns_on (conn.Implicit p next) s h = s.goes
-  conns_on (conn.Named p n next) s h = s.goes
-  conns_on (conn.Pos n next) s h = s.goes
-
-star_is : (job : Bytes) (c : ConnAt) → at_end c ≡ false → is_star (conn_is job c) ≡ star_at c
-star_is job conn.End h = absurd (no_true (sym h))
-star_is job (conn.Star next) h = refl
-star_is job (conn.Implicit p next) h = refl
-star_is job (conn.Named p n next) h = refl
-star_is job (conn.Pos n next) h = refl
+star_is : (job : Bytes) (c : ConnAt) → is_star (conn_is job c) ≡ star_at (Some c)
+star_is job (conn.Star next) = refl
+star_is job (conn.Implicit p next) = refl
+star_is job (conn.Named p n next) = refl
+star_is job (conn.Pos n next) = refl
 
 module _ (job : Bytes) (p pe : ℕ) (x : Bytes) where
-  first_at_lem : (q : PortAt) → PortSeen job p pe q → is_first x (order job p pe) ≡ is_first_at job q x
-  first_at_lem port.End s = rw (← s.says)
-  first_at_lem (port.Port d n next) s = rw (← s.says)
+  first_at_lem : (q : Option PortAt) → PortSeen job p pe q → is_first x (order job p pe) ≡ is_first_at job q x
+  first_at_lem None s = rw (← s.says)
+  first_at_lem (Some r) s = rw (← s.says)
 
-  tail_at : (q : PortAt) → PortSeen job p pe q → tail (order job p pe) ≡ order job (port_next q pe) pe
-  tail_at port.End s = rw (← s.says, no_ports job pe)
-  tail_at (port.Port d n next) s = rw (← s.says)
+  tail_at : (q : Option PortAt) → PortSeen job p pe q → tail (order job p pe) ≡ order job (port_next q pe) pe
+  tail_at None s = rw (← s.says, no_ports job pe)
+  tail_at (Some r) s = rw (← s.says)
 
-  says_at_lem : (c : ConnAt) → at_end c ≡ false → (q : PortAt) → PortSeen job p pe q → says_of x (order job p pe) (conn_is job c) ≡ says_at job c q x
-  says_at_lem conn.End h q s = absurd (no_true (sym h))
-  says_at_lem (conn.Star next) h q s = refl
-  says_at_lem (conn.Implicit y next) h q s = refl
-  says_at_lem (conn.Named y n next) h q s = refl
-  says_at_lem (conn.Pos n next) h q s = rw (first_at_lem q s)
+  says_at_lem : (c : ConnAt) (q : Option PortAt) → PortSeen job p pe q → says_of x (order job p pe) (conn_is job c) ≡ says_at job (Some c) q x
+  says_at_lem (conn.Star next) q s = refl
+  says_at_lem (conn.Implicit y next) q s = refl
+  says_at_lem (conn.Named y n next) q s = refl
+  says_at_lem (conn.Pos n next) q s = rw (first_at_lem q s)
 
 -- ---- the connections left decide
 pub record Deciding (job : Bytes) (index : List ℕ) (next end sub : ℕ) (x : Bytes) (pe p at : ℕ) (had : Bool) : Type 0 where
@@ -179,11 +134,11 @@ module _ (job : Bytes) (index : List ℕ) (next end sub : ℕ) (x : Bytes) where
   unfolding module_row
   deciding_start pe p epe ep = record { left = rw (epe, ep); stars_left = refl }
 
-  module _ (pe p at : ℕ) (had : Bool) (inv : Deciding job index next end sub x pe p at had) (c : ConnAt) (seen : ConnSeen job at end c) (b : Bool) (eb : b ≡ at_end c) where
-    pub decided_last : b ≡ true → (r : Net) → r ≡ last_of had → net_is job x r ≡ actual_of (conns_in (section job next end)) (module_row job index sub) x
+  module _ (pe p at : ℕ) (had : Bool) (inv : Deciding job index next end sub x pe p at had) where
+    pub decided_last : ConnSeen job at end None → (r : Net) → r ≡ last_of had → net_is job x r ≡ actual_of (conns_in (section job next end)) (module_row job index sub) x
     unfolding decided any
-    decided_last h r er =
-        let l : conns_in (section job at end) ≡ [] = conns_none job at end c seen (sym eb ∙ h) in
+    decided_last seen r er =
+        let l : conns_in (section job at end) ≡ [] = sym seen.says in
         let s : any is_star (conns_in (section job next end)) ≡ had = inv.stars_left ∙ (rw l (or-false had)) in
         rw er (sym (inv.left ∙ rw (l, s) (sym (go had))))
       where
@@ -191,26 +146,21 @@ module _ (job : Bytes) (index : List ℕ) (next end sub : ℕ) (x : Bytes) where
         go true = refl
         go false = refl
 
-    module _ (h : b ≡ false) (q : PortAt) (port-seen : PortSeen job p pe q) (s : Says) (es : said_is job x s ≡ says_at job c q x) where
-      more : at_end c ≡ false
-      more = sym eb ∙ h
+    module _ (c : ConnAt) (seen : ConnSeen job at end (Some c)) (n : ℕ) (en : (e : ℕ) → n ≡ conn_next (Some c) e) where
+      pub decided_less : end - n < end - at
+      decided_less = let o = conns_on job at end c seen in omega (arith, o.further, o.within, en end)
 
-      says_now : says_of x (order job p pe) (conn_is job c) ≡ said_is job x s
-      says_now = says_at_lem job p pe x c more q port-seen ∙ sym es
-
-      pub decided_less : (n : ℕ) → n ≡ conn_next c end → end - n < end - at
-      decided_less n en = let o = conns_on job at end c seen more in omega (arith, o.further, o.within)
-
-      pub decided_here : (n : Net) → s ≡ says.This n → net_is job x n ≡ actual_of (conns_in (section job next end)) (module_row job index sub) x
+    module _ (c : ConnAt) (seen : ConnSeen job at end (Some c)) (q : Option PortAt) (port-seen : PortSeen job p pe q) where
+      pub decided_here : (n : Net) → said_is job x (Some n) ≡ says_at job (Some c) q x → net_is job x n ≡ actual_of (conns_in (section job next end)) (module_row job index sub) x
       unfolding decided
-      decided_here n g = sym (inv.left ∙ rw (conns_are job at end c seen more, says_now, g))
+      decided_here n es = sym (inv.left ∙ rw (conns_are job at end c seen, says_at_lem job p pe x c q port-seen ∙ sym es))
 
-      pub decided_on : s ≡ says.Other → (t : Bool) → t ≡ had || star_at c → (n : ℕ) → n ≡ conn_next c end → (m : ℕ) → m ≡ port_next q pe → Deciding job index next end sub x pe m n t
+      pub decided_on : said_is job x None ≡ says_at job (Some c) q x → (t : Bool) → t ≡ had || star_at (Some c) → (n : ℕ) → ((e : ℕ) → n ≡ conn_next (Some c) e) → (m : ℕ) → m ≡ port_next q pe → Deciding job index next end sub x pe m n t
       unfolding decided any
-      decided_on g t et n en m em =
+      decided_on es t et n en m em =
           record {
-            left = inv.left ∙ rw (conns_are job at end c seen more, says_now, g, tail_at job p pe x q port-seen, en, em);
-            stars_left = inv.stars_left ∙ rw (conns_are job at end c seen more, star_is job c more, et, en) (go had (star_at c) (any is_star (conns_in (section job (conn_next c end) end))));
+            left = inv.left ∙ rw (conns_are job at end c seen, says_at_lem job p pe x c q port-seen ∙ sym es, tail_at job p pe x q port-seen, en end, em);
+            stars_left = inv.stars_left ∙ rw (conns_are job at end c seen, star_is job c, et, en end) (go had (star_at (Some c)) (any is_star (conns_in (section job (conn_next (Some c) end) end))));
           }
         where
           go : (a b c : Bool) → a || (b || c) ≡ (a || b) || c

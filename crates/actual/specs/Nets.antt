@@ -1,7 +1,6 @@
 -- What the answers say of an instance's port.
 -- Assumes nothing.
-use Rattle.std.specs.Prelude.{ℕ, ◌+◌, ◌≡◌, refl, Bool, true, false, cond, List}
-use Rattle.std.proofs.Math.Option.{Option, none, some}
+use Rattle.std.specs.Prelude.{ℕ, ◌+◌, ◌≡◌, refl, Bool, true, false, cond, List, Option, None, Some}
 use Rattle.text.specs.Ascii.{Bytes}
 use Rattle.text.specs.Compare.{same}
 use Rattle.text.specs.Scan.{any}
@@ -15,26 +14,23 @@ use Rattle.lines.specs.Cursors.{spanned}
 use Rattle.lines.specs.declared.ConnAt.{ConnAt}
 use Rattle.lines.specs.declared.ConnAt.TheVariants as conn
 use Rattle.lines.specs.declared.PortAt.{PortAt}
-use Rattle.lines.specs.declared.PortAt.TheVariants as port
 use Rattle.actual.specs.declared.Net.{Net}
 use Rattle.actual.specs.declared.Net.TheVariants as net
-use Rattle.actual.specs.declared.Says.{Says}
-use Rattle.actual.specs.declared.Says.TheVariants as says
 
 -- the net, beside the port's own name
 abbrev pub net_is : Bytes → Bytes → Net → Option Bytes
-net_is job p net.None = none
-net_is job p net.Own = some p
-net_is job p (net.Of s) = some (spanned job s)
+net_is job p net.None = None
+net_is job p net.Own = Some p
+net_is job p (net.Of s) = Some (spanned job s)
 
 -- the net of a connection that has one, whatever the port's name is
 pub record PlainSeen (job : Bytes) (n : Span) (r : Net) : Type 0 where
   pub is : (p : Bytes) → net_is job p r ≡ plain (spanned job n)
 
 -- what is said of the port: nothing, or its net
-abbrev pub said_is : Bytes → Bytes → Says → Option (Option Bytes)
-said_is job p says.Other = none
-said_is job p (says.This n) = some (net_is job p n)
+abbrev pub said_is : Bytes → Bytes → Option Net → Option (Option Bytes)
+said_is job p None = None
+said_is job p (Some n) = Some (net_is job p n)
 
 -- the connections of an instance decide
 abbrev pub actual_of : List Conn → Module → Bytes → Option Bytes
@@ -44,43 +40,43 @@ pub actual_is : (i : Inst) (sub : Module) (p : Bytes) → actual_of i.conns sub 
 actual_is i sub p = refl
 
 -- ---- a connection line
-abbrev pub at_end : ConnAt → Bool
-at_end conn.End = true
-at_end (conn.Star next) = false
-at_end (conn.Implicit p next) = false
-at_end (conn.Named p n next) = false
-at_end (conn.Pos n next) = false
+abbrev pub at_end : Option ConnAt → Bool
+at_end None = true
+at_end (Some (conn.Star next)) = false
+at_end (Some (conn.Implicit p next)) = false
+at_end (Some (conn.Named p n next)) = false
+at_end (Some (conn.Pos n next)) = false
 
-abbrev pub star_at : ConnAt → Bool
-star_at conn.End = false
-star_at (conn.Star next) = true
-star_at (conn.Implicit p next) = false
-star_at (conn.Named p n next) = false
-star_at (conn.Pos n next) = false
+abbrev pub star_at : Option ConnAt → Bool
+star_at None = false
+star_at (Some (conn.Star next)) = true
+star_at (Some (conn.Implicit p next)) = false
+star_at (Some (conn.Named p n next)) = false
+star_at (Some (conn.Pos n next)) = false
 
-abbrev pub conn_next : ConnAt → ℕ → ℕ
-conn_next conn.End end = end
-conn_next (conn.Star next) end = next
-conn_next (conn.Implicit p next) end = next
-conn_next (conn.Named p n next) end = next
-conn_next (conn.Pos n next) end = next
+abbrev pub conn_next : Option ConnAt → ℕ → ℕ
+conn_next None end = end
+conn_next (Some (conn.Star next)) end = next
+conn_next (Some (conn.Implicit p next)) end = next
+conn_next (Some (conn.Named p n next)) end = next
+conn_next (Some (conn.Pos n next)) end = next
 
 -- ---- a port line
-abbrev pub port_next : PortAt → ℕ → ℕ
-port_next port.End end = end
-port_next (port.Port d n next) end = next
+abbrev pub port_next : Option PortAt → ℕ → ℕ
+port_next None end = end
+port_next (Some r) end = r.next
 
-abbrev pub is_first_at : Bytes → PortAt → Bytes → Bool
-is_first_at job port.End p = false
-is_first_at job (port.Port d n next) p = same (spanned job n) p
+abbrev pub is_first_at : Bytes → Option PortAt → Bytes → Bool
+is_first_at job None p = false
+is_first_at job (Some r) p = same (spanned job r.name) p
 
 -- what a connection says of the port p; q is the port line at its own place
-abbrev pub says_at : Bytes → ConnAt → PortAt → Bytes → Option (Option Bytes)
-says_at job conn.End q p = none
-says_at job (conn.Star next) q p = none
-says_at job (conn.Implicit x next) q p = when (same (spanned job x) p) (some p)
-says_at job (conn.Named x n next) q p = when (same (spanned job x) p) (plain (spanned job n))
-says_at job (conn.Pos n next) q p = when (is_first_at job q p) (plain (spanned job n))
+abbrev pub says_at : Bytes → Option ConnAt → Option PortAt → Bytes → Option (Option Bytes)
+says_at job None q p = None
+says_at job (Some (conn.Star next)) q p = None
+says_at job (Some (conn.Implicit x next)) q p = when (same (spanned job x) p) (Some p)
+says_at job (Some (conn.Named x n next)) q p = when (same (spanned job x) p) (plain (spanned job n))
+says_at job (Some (conn.Pos n next)) q p = when (is_first_at job q p) (plain (spanned job n))
 
 abbrev pub last_of : Bool → Net
 last_of star = cond star net.Own net.None

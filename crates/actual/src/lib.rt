@@ -1,13 +1,13 @@
 // The net of the parent that an instance's port is connected to, over the job and its index (the Rust's `output_actual`).
 #![tactic(auto)]
 
-ghost use Rattle.std.specs.Prelude.{◌≡◌, ◌≤◌, ◌||◌, ◌++◌};
+ghost use Rattle.std.specs.Prelude.{◌≡◌, ℕ, ◌≤◌, ◌||◌, ◌++◌, Some};
 ghost use Rattle.text.specs.Compare.{same};
 ghost use Rattle.joblines.specs.Sections.{conns_in};
 ghost use Rattle.jobindex.specs.Index.{section, module_row};
 ghost use Rattle.refs.specs.Text.{text_of};
 ghost use Rattle.lines.specs.Cursors.{spanned};
-ghost use Rattle.actual.specs.Nets.{net_is, PlainSeen, said_is, says_at, is_first_at, at_end, star_at, last_of, conn_next, port_next, actual_of};
+ghost use Rattle.actual.specs.Nets.{net_is, PlainSeen, said_is, says_at, is_first_at, star_at, last_of, conn_next, port_next, actual_of};
 
 use jobindex::Span;
 use lines::{ConnAt, PortAt};
@@ -21,104 +21,52 @@ pub enum Net {
     Of(Span),
 }
 
-// What one connection says of a port.
-#[derive(Clone, Copy)]
-pub enum Says {
-    Other,
-    This(Net),
-}
-
-// Whether there is no connection more.
-fn at_end(c: ConnAt) -> bool
-    ensures { result ≡ at_end c }
-{
-    match c {
-        ConnAt::End => true,
-        ConnAt::Star { next: _ } => false,
-        ConnAt::Implicit { port: _, next: _ } => false,
-        ConnAt::Named {
-            port: _,
-            net: _,
-            next: _,
-        } => false,
-        ConnAt::Pos { net: _, next: _ } => false,
-    }
-}
-
 // Whether a connection is `star`, or one before it was.
-fn star_at(star: bool, c: ConnAt) -> bool
-    ensures { result ≡ star || star_at c }
+fn star_at(star: bool, conn: ConnAt) -> bool
+    ensures { result ≡ star || star_at (Some conn) }
 {
-    if star {
-        return true;
-    }
-    match c {
-        ConnAt::End => false,
-        ConnAt::Star { next: _ } => true,
-        ConnAt::Implicit { port: _, next: _ } => false,
-        ConnAt::Named {
-            port: _,
-            net: _,
-            next: _,
-        } => false,
-        ConnAt::Pos { net: _, next: _ } => false,
-    }
+    star || matches!(conn, ConnAt::Star { .. })
 }
 
 // Where the connections behind one begin.
-fn conn_next(c: ConnAt, end: usize) -> usize
-    ensures { result ≡ conn_next c end }
+fn conn_next(conn: ConnAt) -> usize
+    ensures { (end : ℕ) → result ≡ conn_next (Some conn) end }
 {
-    match c {
-        ConnAt::End => end,
+    match conn {
         ConnAt::Star { next } => next,
-        ConnAt::Implicit { port: _, next } => next,
-        ConnAt::Named {
-            port: _,
-            net: _,
-            next,
-        } => next,
-        ConnAt::Pos { net: _, next } => next,
+        ConnAt::Implicit { next, .. } => next,
+        ConnAt::Named { next, .. } => next,
+        ConnAt::Pos { next, .. } => next,
     }
 }
 
 // Where the ports behind one begin.
-fn port_next(q: PortAt, end: usize) -> usize
+fn port_next(q: Option<PortAt>, end: usize) -> usize
     ensures { result ≡ port_next q end }
 {
-    match q {
-        PortAt::End => end,
-        PortAt::Port {
-            dir: _,
-            name: _,
-            next,
-        } => next,
-    }
+    q.map_or(end, |p| p.next)
 }
 
 // Whether a part of the job is the port's name.
+#[tactic(auto, using(crate::proofs::Turns::port_is))]
 fn is_port<'a>(job: &[u8], files: &'a [u8], area: &'a [u8], n: Span, port: Ref) -> bool
     ensures { result ≡ same (spanned job.now n) (text_of job.now (files.now ++ area.now) port) }
 {
-    let name = of_job(n.at, n.len);
-    same_refs(job, files, area, name, port)
+    same_refs(job, files, area, of_job(n.at, n.len), port)
 }
 
 // Whether a port line is the port's.
-fn is_first<'a>(job: &[u8], files: &'a [u8], area: &'a [u8], q: PortAt, port: Ref) -> bool
+fn is_first<'a>(job: &[u8], files: &'a [u8], area: &'a [u8], q: Option<PortAt>, port: Ref) -> bool
     ensures { result ≡ is_first_at job.now q (text_of job.now (files.now ++ area.now) port) }
 {
-    match q {
-        PortAt::End => false,
-        PortAt::Port {
-            dir: _,
-            name,
-            next: _,
-        } => is_port(job, files, area, name, port),
-    }
+    let Some(own) = q else {
+        return false;
+    };
+    is_port(job, files, area, own.name, port)
 }
 
 // The net of a connection that has one, where it is a plain identifier.
+#[tactic(auto, using(crate::proofs::Turns::plains))]
 fn plain(job: &[u8], net: Span) -> Net
     ensures { PlainSeen job.now net result }
 {
@@ -129,33 +77,36 @@ fn plain(job: &[u8], net: Span) -> Net
 }
 
 // What a connection says of the port; q is the header's name at the connection's own place.
-fn said_of<'a>(job: &[u8], files: &'a [u8], area: &'a [u8], c: ConnAt, q: PortAt, port: Ref) -> Says
-    ensures { said_is job.now (text_of job.now (files.now ++ area.now) port) result ≡ says_at job.now c q (text_of job.now (files.now ++ area.now) port) }
+#[tactic(auto, using(crate::proofs::Turns::saids))]
+fn said_of<'a>(
+    job: &[u8],
+    files: &'a [u8],
+    area: &'a [u8],
+    conn: ConnAt,
+    q: Option<PortAt>,
+    port: Ref,
+) -> Option<Net>
+    ensures { said_is job.now (text_of job.now (files.now ++ area.now) port) result ≡ says_at job.now (Some conn) q (text_of job.now (files.now ++ area.now) port) }
 {
-    match c {
-        ConnAt::End => Says::Other,
-        ConnAt::Star { next: _ } => Says::Other,
-        ConnAt::Implicit { port: p, next: _ } => {
-            if !is_port(job, files, area, p, port) {
-                return Says::Other;
+    match conn {
+        ConnAt::Star { .. } => None,
+        ConnAt::Implicit { port: own, .. } => {
+            if !is_port(job, files, area, own, port) {
+                return None;
             }
-            Says::This(Net::Own)
+            Some(Net::Own)
         }
-        ConnAt::Named {
-            port: p,
-            net,
-            next: _,
-        } => {
-            if !is_port(job, files, area, p, port) {
-                return Says::Other;
+        ConnAt::Named { port: own, net, .. } => {
+            if !is_port(job, files, area, own, port) {
+                return None;
             }
-            Says::This(plain(job, net))
+            Some(plain(job, net))
         }
-        ConnAt::Pos { net, next: _ } => {
+        ConnAt::Pos { net, .. } => {
             if !is_first(job, files, area, q, port) {
-                return Says::Other;
+                return None;
             }
-            Says::This(plain(job, net))
+            Some(plain(job, net))
         }
     }
 }
@@ -164,13 +115,11 @@ fn said_of<'a>(job: &[u8], files: &'a [u8], area: &'a [u8], c: ConnAt, q: PortAt
 fn last(star: bool) -> Net
     ensures { result ≡ last_of star }
 {
-    if star {
-        return Net::Own;
-    }
-    Net::None
+    if star { Net::Own } else { Net::None }
 }
 
 // The net that a port of an instance is connected to. Its connection lines are from `next` up to `end`, its module is row `sub`.
+#[tactic(auto, using(crate::proofs::Turns::decisions))]
 pub fn output_actual<'a>(
     job: &[u8],
     index: &[u32],
@@ -188,19 +137,14 @@ pub fn output_actual<'a>(
     let mut p = text::part::place(index, 128 + 8 * sub + 3);
     let mut at = next;
     let mut star = false;
-    loop {
-        let c = lines::next_conn(job, at, end);
-        if at_end(c) {
-            return last(star);
-        }
+    while let Some(conn) = lines::next_conn(job, at, end) {
         let q = lines::next_port(job, p, pe);
-        let s = said_of(job, files, area, c, q, port);
-        let Says::This(net) = s else {
-            star = star_at(star, c);
-            at = conn_next(c, end);
-            p = port_next(q, pe);
-            continue;
-        };
-        return net;
+        if let Some(net) = said_of(job, files, area, conn, q, port) {
+            return net;
+        }
+        star = star_at(star, conn);
+        at = conn_next(conn);
+        p = port_next(q, pe);
     }
+    last(star)
 }

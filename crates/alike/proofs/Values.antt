@@ -1,4 +1,6 @@
 -- A strategy's name, signal and active value: laws as the needs ask them. Assumes nothing.
+use Rattle.store.specs.declared.state.Few.{Few}
+use Rattle.std.specs.Prelude.{Option, Some, None}
 use Prim.Native.Nat.{ℕ}
 use mathlib.Core.Path.{◌≡◌, refl, sym, ◌∙◌}
 use mathlib.Core.Bool.{Bool, true, false, cond, not, ◌&&◌}
@@ -18,10 +20,7 @@ use Rattle.model.specs.Commands.{or_else}
 use Rattle.store.specs.Strings.{maybe_of}
 use Rattle.store.specs.View.{isolation_of}
 use Rattle.store.specs.declared.stored.Stored.{Stored}
-use Rattle.store.specs.declared.stored.Maybe.{Maybe}
-use Rattle.store.specs.declared.stored.Maybe.TheVariants.{Not, Given}
 use Rattle.store.specs.declared.state.Isolation.{Isolation}
-use Rattle.store.specs.declared.state.Isolations.{Isolations}
 use Rattle.texts.specs.Isolation.{lowered, active_of}
 use Rattle.clamps.specs.Values.{stored_name, active_number}
 use Rattle.alike.specs.Strategies.{isolation_at, strategy_at, signal_name, signal_of, are_alike}
@@ -30,16 +29,16 @@ use Rattle.alike.specs.Shown.{signal_text_lem}
 pub name_of_lem : (x y : Isolation) (n : Name) → n ≡ stored_name x.name → x ≡ y → n ≡ stored_name y.name
 name_of_lem x y n e f = e ∙ rw f
 
-pub no_signal_lem : (m : Maybe) (n : Name) → m ≡ Not → n ≡ no_name → n ≡ signal_name m
+pub no_signal_lem : (m : Option Stored) (n : Name) → m ≡ None → n ≡ no_name → n ≡ signal_name m
 no_signal_lem m n e f = f ∙ rw e
 
-pub its_signal : (m : Maybe) (s : Stored) (n : Name) → m ≡ Given s → n ≡ stored_name s → n ≡ signal_name m
+pub its_signal : (m : Option Stored) (s : Stored) (n : Name) → m ≡ Some s → n ≡ stored_name s → n ≡ signal_name m
 its_signal m s n e f = f ∙ rw e
 
 pub signal_of_lem : (x y : Isolation) (n : Name) → n ≡ signal_name x.signal → x ≡ y → n ≡ signal_name y.signal
 signal_of_lem x y n e f = e ∙ rw f
 
-pub active_of_lem : (mem : Bytes) (x : Isolation) (t : Isolations) (i n : ℕ) → n ≡ active_number (lowered (or_else (maybe_of mem x.sense) (ascii "high"))) → x ≡ isolation_at t i → n ≡ active_number (lowered (strategy_at mem t i).sense)
+pub active_of_lem : (mem : Bytes) (x : Isolation) (t : Few Isolation) (i n : ℕ) → n ≡ active_number (lowered (or_else (maybe_of mem x.sense) (ascii "high"))) → x ≡ isolation_at t i → n ≡ active_number (lowered (strategy_at mem t i).sense)
 unfolding isolation_of
 active_of_lem mem x t i n e f = e ∙ rw f
 
@@ -113,7 +112,7 @@ self_alike : (i : Isolationʳ) → true ≡ are_alike i i
 unfolding are_alike
 self_alike i = sym (rw (same_refl (dotted (signal_of i)), same_refl (active_of i)))
 
-pub one_alike : (mem : Bytes) (t : Isolations) (i j : ℕ) → i ≡ j → true ≡ are_alike (strategy_at mem t i) (strategy_at mem t j)
+pub one_alike : (mem : Bytes) (t : Few Isolation) (i j : ℕ) → i ≡ j → true ≡ are_alike (strategy_at mem t i) (strategy_at mem t j)
 one_alike mem t i j e = rw e (self_alike (strategy_at mem t j))
 
 pub ruleset alikes = (rules, one_alike)

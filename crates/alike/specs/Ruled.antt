@@ -1,18 +1,19 @@
 -- What is asked of a table of isolated ports: each is of a strategy that is there, with a clamp value that is simulated. Assumes nothing.
+use Rattle.store.specs.declared.state.Few.{Few}
+use Rattle.store.specs.declared.state.Isolation.{Isolation}
 use Rattle.std.specs.Prelude.{ℕ, zero, suc, ◌+◌, ◌≤◌, ◌<◌, ◌≡◌, Bool, true, ◌&&◌, List, ltb}
 use Rattle.std.proofs.Common.{arith, zero-add, ltb-true}
 use Rattle.text.specs.Ascii.{Bytes}
 use Rattle.text.specs.Scan.{all}
 use Rattle.text.specs.Sames.{both}
 use Rattle.model.specs.Records.{Isolation as Isolationʳ}
-use Rattle.store.specs.declared.state.Isolations.{Isolations}
 use Rattle.texts.specs.Isolation.{lowered, is_clamp}
 use Rattle.isolated.specs.Table.{port_row, Kept, kept_of, kept_from, kept_in}
 use Rattle.isolated.specs.declared.Isolated.{Isolated}
 use Rattle.alike.specs.Strategies.{strategy_at}
 
 -- of the first n rows
-pub record Ruled (mem : Bytes) (t : Isolations) (ports : List ℕ) (n : ℕ) : Type 0 where
+pub record Ruled (mem : Bytes) (t : Few Isolation) (ports : List ℕ) (n : ℕ) : Type 0 where
   pub few : n ≤ 256
   pub strategies : (k : ℕ) → k < n → (port_row ports k).strategy < 32
   pub clamps : (k : ℕ) → k < n → is_clamp (lowered (strategy_at mem t (port_row ports k).strategy).clamp) ≡ true
@@ -35,7 +36,7 @@ all_at f job mem ports i (suc n) (suc k) h l =
     let b = both (is_ruled f (kept_of job mem (port_row ports i))) (all (is_ruled f) (kept_from job mem ports (i + 1) n)) h in
     rw e (all_at f job mem ports (i + 1) n k b.1 (omega arith))
 
-pub ruled_by : (job mem : Bytes) (t : Isolations) (ports : List ℕ) (n : ℕ) → n ≤ 256 → all (is_ruled (strategy_at mem t)) (kept_in job mem ports n) ≡ true → Ruled mem t ports n
+pub ruled_by : (job mem : Bytes) (t : Few Isolation) (ports : List ℕ) (n : ℕ) → n ≤ 256 → all (is_ruled (strategy_at mem t)) (kept_in job mem ports n) ≡ true → Ruled mem t ports n
 ruled_by job mem t ports n few h =
     record {
       few = few;
@@ -45,7 +46,7 @@ ruled_by job mem t ports n few h =
 
 -- ---- row k, as it is read
 
-module _ (mem : Bytes) (t : Isolations) (ports : List ℕ) (n : ℕ) (r : Ruled mem t ports n) (k : ℕ) (h : k < n) where
+module _ (mem : Bytes) (t : Few Isolation) (ports : List ℕ) (n : ℕ) (r : Ruled mem t ports n) (k : ℕ) (h : k < n) where
   pub row_small : k < 256
   row_small = omega (arith, r.few)
 

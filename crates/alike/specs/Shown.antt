@@ -1,8 +1,11 @@
 -- A kept port as the definitions have it, by its strategy; and laws: below one scope, signals are the same, and in the same order, as they are by themselves.
 -- Assumes nothing.
-use Rattle.std.specs.Prelude.{ℕ, ◌<◌, ◌≡◌, refl, Bool, false, ◌&&◌, List, [], ◌∷◌, ◌++◌, map, get_or, take}
+use Rattle.store.specs.declared.state.Few.{Few}
+use Rattle.store.specs.declared.state.Isolation.{Isolation}
+use Rattle.std.specs.Prelude.{Option, None}
+use Rattle.store.specs.declared.stored.Stored.{Stored}
+use Rattle.std.specs.Prelude.{ℕ, ◌<◌, ◌≡◌, refl, Bool, false, ◌&&◌, List, [], ◌∷◌, ◌++◌, map, get_or, take, Some}
 use Rattle.std.proofs.Common.{sym, ap, ap₂, ◌∙◌, append-nil}
-use Rattle.std.proofs.Math.Option.{some}
 use Rattle.text.specs.Ascii.{Bytes, byte}
 use Rattle.text.specs.Compare.{same, less}
 use Rattle.text.specs.Sames.{same_refl, same_front, less_front}
@@ -18,9 +21,6 @@ use Rattle.model.specs.Commands.{or_else}
 use Rattle.store.specs.Strings.{maybe_of}
 use Rattle.store.specs.Tables.{table_get}
 use Rattle.store.specs.View.{isolation_of}
-use Rattle.store.specs.declared.stored.Maybe.{Maybe}
-use Rattle.store.specs.declared.stored.Maybe.TheVariants.{Not, Given}
-use Rattle.store.specs.declared.state.Isolations.{Isolations}
 use Rattle.texts.specs.Setting.{Setting}
 use Rattle.texts.specs.Isolation.{Isolated, Target, lowered, active_of, key_of, isolated_by, alike}
 use Rattle.format.specs.Args.{rooted}
@@ -43,22 +43,22 @@ abbrev pub shown : List Bytes → Bytes → (ℕ → Isolationʳ) → Kept → I
 shown scope top f k = shown_by scope top (f k.strategy) k
 
 -- as the definitions make it
-pub shown_by_lem : (s : Setting) (f : ℕ → Isolationʳ) (n : ℕ) (i : Isolationʳ) (sig : Bytes) → f n ≡ i → i.signal ≡ some sig → (t : Target) (w : Bytes) → shown s.scope s.top f (kept n (key_of t) w) ≡ isolated_by s i sig t w
+pub shown_by_lem : (s : Setting) (f : ℕ → Isolationʳ) (n : ℕ) (i : Isolationʳ) (sig : Bytes) → f n ≡ i → i.signal ≡ Some sig → (t : Target) (w : Bytes) → shown s.scope s.top f (kept n (key_of t) w) ≡ isolated_by s i sig t w
 shown_by_lem s f n i sig e g t w = rw (e, g)
 
 -- a strategy by its number in the list of those that are there
-pub strategy_in : (mem : Bytes) (t : Isolations) (i : ℕ) → i < t.n → get_or (map (isolation_of mem) (take t.n t.all)) i (isolation_of mem no_isolation) ≡ strategy_at mem t i
+pub strategy_in : (mem : Bytes) (t : Few Isolation) (i : ℕ) → i < t.n → get_or (map (isolation_of mem) (take t.n t.all)) i (isolation_of mem no_isolation) ≡ strategy_at mem t i
 strategy_in mem t i h = table_get (isolation_of mem) t.all t.n i no_isolation h
 
 -- ---- signals
 
-pub signal_text_lem : (mem : Bytes) (m : Maybe) → name_of mem (signal_name m) ≡ or_else (maybe_of mem m) []
+pub signal_text_lem : (mem : Bytes) (m : Option Stored) → name_of mem (signal_name m) ≡ or_else (maybe_of mem m) []
 unfolding name_of bytes
-signal_text_lem mem Not = refl
-signal_text_lem mem (Given s) = refl
+signal_text_lem mem None = refl
+signal_text_lem mem (Some s) = refl
 
 -- the signal of a strategy of the table
-pub signal_read : (mem : Bytes) (t : Isolations) (k : ℕ) (x : Name) → x ≡ signal_name (isolation_at t k).signal → name_of mem x ≡ signal_of (strategy_at mem t k)
+pub signal_read : (mem : Bytes) (t : Few Isolation) (k : ℕ) (x : Name) → x ≡ signal_name (isolation_at t k).signal → name_of mem x ≡ signal_of (strategy_at mem t k)
 unfolding isolation_of
 signal_read mem t k x e = rw e (signal_text_lem mem (isolation_at t k).signal)
 

@@ -1,6 +1,8 @@
 -- A strategy by its number, in the store and as the definitions have it. Assumes nothing.
-use Rattle.std.specs.Prelude.{ℕ, Bool, not, ◌&&◌, [], get_or}
-use Rattle.std.proofs.Math.Option.{none}
+use Rattle.store.specs.declared.state.Few.{Few}
+use Rattle.std.specs.Prelude.{Option, Some}
+use Rattle.store.specs.declared.stored.Stored.{Stored}
+use Rattle.std.specs.Prelude.{ℕ, Bool, ◌&&◌, [], get_or, None}
 use Rattle.text.specs.Ascii.{Bytes}
 use Rattle.text.specs.Compare.{same}
 use Rattle.out.specs.Bytewise.{dotted}
@@ -10,10 +12,7 @@ use Rattle.model.specs.Records.{Isolation as Isolationʳ}
 use Rattle.model.specs.Commands.{or_else}
 use Rattle.store.specs.Strings.{no_string}
 use Rattle.store.specs.View.{isolation_of}
-use Rattle.store.specs.declared.stored.Maybe.{Maybe}
-use Rattle.store.specs.declared.stored.Maybe.TheVariants.{Not, Given}
 use Rattle.store.specs.declared.state.Isolation.{Isolation}
-use Rattle.store.specs.declared.state.Isolations.{Isolations}
 use Rattle.texts.specs.Isolation.{active_of}
 use Rattle.clamps.specs.Values.{stored_name}
 
@@ -23,27 +22,27 @@ no_isolation =
     record {
       name = no_string;
       domain = no_string;
-      applies = Not;
+      applies = None;
       scope = no_string;
       elements = no_string;
-      clamp = Not;
-      signal = Not;
-      sense = Not;
-      power = Not;
-      ground_net = Not;
+      clamp = None;
+      signal = None;
+      sense = None;
+      power = None;
+      ground_net = None;
     }
 
-abbrev pub isolation_at : Isolations → ℕ → Isolation
+abbrev pub isolation_at : Few Isolation → ℕ → Isolation
 isolation_at t i = get_or t.all i no_isolation
 
 -- as the definitions have it
-abbrev pub strategy_at : Bytes → Isolations → ℕ → Isolationʳ
+abbrev pub strategy_at : Bytes → Few Isolation → ℕ → Isolationʳ
 strategy_at mem t i = isolation_of mem (isolation_at t i)
 
 -- a signal as a name, and as a text: empty where none is given
-abbrev pub signal_name : Maybe → Name
-signal_name Not = no_name
-signal_name (Given s) = stored_name s
+abbrev pub signal_name : Option Stored → Name
+signal_name None = no_name
+signal_name (Some s) = stored_name s
 
 abbrev pub signal_of : Isolationʳ → Bytes
 signal_of i = or_else i.signal []

@@ -1,7 +1,6 @@
 -- The answer to a job: the ten checks of document 01, "The first check that fails answers".
 -- Assumes nothing.
-use Rattle.std.specs.Prelude.{ℕ, ◌-◌, Bool, cond, ◌&&◌, [], ◌++◌, leb, length, replicate}
-use Rattle.std.proofs.Math.Option.{Option, none, some}
+use Rattle.std.specs.Prelude.{ℕ, ◌-◌, Bool, cond, ◌&&◌, [], ◌++◌, leb, length, replicate, Option, None, Some}
 use Rattle.text.specs.Ascii.{Bytes}
 use Rattle.joblines.specs.Job.{Module, Job}
 use Rattle.joblines.specs.Parse.{Parsed, parse}
@@ -46,8 +45,8 @@ in_scope l j m (Scope.no_scope n) = refused n 0
 
 -- an accepted job lists its top
 abbrev pub below_top : Lent → Job → Model → Option Module → Answer
-below_top l j m none = refused 7 0
-below_top l j m (some top) = in_scope l j m (scope_of j top m.design_top)
+below_top l j m None = refused 7 0
+below_top l j m (Some top) = in_scope l j m (scope_of j top m.design_top)
 
 -- check 6: 8, 9, 10, with the command's number
 abbrev pub after_reading : Lent → Job → Reading → Answer

@@ -38,8 +38,8 @@ pub fn refused(number: usize, place: usize) -> Answer
     ensures { result ≡ refused_by number place }
 {
     Answer {
-        number: number,
-        place: place,
+        number,
+        place,
         glue: 0,
         pkg: 0,
         report: 0,
@@ -52,7 +52,7 @@ pub fn stopped(number: usize) -> Texts
     ensures { result ≡ stopped_by number }
 {
     Texts {
-        number: number,
+        number,
         glue: 0,
         pkg: 0,
         report: 0,
@@ -83,6 +83,6 @@ pub fn fitted(t: Texts, log: usize, rooms: Rooms) -> Answer
         glue: t.glue,
         pkg: t.pkg,
         report: t.report,
-        log: log,
+        log,
     }
 }

@@ -1,9 +1,10 @@
 -- The states of a command's words: laws as the needs ask them. Assumes nothing.
+use Rattle.std.specs.Prelude.{Some, None}
 use Prim.Native.Nat.{ℕ, suc, ◌+◌, ◌-◌, ◌≤◌, ◌<◌, ◌^◌}
 use mathlib.Core.Path.{◌≡◌, refl}
 use mathlib.Core.Bool.{Bool, true, false, cond}
 use mathlib.Core.List.{List, [], ◌∷◌}
-use mathlib.Core.Option.{Option}
+use Rattle.std.specs.Prelude.{Option}
 use native.Mathlib.Omega.{arith}
 use lib.ListN.{length}
 use lib.Dec.{leb}
@@ -18,8 +19,6 @@ use Rattle.tcl.specs.Arguments as arguments
 use Rattle.args.specs.View.{words_from, pick, StateHere, States}
 use Rattle.args.specs.Laws.{words_all, words_none, words_here}
 use Rattle.spans.specs.Reach.{one_of}
-use Rattle.args.specs.declared.state.State.{State}
-use Rattle.args.specs.declared.state.State.TheVariants.{At, None}
 
 -- ---- the state at a word
 
@@ -34,7 +33,7 @@ module _ (mem : Bytes) (words : List ℕ) (n i : ℕ) (one two : Bytes) where
   here_last m e h = record { is = rw (words_none mem words n (i + 1) (omega arith)); within = λ d x. omega arith }
 
   module _ (m : ℕ) (e : m ≡ n - i) (h : 1 < m) (s : Span) (z : s ≡ pair_at words i) (u : Bool) (f : u ≡ same (bytes mem s) one) where
-    pub here_one : (v : Span) → v ≡ pair_at words (i + 1) → u ≡ true → StateHere mem words n here (At true v)
+    pub here_one : (v : Span) → v ≡ pair_at words (i + 1) → u ≡ true → StateHere mem words n here (Some (true, v))
     here_one v y t =
         let g : i + 1 < n = omega arith in
         record { is = rw (words_here mem words n (i + 1) g, ← z, ← f, t, y); within = λ d x. rw y (one_of d words n (i + 1) g) }
@@ -43,7 +42,7 @@ module _ (mem : Bytes) (words : List ℕ) (n i : ℕ) (one two : Bytes) where
       one_not : same (bytes mem (pair_at words i)) one ≡ false
       one_not = rw (← z, ← f, t)
 
-      pub here_two : (v : Span) → v ≡ pair_at words (i + 1) → u' ≡ true → StateHere mem words n here (At false v)
+      pub here_two : (v : Span) → v ≡ pair_at words (i + 1) → u' ≡ true → StateHere mem words n here (Some (false, v))
       here_two v y t' =
           let g : i + 1 < n = omega arith in
           record { is = rw (words_here mem words n (i + 1) g, one_not, ← z', ← f', t', y); within = λ d x. rw y (one_of d words n (i + 1) g) }
@@ -76,9 +75,9 @@ one_on one two w v ws x e = go (same w one) (same w two) refl refl e
     go false true p q z = rw (p, q) (cc)
     go false false p q z = absurd (let o : ◌≡◌ {A = ℕ} 0 1 = cc in omega arith)
 
-module _ (mem : Bytes) (words : List ℕ) (n i : ℕ) (one two : Bytes) (r : State)
+module _ (mem : Bytes) (words : List ℕ) (n i : ℕ) (one two : Bytes) (r : Option (Bool × Span))
     (e : StateHere mem words n (state_of one two (bytes mem (pair_at words i)) (words_from mem words n (i + 1))) r) where
-  there : (k : Bool) (s : Span) → r ≡ At k s → i + 1 < n
+  there : (k : Bool) (s : Span) → r ≡ Some (k, s) → i + 1 < n
   there k s g = go (leb n (i + 1)) refl
     where
       go : (t : Bool) → leb n (i + 1) ≡ t → i + 1 < n
@@ -89,17 +88,17 @@ module _ (mem : Bytes) (words : List ℕ) (n i : ℕ) (one two : Bytes) (r : Sta
           absurd (omega arith)
       go false q = leb-false n (i + 1) q
 
-  pub key_fits : n < 2 ^ 64 → (k : Bool) (s : Span) → r ≡ At k s → i + 2 < 2 ^ 64
+  pub key_fits : n < 2 ^ 64 → (k : Bool) (s : Span) → r ≡ Some (k, s) → i + 2 < 2 ^ 64
   key_fits f k s g = let h : i + 1 < n = there k s g in omega arith
 
-  pub key_less : (k : Bool) (s : Span) → r ≡ At k s → n - (i + 2) < n - i
+  pub key_less : (k : Bool) (s : Span) → r ≡ Some (k, s) → n - (i + 2) < n - i
   key_less k s g = let h : i + 1 < n = there k s g in omega arith
 
   module _ (h : i < n) where
     step_none : r ≡ None → states_from false one two (words_from mem words n i) ≡ states_from false one two (words_from mem words n (i + 1))
     step_none g = rw (words_here mem words n i h) (none_on one two (bytes mem (pair_at words i)) (words_from mem words n (i + 1)) (rw g at e.is))
 
-    step_one : (k : Bool) (s : Span) → r ≡ At k s → states_from false one two (words_from mem words n i) ≡ state k (bytes mem s) ∷ states_from false one two (words_from mem words n (i + 2))
+    step_one : (k : Bool) (s : Span) → r ≡ Some (k, s) → states_from false one two (words_from mem words n i) ≡ state k (bytes mem s) ∷ states_from false one two (words_from mem words n (i + 2))
     step_one k s g =
         let q : i + 1 + 1 ≡ i + 2 = omega arith in
         let d = rw (words_here mem words n (i + 1) (there k s g), g) at e.is in
@@ -118,12 +117,12 @@ module _ (mem : Bytes) (words : List ℕ) (n : ℕ) (one two : Bytes) (t : Optio
   unfolding pick states_from
   seek_end h = record { is = rw (words_none mem words n i h) at inv.keeps; within = λ d x. omega arith }
 
-  module _ (h : i < n) (r : State) (e : StateHere mem words n (state_of one two (bytes mem (pair_at words i)) (words_from mem words n (i + 1))) r) where
+  module _ (h : i < n) (r : Option (Bool × Span)) (e : StateHere mem words n (state_of one two (bytes mem (pair_at words i)) (words_from mem words n (i + 1))) r) where
     pub seek_none : r ≡ None → Seeks mem words n one two t (i + 1) left
     seek_none g = record { keeps = rw (step_none mem words n i one two r e h g) at inv.keeps }
 
-    module _ (k : Bool) (s : Span) (g : r ≡ At k s) where
-      pub seek_here : left ≡ 0 → States mem words n t (At k s)
+    module _ (k : Bool) (s : Span) (g : r ≡ Some (k, s)) where
+      pub seek_here : left ≡ 0 → States mem words n t (Some (k, s))
       unfolding pick
       seek_here q = record { is = rw (step_one mem words n i one two r e h k s g, q) at inv.keeps; within = λ d x. rw g at (e.within d x) }
 
@@ -149,11 +148,11 @@ module _ (mem : Bytes) (words : List ℕ) (n : ℕ) (one two : Bytes) (t i found
   unfolding states_from
   add_end h = omega (arith, rw (words_none mem words n i h) at inv.keeps)
 
-  module _ (h : i < n) (r : State) (e : StateHere mem words n (state_of one two (bytes mem (pair_at words i)) (words_from mem words n (i + 1))) r) where
+  module _ (h : i < n) (r : Option (Bool × Span)) (e : StateHere mem words n (state_of one two (bytes mem (pair_at words i)) (words_from mem words n (i + 1))) r) where
     pub add_none : r ≡ None → Adds mem words n one two t (i + 1) found
     add_none g = record { keeps = rw (step_none mem words n i one two r e h g) at inv.keeps }
 
-    pub add_on : (k : Bool) (s : Span) → r ≡ At k s → Adds mem words n one two t (i + 2) (found + 1)
+    pub add_on : (k : Bool) (s : Span) → r ≡ Some (k, s) → Adds mem words n one two t (i + 2) (found + 1)
     add_on k s g = record { keeps = omega (arith, rw (step_one mem words n i one two r e h k s g) at inv.keeps) }
 
 pub ruleset adds = (rules, key_fits, key_less, add_start, add_end, add_none, add_on)

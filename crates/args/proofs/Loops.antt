@@ -3,7 +3,8 @@ use Prim.Native.Nat.{ℕ, suc, ◌+◌, ◌-◌, ◌≤◌, ◌<◌, ◌^◌}
 use mathlib.Core.Path.{◌≡◌, refl}
 use mathlib.Core.Bool.{Bool, true, false, cond, ◌||◌}
 use mathlib.Core.List.{List, [], ◌∷◌}
-use mathlib.Core.Option.{Option, none, some}
+use Rattle.std.specs.Prelude.{Option, None, Some}
+use Rattle.std.specs.Option.{unwrap_or}
 use native.Mathlib.Omega.{arith}
 use lib.ListN.{length}
 use lib.Dec.{leb}
@@ -14,8 +15,6 @@ use Rattle.text.specs.Compare.{same}
 use Rattle.spans.specs.Span.{◌⋯◌, bytes, found_of, pair_at, pairs}
 use Rattle.spans.specs.Reach.{last_of, one_of}
 use Rattle.spans.specs.declared.span.Span.{Span}
-use Rattle.spans.specs.declared.span.Found.{Found}
-use Rattle.spans.specs.declared.span.Found.TheVariants.{At, None}
 use Rattle.tcl.specs.Arguments.{is_option, role_of, positionals_from, option_from, has_flag_from, first_or, last_or, later}
 use Rattle.tcl.specs.Arguments as arguments
 use Rattle.args.specs.View.{words_from, role_as, pick, found_by, Reads, Finds}
@@ -74,19 +73,19 @@ module _ (mem : Bytes) (words : List ℕ) (n i : ℕ) (r : Role)
     unfolding option_from
     opt_flag key g = rw (words_here mem words n i h, e, g) (last (option_from false key (words_from mem words n (i + 1))))
       where
-        last : (a : Option Bytes) → later a none ≡ a
-        last none = refl
-        last (some v) = refl
+        last : (a : Option Bytes) → later a None ≡ a
+        last None = refl
+        last (Some v) = refl
 
     opt_word : (key : Bytes) → r ≡ Positional → option_from false key (words_from mem words n i) ≡ option_from false key (words_from mem words n (i + 1))
     unfolding option_from
     opt_word key g = rw (words_here mem words n i h, e, g) (last (option_from false key (words_from mem words n (i + 1))))
       where
-        last : (a : Option Bytes) → later a none ≡ a
-        last none = refl
-        last (some v) = refl
+        last : (a : Option Bytes) → later a None ≡ a
+        last None = refl
+        last (Some v) = refl
 
-    opt_option : (key : Bytes) → r ≡ Role-as-Option → option_from false key (words_from mem words n i) ≡ later (option_from false key (words_from mem words n (i + 2))) (cond (same (bytes mem (pair_at words i)) key) (some (bytes mem (pair_at words (i + 1)))) none)
+    opt_option : (key : Bytes) → r ≡ Role-as-Option → option_from false key (words_from mem words n i) ≡ later (option_from false key (words_from mem words n (i + 2))) (cond (same (bytes mem (pair_at words i)) key) (Some (bytes mem (pair_at words (i + 1)))) None)
     unfolding option_from
     opt_option key g =
         let q : i + 1 + 1 ≡ i + 2 = omega arith in
@@ -123,7 +122,7 @@ module _ (mem : Bytes) (words : List ℕ) (n : ℕ) (t : Option Bytes) (i left :
     pub pick_option : r ≡ Role-as-Option → Picks mem words n t (i + 2) left
     pick_option g = record { keeps = rw (pos_option mem words n i r e h g) at inv.keeps }
 
-    pub pick_here : (s : Span) → s ≡ pair_at words i → r ≡ Positional → left ≡ 0 → Finds mem words n t (At s)
+    pub pick_here : (s : Span) → s ≡ pair_at words i → r ≡ Positional → left ≡ 0 → Finds mem words n t (Some s)
     unfolding pick
     pick_here s z g q = record { is = rw z (rw (pos_word mem words n i r e h g, q) at inv.keeps); within = λ d y. rw z (one_of d words n i h) }
 
@@ -160,25 +159,27 @@ pub ruleset counts = (rules, two_fits, two_less, count_end, count_flag, count_op
 
 -- ---- the first and the last one
 
-first_is : (x : Bytes) (ps : List Bytes) → some x ≡ pick 0 ps → x ≡ first_or ps
+first_is : (x : Bytes) (ps : List Bytes) → Some x ≡ pick 0 ps → x ≡ first_or ps
 unfolding pick
 first_is x [] e = absurd (let z : ◌≡◌ {A = ℕ} 0 1 = cc in omega arith)
 first_is x (p ∷ ps) e = cc
 
-first_none : (ps : List Bytes) → none ≡ pick 0 ps → [] ≡ first_or ps
+first_none : (ps : List Bytes) → None ≡ pick 0 ps → [] ≡ first_or ps
 unfolding pick
 first_none [] e = refl
 first_none (p ∷ ps) e = absurd (let z : ◌≡◌ {A = ℕ} 0 1 = cc in omega arith)
 
-module _ (mem : Bytes) (words : List ℕ) (n : ℕ) (ps : List Bytes) (r : Found) (f : Finds mem words n (pick 0 ps) r) where
-  pub name_at_lem : (s : Span) → r ≡ At s → Reads mem words n (first_or ps) s
+module _ (mem : Bytes) (words : List ℕ) (n : ℕ) (ps : List Bytes) (r : Option Span) (f : Finds mem words n (pick 0 ps) r) where
+  name_at_lem : (s : Span) → r ≡ Some s → Reads mem words n (first_or ps) s
   name_at_lem s g = record { is = first_is (bytes mem s) ps (rw g at f.is); within = λ d q. rw g at (f.within d q) }
 
-  pub name_none : r ≡ None → Reads mem words n (first_or ps) (0 ⋯ 0)
+  name_none : r ≡ None → Reads mem words n (first_or ps) (0 ⋯ 0)
   unfolding bytes
   name_none g = record { is = first_none ps (rw g at f.is); within = λ d q. omega (arith, q) }
 
-pub ruleset names = (rules, name_at_lem, name_none)
+pub name_is : (mem : Bytes) (words : List ℕ) (n : ℕ) (ps : List Bytes) (r : Option Span) → Finds mem words n (pick 0 ps) r → (s : Span) → s ≡ unwrap_or r (0 ⋯ 0) → Reads mem words n (first_or ps) s
+name_is mem words n ps None f s e = rw e (name_none mem words n ps None f refl)
+name_is mem words n ps (Some x) f s e = rw e (name_at_lem mem words n ps (Some x) f x refl)
 
 pub record Lasts (mem : Bytes) (words : List ℕ) (n : ℕ) (t : Bytes) (i : ℕ) (found : Span) : Type 0 where
   pub keeps : last_or (bytes mem found) (positionals_from false (words_from mem words n i)) ≡ t
@@ -207,23 +208,23 @@ pub ruleset lasts = (rules, two_fits, two_less, last_start, last_end_lem, last_f
 
 -- ---- the value of an option
 
-pub record Values (mem : Bytes) (words : List ℕ) (n : ℕ) (key : Bytes) (t : Option Bytes) (i : ℕ) (found : Found) : Type 0 where
+pub record Values (mem : Bytes) (words : List ℕ) (n : ℕ) (key : Bytes) (t : Option Bytes) (i : ℕ) (found : Option Span) : Type 0 where
   pub keeps : later (option_from false key (words_from mem words n i)) (found_of mem found) ≡ t
   pub within : (d : Span → ℕ) → d (0 ⋯ 0) ≡ 0 → found_by d found ≤ last_of d (pairs words 0 n)
 
-later_later : (mem v : Bytes) (s : Span) (u : Bool) (a : Option Bytes) (f : Found) → v ≡ bytes mem s → later (later a (cond u (some v) none)) (found_of mem f) ≡ later a (found_of mem (cond u (At s) f))
-later_later mem v s u (some x) f e = refl
-later_later mem v s true none f e = rw e
-later_later mem v s false none f e = refl
+later_later : (mem v : Bytes) (s : Span) (u : Bool) (a : Option Bytes) (f : Option Span) → v ≡ bytes mem s → later (later a (cond u (Some v) None)) (found_of mem f) ≡ later a (found_of mem (cond u (Some s) f))
+later_later mem v s u (Some x) f e = refl
+later_later mem v s true None f e = rw e
+later_later mem v s false None f e = refl
 
 pub value_start : (mem : Bytes) (words : List ℕ) (n : ℕ) (key : Bytes) → Values mem words n key (option_from false key (words_from mem words n 1)) 1 None
 value_start mem words n key = record { keeps = go (option_from false key (words_from mem words n 1)); within = λ d q. omega arith }
   where
-    go : (a : Option Bytes) → later a none ≡ a
-    go none = refl
-    go (some v) = refl
+    go : (a : Option Bytes) → later a None ≡ a
+    go None = refl
+    go (Some v) = refl
 
-module _ (mem : Bytes) (words : List ℕ) (n : ℕ) (key : Bytes) (t : Option Bytes) (i : ℕ) (found : Found) (inv : Values mem words n key t i found) where
+module _ (mem : Bytes) (words : List ℕ) (n : ℕ) (key : Bytes) (t : Option Bytes) (i : ℕ) (found : Option Span) (inv : Values mem words n key t i found) where
   pub value_end : n ≤ i → Finds mem words n t found
   unfolding option_from
   value_end h = record { is = rw (words_none mem words n i h) at inv.keeps; within = inv.within }
@@ -235,23 +236,23 @@ module _ (mem : Bytes) (words : List ℕ) (n : ℕ) (key : Bytes) (t : Option By
     pub value_word : r ≡ Positional → Values mem words n key t (i + 1) found
     value_word g = record { keeps = rw (opt_word mem words n i r e h key g) at inv.keeps; within = inv.within }
 
-    pub value_option : (q : Found) → q ≡ cond (same (bytes mem (pair_at words i)) key) (At (pair_at words (i + 1))) found → r ≡ Role-as-Option → Values mem words n key t (i + 2) q
+    pub value_option : (q : Option Span) → q ≡ cond (same (bytes mem (pair_at words i)) key) (Some (pair_at words (i + 1))) found → r ≡ Role-as-Option → Values mem words n key t (i + 2) q
     value_option q z g =
         record {
           keeps = rw (z, ← (later_later mem (bytes mem (pair_at words (i + 1))) (pair_at words (i + 1)) (same (bytes mem (pair_at words i)) key) (option_from false key (words_from mem words n (i + 2))) found refl)) (rw (opt_option mem words n i r e h key g) at inv.keeps);
           within = λ d x. rw z (go d x (same (bytes mem (pair_at words i)) key));
         }
       where
-        go : (d : Span → ℕ) → d (0 ⋯ 0) ≡ 0 → (u : Bool) → found_by d (cond u (At (pair_at words (i + 1))) found) ≤ last_of d (pairs words 0 n)
+        go : (d : Span → ℕ) → d (0 ⋯ 0) ≡ 0 → (u : Bool) → found_by d (cond u (Some (pair_at words (i + 1))) found) ≤ last_of d (pairs words 0 n)
         go d x true = one_of d words n (i + 1) (two mem words n i r e g)
         go d x false = inv.within d x
 
 -- the value of option word i, or what was found before
-module _ (mem : Bytes) (words : List ℕ) (key : Bytes) (i : ℕ) (found : Found) (s : Span) (z : s ≡ pair_at words i) (u : Bool) (f : u ≡ same (bytes mem s) key) where
-  pub newer_here : (v : Span) → v ≡ pair_at words (i + 1) → u ≡ true → At v ≡ cond (same (bytes mem (pair_at words i)) key) (At (pair_at words (i + 1))) found
+module _ (mem : Bytes) (words : List ℕ) (key : Bytes) (i : ℕ) (found : Option Span) (s : Span) (z : s ≡ pair_at words i) (u : Bool) (f : u ≡ same (bytes mem s) key) where
+  pub newer_here : (v : Span) → v ≡ pair_at words (i + 1) → u ≡ true → Some v ≡ cond (same (bytes mem (pair_at words i)) key) (Some (pair_at words (i + 1))) found
   newer_here v y t = rw (← z, ← f, t, y)
 
-  pub newer_none : u ≡ false → found ≡ cond (same (bytes mem (pair_at words i)) key) (At (pair_at words (i + 1))) found
+  pub newer_none : u ≡ false → found ≡ cond (same (bytes mem (pair_at words i)) key) (Some (pair_at words (i + 1))) found
   newer_none t = rw (← z, ← f, t)
 
 pub ruleset newers = (rules, newer_here, newer_none)

@@ -1,4 +1,5 @@
 -- What a word is, and what stands behind it: laws as the needs ask them. Assumes nothing.
+use Rattle.std.specs.Prelude.{Option, Some, None}
 use Prim.Native.Nat.{ℕ, ◌+◌, ◌-◌, ◌≤◌, ◌<◌}
 use mathlib.Core.Path.{◌≡◌, refl, ◌∙◌}
 use mathlib.Core.Bool.{Bool, true, false, cond, not}
@@ -10,8 +11,6 @@ use Rattle.text.specs.Ascii.{Bytes, byte}
 use Rattle.text.specs.Classes.{is_digit}
 use Rattle.spans.specs.Span.{bytes, got_of, pair_at}
 use Rattle.spans.specs.declared.span.Span.{Span}
-use Rattle.spans.specs.declared.span.Got.{Got}
-use Rattle.spans.specs.declared.span.Got.TheVariants.{Yes, No}
 use Rattle.tcl.specs.Arguments.{is_option, with_value, role_of}
 use Rattle.tcl.specs.Arguments as arguments
 use Rattle.args.specs.View.{words_from, role_as}
@@ -20,12 +19,12 @@ use Rattle.args.specs.declared.role.Role.{Role}
 
 -- ---- whether a word is like an option
 
-module _ (mem w : Bytes) (p : Got) (e : w ≡ got_of mem p) where
-  pub no_byte : p ≡ No → false ≡ is_option w
+module _ (mem w : Bytes) (p : Option (ℕ × Span)) (e : w ≡ got_of mem p) where
+  pub no_byte : p ≡ None → false ≡ is_option w
   unfolding is_option
   no_byte h = rw (e, h)
 
-  module _ (a : ℕ) (t : Span) (h : p ≡ Yes a t) where
+  module _ (a : ℕ) (t : Span) (h : p ≡ Some (a, t)) where
     pub other_byte : (a ≡ byte "-" → ⊥) → false ≡ is_option w
     unfolding is_option
     other_byte g = rw (e, h) (go (bytes mem t))
@@ -34,12 +33,12 @@ module _ (mem w : Bytes) (p : Got) (e : w ≡ got_of mem p) where
         go [] = refl
         go (y ∷ v) = rw (ne_eqb a (byte "-") g)
 
-    module _ (m : a ≡ byte "-") (q : Got) (f : bytes mem t ≡ got_of mem q) where
-      pub one_byte : q ≡ No → false ≡ is_option w
+    module _ (m : a ≡ byte "-") (q : Option (ℕ × Span)) (f : bytes mem t ≡ got_of mem q) where
+      pub one_byte : q ≡ None → false ≡ is_option w
       unfolding is_option
       one_byte g = rw (e, h, f, g)
 
-      pub two_bytes : (b : ℕ) (u : Span) (d : Bool) → q ≡ Yes b u → d ≡ is_digit b → not d ≡ is_option w
+      pub two_bytes : (b : ℕ) (u : Span) (d : Bool) → q ≡ Some (b, u) → d ≡ is_digit b → not d ≡ is_option w
       unfolding is_option
       two_bytes b u d g i = rw (e, h, f, g, i, m)
 

@@ -4,7 +4,7 @@ ghost use Rattle.spans.specs.Span.{bytes, pair_at};
 ghost use Rattle.tcl.specs.Arguments.{is_option, with_value, role_of};
 ghost use Rattle.args.specs.View.{words_from, role_as};
 
-use spans::span::{Got, Span, first, minus, pair};
+use spans::span::{Span, first, minus, pair};
 use text::class::is_digit;
 
 // What a word is; an option has the word behind it as its value.
@@ -19,16 +19,16 @@ pub enum Role {
 pub fn is_option(files: &[u8], area: &[u8], s: Span) -> bool
     ensures { result ≡ is_option (bytes (files.now ++ area.now) s) }
 {
-    let Got::Yes(a, t) = first(files, area, s) else {
+    let Some((a, t)) = first(files, area, s) else {
         return false;
     };
     if a != b'-' {
         return false;
     }
-    match first(files, area, t) {
-        Got::No => false,
-        Got::Yes(b, _) => !is_digit(b),
-    }
+    let Some((b, _)) = first(files, area, t) else {
+        return false;
+    };
+    !is_digit(b)
 }
 
 // What word i of n is, which is like an option: by the word behind it.

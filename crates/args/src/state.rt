@@ -6,13 +6,6 @@ ghost use Rattle.args.specs.View.{words_from, pick, StateHere, States};
 
 use spans::span::{Span, is, minus, pair};
 
-// A state: whether its key is the first one, and the word behind it.
-#[derive(Clone, Copy)]
-pub enum State {
-    At(bool, Span),
-    None,
-}
-
 // The state whose key word i of n is; none where it is no key, or the last word.
 fn state_here<'a>(
     files: &'a [u8],
@@ -22,19 +15,19 @@ fn state_here<'a>(
     one: &[u8],
     two: &[u8],
     i: usize,
-) -> State
+) -> Option<(bool, Span)>
     ensures { StateHere (files.now ++ area.now) words.now n (state_of one.now two.now (bytes (files.now ++ area.now) (pair_at words.now i)) (words_from (files.now ++ area.now) words.now n (i + 1))) result }
 {
     if minus(n, i) <= 1 {
-        return State::None;
+        return None;
     }
     if is(files, area, pair(words, i), one) {
-        return State::At(true, pair(words, i + 1));
+        return Some((true, pair(words, i + 1)));
     }
     if is(files, area, pair(words, i), two) {
-        return State::At(false, pair(words, i + 1));
+        return Some((false, pair(words, i + 1)));
     }
-    State::None
+    None
 }
 
 // State k of a command's words, its name included; where there is one key only it is given twice.
@@ -46,22 +39,23 @@ pub fn state_at<'a>(
     one: &[u8],
     two: &[u8],
     k: usize,
-) -> State
+) -> Option<(bool, Span)>
     ensures { States (files.now ++ area.now) words.now n (pick k (Arguments·states one.now two.now (strings (files.now ++ area.now) words.now 0 n))) result }
 {
     let mut i = 0;
     let mut left = k;
+    // Counted by hand: a key moves on by two words, so an iterator is no plainer.
     while i < n {
         match state_here(files, area, words, n, one, two, i) {
-            State::None => i += 1,
-            State::At(first, s) => {
+            None => i += 1,
+            Some((first, s)) => {
                 if left == 0 {
-                    return State::At(first, s);
+                    return Some((first, s));
                 }
                 left -= 1;
                 i += 2;
             }
         }
     }
-    State::None
+    None
 }

@@ -2,7 +2,7 @@
 #![tactic(auto)]
 
 ghost use Rattle.std.specs.Prelude.{◌≡◌, ◌++◌, ◌≤◌, length};
-ghost use Rattle.out.specs.Emit.{◌▸◌, emit};
+ghost use Rattle.out.specs.Text.{Writes};
 ghost use Rattle.names.specs.Name.{name_of};
 ghost use Rattle.scope.specs.Parts.{parts};
 ghost use Rattle.listing.specs.Listing.{paths_of};
@@ -11,24 +11,22 @@ ghost use Rattle.blocks.specs.Blocks.{wire_text, up_text, down_text, initial_tex
 
 use names::name::Name;
 use nametexts::{fill1, fill3};
-use out::emit::put;
+use out::emit::Text;
 use pathlines::{put_forces, put_releases};
 
 // Writes the wire of a domain.
 pub fn put_wire(
-    out: &mut [u8],
-    at: usize,
+    to: &mut Text,
     files: &[u8],
     area: &[u8],
     domain: Name,
     power: Name,
     ground_net: Name,
-) -> usize
-    ensures { out.new ▸ result ≡ emit (out.old ▸ at) (wire_text (name_of (files.now ++ area.now) domain) (name_of (files.now ++ area.now) power) (name_of (files.now ++ area.now) ground_net)) }
+)
+    ensures { Writes to.old (wire_text (name_of (files.now ++ area.now) domain) (name_of (files.now ++ area.now) power) (name_of (files.now ++ area.now) ground_net)) to.new }
 {
     fill3(
-        out,
-        at,
+        to,
         b"  wire upf_pd__{a} = upf__{b} & upf__{c};\n",
         files,
         area,
@@ -40,8 +38,7 @@ pub fn put_wire(
 
 // Writes the `always` block up to its checks: what is released when the domain is powered up.
 pub fn put_up(
-    out: &mut [u8],
-    at: usize,
+    to: &mut Text,
     files: &[u8],
     area: &[u8],
     over: &[u8],
@@ -50,22 +47,20 @@ pub fn put_up(
     ends: &[u32],
     n: usize,
     domain: Name,
-) -> usize
+)
     requires { n ≤ length ends.now }
-    ensures { out.new ▸ result ≡ emit (out.old ▸ at) (up_text (name_of (files.now ++ area.now) domain) (below (parts over.now from) (paths_of text.now ends.now n))) }
+    ensures { Writes to.old (up_text (name_of (files.now ++ area.now) domain) (below (parts over.now from) (paths_of text.now ends.now n))) to.new }
 {
-    let a = fill1(
-        out,
-        at,
+    fill1(
+        to,
         b"  always @(upf_pd__{a}) begin\n    if (upf_pd__{a} === 1'b1) begin\n",
         files,
         area,
         domain,
     );
-    let b = put_releases(out, a, over, from, text, ends, n);
+    put_releases(to, over, from, text, ends, n);
     fill1(
-        out,
-        b,
+        to,
         b"      $display(\"[UPF] Time: %0t, Power domain '{0}' is powered up\", $time);\n    end else begin\n      if ($time != 0) begin\n",
         files,
         area,
@@ -75,8 +70,7 @@ pub fn put_up(
 
 // Writes the `always` block behind its checks: what is forced when the domain is powered down.
 pub fn put_down(
-    out: &mut [u8],
-    at: usize,
+    to: &mut Text,
     files: &[u8],
     area: &[u8],
     over: &[u8],
@@ -85,15 +79,14 @@ pub fn put_down(
     ends: &[u32],
     n: usize,
     domain: Name,
-) -> usize
+)
     requires { n ≤ length ends.now }
-    ensures { out.new ▸ result ≡ emit (out.old ▸ at) (down_text (name_of (files.now ++ area.now) domain) (below (parts over.now from) (paths_of text.now ends.now n))) }
+    ensures { Writes to.old (down_text (name_of (files.now ++ area.now) domain) (below (parts over.now from) (paths_of text.now ends.now n))) to.new }
 {
-    let a = put(out, at, b"      end\n");
-    let b = put_forces(out, a, over, from, text, ends, n);
+    to.put(b"      end\n");
+    put_forces(to, over, from, text, ends, n);
     fill1(
-        out,
-        b,
+        to,
         b"      if ($time != 0) $display(\"[UPF] Time: %0t, Power domain '{0}' is powered down\", $time);\n    end\n  end\n",
         files,
         area,
@@ -103,8 +96,7 @@ pub fn put_down(
 
 // Writes the `initial` block.
 pub fn put_initial(
-    out: &mut [u8],
-    at: usize,
+    to: &mut Text,
     files: &[u8],
     area: &[u8],
     over: &[u8],
@@ -113,18 +105,17 @@ pub fn put_initial(
     ends: &[u32],
     n: usize,
     domain: Name,
-) -> usize
+)
     requires { n ≤ length ends.now }
-    ensures { out.new ▸ result ≡ emit (out.old ▸ at) (initial_text (name_of (files.now ++ area.now) domain) (below (parts over.now from) (paths_of text.now ends.now n))) }
+    ensures { Writes to.old (initial_text (name_of (files.now ++ area.now) domain) (below (parts over.now from) (paths_of text.now ends.now n))) to.new }
 {
-    let a = fill1(
-        out,
-        at,
+    fill1(
+        to,
         b"  initial begin\n    if (upf_pd__{a} !== 1'b1) begin\n",
         files,
         area,
         domain,
     );
-    let b = put_forces(out, a, over, from, text, ends, n);
-    put(out, b, b"    end\n  end\n")
+    put_forces(to, over, from, text, ends, n);
+    to.put(b"    end\n  end\n")
 }

@@ -1,4 +1,5 @@
 -- A strategy put among those that are found: laws as the needs ask them. Assumes nothing.
+use Rattle.std.specs.Prelude.{Option, Some, None}
 use Prim.Native.Nat.{ℕ, zero, suc, ◌+◌, ◌-◌, ◌≤◌, ◌<◌, ◌^◌}
 use native.Mathlib.Omega.{arith}
 use native.Mathlib.Numerals.{add-one}
@@ -6,13 +7,14 @@ use mathlib.Core.Path.{◌≡◌, refl, sym, ap, ap₂, ◌∙◌}
 use mathlib.Core.Bool.{Bool, true, false, cond}
 use mathlib.Core.List.{List, [], ◌∷◌, ◌++◌, append_assoc}
 use lib.ListN.{length, take, drop, get_or, set, length-set, length-append, length-drop, drop_of_length-le, take-append-drop}
-use lib.Seq.{drop-cons, get_or-take, get_or_at, set_at, take-suc, take_at, length-take-le, take-take}
+use borrow.Rule.Slice.PartMut.{put_mid}
+use lib.Seq.{drop_at, drop-cons, get_or-take, get_or_at, set_at, take-suc, take_at, length-take-le, take-take}
 use borrow.Author.Rules.{rules}
 use borrow.Author.Tests.{ltb-true, lt-ltb}
 use Rattle.text.specs.Scan.{all}
 use Rattle.text.specs.Sames.{both}
 use Rattle.model.specs.Records.{Isolation as Isolationʳ}
-use Rattle.checks.specs.Sorted.{are_same, is_earlier, spot_in, inserted_in, inserted_at, is_number, Known, Adds, Found}
+use Rattle.checks.specs.Sorted.{are_same, is_earlier, place_number, spot_in, inserted_in, inserted_at, is_number, Known, Adds, Found}
 
 -- ---- numbers that are found
 
@@ -48,9 +50,6 @@ module _ (f : ℕ → Isolationʳ) (i : ℕ) (l : List ℕ) (n k : ℕ) (inv : S
   pub spot_number : k < n → (j : ℕ) → j ≡ get_or l k 0 → j < 32
   spot_number h j e = number_at l n k w h j e
 
-  pub spot_more : n + 1 < 2 ^ 64
-  spot_more = omega (arith, w.few)
-
   pub spot_end : n ≤ k → n + 1 ≡ spot_in f i (take n l) 0
   unfolding spot_in
   spot_end h =
@@ -72,73 +71,33 @@ module _ (f : ℕ → Isolationʳ) (i : ℕ) (l : List ℕ) (n k : ℕ) (inv : S
       pub spot_on : d ≡ false → Spots f i l n (k + 1)
       spot_on z = record { number = inv.number; known = inv.known; before = omega arith; left = opened ∙ rw (g, ← q, z) }
 
-pub ruleset spots = (rules, spot_number, spot_more, spot_end, spot_there, spot_here, spot_on)
+pub ruleset spots = (rules, spot_number, spot_end, spot_there, spot_here, spot_on)
 
--- ---- what is put there: i places before, one free, those behind
+-- ---- what is put there: behind the others, and turned to its place
 
-module _ (l₀ : List ℕ) (n : ℕ) where
-  abbrev behind : ℕ → List ℕ
-  behind i = drop i (take n l₀) ++ drop (n + 1) l₀
+-- of the list a, b, x and r the part b, x is turned by one
+rotated : (a b r : List ℕ) (x k j : ℕ) → length a ≡ k → j ≡ length b + 1 → (ys m : List ℕ) → m ≡ a ++ (b ++ (x ∷ r)) → ys ≡ drop (length (take j (drop k m)) - 1) (take j (drop k m)) ++ take (length (take j (drop k m)) - 1) (take j (drop k m)) → put_mid k j m ys ≡ a ++ (x ∷ (b ++ r))
+rotated a b r x k j ka jb ys m e y =
+    let v : drop k m ≡ (b ++ (x ∷ [])) ++ r = rw e (drop_at a (b ++ (x ∷ r)) k ka) ∙ sym (append_assoc b (x ∷ []) r) in
+    let l : length (b ++ (x ∷ [])) ≡ j = length-append b (x ∷ []) ∙ sym jb in
+    let s : take j (drop k m) ≡ b ++ (x ∷ []) = rw v (take_at (b ++ (x ∷ [])) r j l) in
+    let d : drop j (drop k m) ≡ r = rw v (drop_at (b ++ (x ∷ [])) r j l) in
+    let t : take k m ≡ a = rw e (take_at a (b ++ (x ∷ r)) k ka) in
+    let q : length (b ++ (x ∷ [])) - 1 ≡ length b = omega (arith, l, jb) in
+    let w : ys ≡ (x ∷ []) ++ b = y ∙ rw (s, q, drop_at b (x ∷ []) (length b) refl, take_at b (x ∷ []) (length b) refl) in
+    rw (t, d, w)
 
-  pub record Moves (k : ℕ) (l : List ℕ) (i : ℕ) : Type 0 where
-    pub from : k ≤ i
-    pub upto : i ≤ n
-    pub size : length l ≡ length l₀
-    pub free : ℕ
-    pub is : l ≡ take i l₀ ++ (free ∷ behind i)
-
-  module _ (g : n < length l₀) where
-    pub moves_start : (k : ℕ) → k ≤ n → Moves k l₀ n
-    moves_start k h =
-        record {
-          from = h;
-          upto = omega arith;
-          size = refl;
-          free = get_or l₀ n 0;
-          is =
-              let e : drop n (take n l₀) ≡ [] = drop_of_length-le (take n l₀) {i = n} (rw (length-take-le n l₀ (omega arith)) (omega arith)) in
-              rw e (sym (take-append-drop n l₀) ∙ ap (λ (r : List ℕ). take n l₀ ++ r) (drop-cons l₀ n 0 g ∙ rw (add-one n)));
-        }
-
-    module _ (k : ℕ) (l : List ℕ) (i : ℕ) (inv : Moves k l i) where
-      front : length (take i l₀) ≡ i
-      front = length-take-le i l₀ (omega (arith, inv.upto))
-
-      pub moves_last : (x : ℕ) → i ≤ k → set l k x ≡ inserted_at l₀ n k x
-      unfolding inserted_at
-      moves_last x h =
-          let e : i ≡ k = omega (arith, inv.from) in
-          ap (λ (m : List ℕ). set m k x) inv.is ∙ set_at (take i l₀) inv.free (behind i) x k (front ∙ e) ∙ rw e
-
-      pub moves_index : k < i → i < length l
-      moves_index h = omega (arith, inv.size, inv.upto)
-
-      pub moves_index_one : k < i → i - 1 < length l
-      moves_index_one h = omega (arith, inv.size, inv.upto)
-
-      pub moves_end : i ≤ k → k < length l
-      moves_end h = omega (arith, inv.size, inv.upto, inv.from)
-
-      pub moves_on : k < i → Moves k (set l i (get_or l (i - 1) 0)) (i - 1)
-      moves_on h =
-          let m : i - 1 < i = omega arith in
-          let z : suc (i - 1) ≡ i = omega arith in
-          let b : i - 1 < length l₀ = omega (arith, inv.upto) in
-          let t : take i l₀ ≡ take (i - 1) l₀ ++ (get_or l₀ (i - 1) 0 ∷ []) = ap (λ (j : ℕ). take j l₀) (sym z) ∙ take-suc l₀ (i - 1) 0 b in
-          let f : length (take (i - 1) l₀) ≡ i - 1 = length-take-le (i - 1) l₀ (omega arith) in
-          let y : get_or l (i - 1) 0 ≡ get_or l₀ (i - 1) 0 = ap (λ (r : List ℕ). get_or r (i - 1) 0) (inv.is ∙ ap (λ (r : List ℕ). r ++ (inv.free ∷ behind i)) t ∙ append_assoc (take (i - 1) l₀) (get_or l₀ (i - 1) 0 ∷ []) (inv.free ∷ behind i)) ∙ get_or_at (take (i - 1) l₀) (get_or l₀ (i - 1) 0) (inv.free ∷ behind i) 0 (i - 1) f in
-          let s : set l i (get_or l (i - 1) 0) ≡ take i l₀ ++ (get_or l₀ (i - 1) 0 ∷ behind i) = ap₂ (λ (r : List ℕ) (v : ℕ). set r i v) inv.is y ∙ set_at (take i l₀) inv.free (behind i) (get_or l₀ (i - 1) 0) i front in
-          let z₁ : i - 1 + 1 ≡ i = omega arith in
-          let n₁ : drop (i - 1) (take n l₀) ≡ get_or l₀ (i - 1) 0 ∷ drop i (take n l₀) = next_is l₀ n (i - 1) (omega (arith, inv.upto)) (omega arith) ∙ ap (λ (j : ℕ). get_or l₀ (i - 1) 0 ∷ drop j (take n l₀)) z₁ in
-          record {
-            from = omega arith;
-            upto = omega (arith, inv.upto);
-            size = length-set l i (get_or l (i - 1) 0) ∙ inv.size;
-            free = get_or l₀ (i - 1) 0;
-            is = s ∙ ap (λ (r : List ℕ). r ++ (get_or l₀ (i - 1) 0 ∷ behind i)) t ∙ append_assoc (take (i - 1) l₀) (get_or l₀ (i - 1) 0 ∷ []) (get_or l₀ (i - 1) 0 ∷ behind i) ∙ ap (λ (r : List ℕ). take (i - 1) l₀ ++ (get_or l₀ (i - 1) 0 ∷ (r ++ drop (n + 1) l₀))) (sym n₁);
-          }
-
-pub ruleset moves = (rules, moves_last, moves_index, moves_index_one, moves_end, moves_on)
+pub inserted_by : (l ys : List ℕ) (n k x : ℕ) → k ≤ n → n < length l
+    → ys ≡ drop (length (take (n + 1 - k) (drop k (set l n x))) - 1) (take (n + 1 - k) (drop k (set l n x))) ++ take (length (take (n + 1 - k) (drop k (set l n x))) - 1) (take (n + 1 - k) (drop k (set l n x)))
+    → put_mid k (n + 1 - k) (set l n x) ys ≡ inserted_at l n k x
+unfolding inserted_at
+inserted_by l ys n k x h g y =
+    let f : length (take n l) ≡ n = length-take-le n l (omega arith) in
+    let p : l ≡ take n l ++ (get_or l n 0 ∷ drop (n + 1) l) = sym (take-append-drop n l) ∙ ap (λ (r : List ℕ). take n l ++ r) (drop-cons l n 0 g ∙ rw (add-one n)) in
+    let u : set l n x ≡ take n l ++ (x ∷ drop (n + 1) l) = ap (λ (r : List ℕ). set r n x) p ∙ set_at (take n l) (get_or l n 0) (drop (n + 1) l) x n f in
+    let t : take n l ≡ take k l ++ drop k (take n l) = sym (take-append-drop k (take n l)) ∙ ap (λ (r : List ℕ). r ++ drop k (take n l)) (take-take k n l h) in
+    let m : set l n x ≡ take k l ++ (drop k (take n l) ++ (x ∷ drop (n + 1) l)) = u ∙ ap (λ (r : List ℕ). r ++ (x ∷ drop (n + 1) l)) t ∙ append_assoc (take k l) (drop k (take n l)) (x ∷ drop (n + 1) l) in
+    rotated (take k l) (drop k (take n l)) (drop (n + 1) l) x k (n + 1 - k) (length-take-le k l (omega arith)) (omega (arith, length-drop k (take n l), f)) ys (set l n x) m y
 
 -- ---- one more, where it is new
 
@@ -193,23 +152,17 @@ module _ (f : ℕ → Isolationʳ) (i : ℕ) where
     long : length (take n l) ≡ n
     long = length-take-le n l w.known.long
 
-    pub add_there : s ≡ 0 → Found (inserted_in f i (take n l)) (n + 1) l l n
+    add_there : s ≡ 0 → Found (inserted_in f i (take n l)) (n + 1) l l n
     add_there h = record { are = sym (there_is (take n l) 0 (sym e ∙ h)); count = omega arith; known = w.known; size = refl }
 
     module _ (h : s ≡ 0 → ⊥) where
       at_spot : Goes (take n l) 0 s
       at_spot = goes (take n l) 0 s (sym e) h
 
-      pub add_place : s - 1 ≤ n
+      add_place : s - 1 ≤ n
       add_place = omega (arith, at_spot.upto, long)
 
-      pub add_room : n < length l
-      add_room = omega (arith, w.few, w.room)
-
-      pub add_more : n + 1 < 2 ^ 64
-      add_more = omega (arith, w.few)
-
-      pub add_put : (l' : List ℕ) (x : ℕ) → l' ≡ inserted_at l n (s - 1) x → x ≡ i → length l' ≡ length l → Found (inserted_in f i (take n l)) (n + 1) l l' (n + 1)
+      add_put : (l' : List ℕ) (x : ℕ) → l' ≡ inserted_at l n (s - 1) x → x ≡ i → length l' ≡ length l → Found (inserted_in f i (take n l)) (n + 1) l l' (n + 1)
       unfolding inserted_at
       add_put l' x p q m =
           let z : s - 1 - 0 ≡ s - 1 = omega arith in
@@ -223,7 +176,7 @@ module _ (f : ℕ → Isolationʳ) (i : ℕ) where
           record {
             are = t;
             count = omega arith;
-            known = record { few = omega (arith, w.few); long = omega (arith, m, add_room); numbers = rw t (all_in is_number (take n l) w.known.numbers (lt-ltb i 32 w.number)) };
+            known = record { few = omega (arith, w.few); long = omega (arith, m, w.few, w.room); numbers = rw t (all_in is_number (take n l) w.known.numbers (lt-ltb i 32 w.number)) };
             size = m;
           }
         where
@@ -234,4 +187,28 @@ module _ (f : ℕ → Isolationʳ) (i : ℕ) where
               let d = length-drop (s - 1) (take n l) in
               ap length u ∙ omega (arith, y, v, d, long, add_place)
 
-pub ruleset adds = (rules, add_there, add_place, add_room, add_more, add_put)
+  module _ (l : List ℕ) (n : ℕ) (w : Adds l n i) where
+    pub add_room : n < length l
+    add_room = omega (arith, w.few, w.room)
+
+    pub add_more : n + 1 < 2 ^ 64
+    add_more = omega (arith, w.few)
+
+    module _ (r : Option ℕ) (e : place_number r ≡ spot_in f i (take n l) 0) where
+      pub spot_none : r ≡ None → Found (inserted_in f i (take n l)) (n + 1) l l n
+      spot_none h = add_there l n w 0 (rw h at e) refl
+
+      module _ (k : ℕ) (h : r ≡ Some k) where
+        spot_is : k + 1 ≡ spot_in f i (take n l) 0
+        spot_is = rw h at e
+
+        less_one : k + 1 - 1 ≡ k
+        less_one = omega arith
+
+        pub spot_place : k ≤ n
+        spot_place = omega (arith, add_place l n w (k + 1) spot_is (λ z. omega arith))
+
+        pub spot_put : (l' : List ℕ) (x : ℕ) → l' ≡ inserted_at l n k x → x ≡ i → length l' ≡ length l → Found (inserted_in f i (take n l)) (n + 1) l l' (n + 1)
+        spot_put l' x p q m = add_put l n w (k + 1) spot_is (λ z. omega arith) l' x (rw less_one p) q m
+
+pub ruleset adds = (rules, add_room, add_more, spot_none, spot_place, spot_put)

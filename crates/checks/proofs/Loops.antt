@@ -1,4 +1,6 @@
 -- The checks of a domain, gathered from the last port on, and written: laws as the needs ask them. Assumes nothing.
+use Rattle.store.specs.declared.state.Few.{Few}
+use Rattle.store.specs.declared.state.Isolation.{Isolation}
 use Prim.Native.Nat.{ℕ, suc, ◌+◌, ◌-◌, ◌≤◌, ◌<◌, ◌^◌}
 use native.Mathlib.Omega.{arith}
 use native.Mathlib.Numerals.{add-one}
@@ -12,7 +14,7 @@ use Rattle.text.specs.Ascii.{Bytes, ascii}
 use Rattle.text.specs.Scan.{any, all}
 use Rattle.text.specs.Sames.{same_refl}
 use Rattle.out.specs.Bytewise.{dotted}
-use Rattle.out.specs.Emit.{Out, emit, emit_append}
+use Rattle.out.specs.Emit.{Out, ◌▸◌, emit, emit_append}
 use Rattle.out.specs.Fill.{fill}
 use Rattle.out.specs.Items.{each}
 use Rattle.names.specs.Name.{name_of}
@@ -24,7 +26,6 @@ use Rattle.store.specs.Strings.{string}
 use Rattle.store.specs.View.{isolation_of}
 use Rattle.store.specs.Order.{Sized}
 use Rattle.store.specs.declared.stored.Stored.{Stored}
-use Rattle.store.specs.declared.state.Isolations.{Isolations}
 use Rattle.texts.specs.Isolation.{active_of}
 use Rattle.format.specs.Args.{arg_of, name_arg}
 use Rattle.format.specs.Laws.{name_arg_lem}
@@ -38,7 +39,7 @@ use Rattle.checks.proofs.Inserts.{number_at}
 
 -- ---- gathered: those of the ports from row k on are sorted; strategy s would add nothing
 
-abbrev own_of : Bytes → Isolations → Stored → List ℕ → List ℕ
+abbrev own_of : Bytes → Few Isolation → Stored → List ℕ → List ℕ
 own_of mem t domain l = sorted_in (strategy_at mem t) (those (is_own_number mem t domain) l)
 
 -- a strategy that is put in again
@@ -57,7 +58,7 @@ put_again f i (j ∷ l) = go (are_same (f i) (f j)) refl (is_earlier (f i) (f j)
     go false e true d r = rw (same_self (f i))
     go false e false d r = rw (e, d) (ap (λ (m : List ℕ). j ∷ m) r)
 
-twice : (mem : Bytes) (t : Isolations) (domain : Stored) (i : ℕ) (l : List ℕ) → own_of mem t domain (i ∷ i ∷ l) ≡ own_of mem t domain (i ∷ l)
+twice : (mem : Bytes) (t : Few Isolation) (domain : Stored) (i : ℕ) (l : List ℕ) → own_of mem t domain (i ∷ i ∷ l) ≡ own_of mem t domain (i ∷ l)
 unfolding those sorted_in
 twice mem t domain i l = go (is_own_number mem t domain i)
   where
@@ -65,12 +66,12 @@ twice mem t domain i l = go (is_own_number mem t domain i)
     go true = put_again (strategy_at mem t) i (sorted_in (strategy_at mem t) (those (is_own_number mem t domain) l))
     go false = refl
 
-pub record Gathers (mem : Bytes) (t : Isolations) (domain : Stored) (ports : List ℕ) (n : ℕ) (found₀ found : List ℕ) (m k s : ℕ) : Type 0 where
+pub record Gathers (mem : Bytes) (t : Few Isolation) (domain : Stored) (ports : List ℕ) (n : ℕ) (found₀ found : List ℕ) (m k s : ℕ) : Type 0 where
   pub before : k ≤ n
   pub settled : s < 32 → own_of mem t domain (s ∷ numbers_from ports k (n - k)) ≡ own_of mem t domain (numbers_from ports k (n - k))
   pub so_far : Found (sorted_in (strategy_at mem t) (those (is_own_number mem t domain) (numbers_from ports k (n - k)))) (n - k) found₀ found m
 
-module _ (mem : Bytes) (t : Isolations) (domain : Stored) (ports : List ℕ) (n : ℕ) (found₀ : List ℕ) where
+module _ (mem : Bytes) (t : Few Isolation) (domain : Stored) (ports : List ℕ) (n : ℕ) (found₀ : List ℕ) where
   pub gather_start : Gathers mem t domain ports n found₀ found₀ 0 n 32
   unfolding numbers_from those sorted_in all
   gather_start =
@@ -169,14 +170,18 @@ module _ (mem : Bytes) (t : Isolations) (domain : Stored) (ports : List ℕ) (n 
               so_far = rw y (record { are = inv.so_far.are; count = omega (arith, inv.so_far.count); known = inv.so_far.known; size = inv.so_far.size });
             }
 
-pub sorts_sized : (mem : Bytes) (t : Isolations) (ports : List ℕ) (n : ℕ) (found : List ℕ) → Sorts mem t ports n found → Sized 32 t.n t.all
+pub sorts_sized : (mem : Bytes) (t : Few Isolation) (ports : List ℕ) (n : ℕ) (found : List ℕ) → Sorts mem t ports n found → Sized 32 t.n t.all
 sorts_sized mem t ports n found w = w.sized
 
 pub ruleset gathers = (rules, sorts_sized, gather_end, gather_row, gather_number, gather_adds, gather_other, gather_one, gather_skip)
 
 -- ---- written
 
-pub check_written : (job mem : Bytes) (scope : List Bytes) (top : Bytes) (t : Isolations) (i : ℕ) (domain : Name) (a b c d : Arg) (o w : Out)
+-- what was written into the text stands in the buffer
+pub over_written : (out out' : Bytes) (at o : ℕ) (z₀ z₁ : Out) (t : Bytes) → z₁ ≡ emit z₀ t → z₀ ≡ out ▸ at → out' ▸ o ≡ z₁ → out' ▸ o ≡ emit (out ▸ at) t
+over_written out out' at o z₀ z₁ t e f g = g ∙ rw (← f) e
+
+pub check_written : (job mem : Bytes) (scope : List Bytes) (top : Bytes) (t : Few Isolation) (i : ℕ) (domain : Name) (a b c d : Arg) (o w : Out)
     → w ≡ emit o (fill (ascii "      if ({0} !== {1}) $display(\"[UPF] Warning: Time: %0t, Isolation control '{0}' (%b) is not enabled when power domain '{2}' is switched OFF (strategy {3})\", $time, {0});\n") (arg_of job mem scope top a) (arg_of job mem scope top b) (arg_of job mem scope top c) (arg_of job mem scope top d) [])
     → a ≡ signal_arg t i → b ≡ active_arg mem t i → c ≡ name_arg domain → d ≡ strategy_arg t i → w ≡ emit o (check_text scope (strategy_at mem t) (name_of mem domain) i)
 check_written job mem scope top t i domain a b c d o w e ea eb ec ed =

@@ -1,4 +1,6 @@
 -- Two strategies: the same check, or one before the other. Laws as the needs ask them. Assumes nothing.
+use Rattle.store.specs.declared.state.Few.{Few}
+use Rattle.store.specs.declared.state.Isolation.{Isolation}
 use Prim.Native.Nat.{ℕ}
 use native.Mathlib.Omega.{arith}
 use mathlib.Core.Path.{◌≡◌, refl, sym, ap₂, ◌∙◌}
@@ -12,7 +14,6 @@ use Rattle.out.specs.Bytewise.{dotted}
 use Rattle.names.specs.Name.{name_of}
 use Rattle.names.specs.declared.name.Name.{Name}
 use Rattle.store.specs.View.{isolation_of}
-use Rattle.store.specs.declared.state.Isolations.{Isolations}
 use Rattle.texts.specs.Isolation.{lowered}
 use Rattle.clamps.specs.Values.{stored_name, active_number}
 use Rattle.clamps.specs.Laws.{stored_is}
@@ -20,7 +21,7 @@ use Rattle.alike.specs.Strategies.{isolation_at, strategy_at, signal_name, signa
 use Rattle.alike.specs.Shown.{signal_read}
 use Rattle.checks.specs.Sorted.{are_same, is_earlier}
 
-module _ (mem : Bytes) (t : Isolations) where
+module _ (mem : Bytes) (t : Few Isolation) where
   name_text : (k : ℕ) (x : Name) → x ≡ stored_name (isolation_at t k).name → name_of mem x ≡ (strategy_at mem t k).name
   unfolding isolation_of
   name_text k x e = rw e (stored_is mem (isolation_at t k).name)

@@ -1,4 +1,5 @@
 -- Whether a strategy is of a domain: laws as the needs ask them. Assumes nothing.
+use Rattle.store.specs.declared.state.Few.{Few}
 use Prim.Native.Nat.{ℕ, ◌+◌, ◌≤◌, ◌<◌}
 use native.Mathlib.Omega.{arith}
 use native.Mathlib.Numerals.{add-one}
@@ -17,7 +18,6 @@ use Rattle.store.specs.Order.{Sized}
 use Rattle.store.specs.Strings.{string, span_of}
 use Rattle.store.specs.declared.stored.Stored.{Stored}
 use Rattle.store.specs.declared.state.Isolation.{Isolation}
-use Rattle.store.specs.declared.state.Isolations.{Isolations}
 use Rattle.checks.specs.Sorted.{is_own}
 
 -- ---- one strategy
@@ -46,10 +46,10 @@ pub ruleset owns = (rules, not_own, own_by)
 
 -- ---- one of a table: none of the first k is it
 
-pub record Seeks (mem : Bytes) (t : Isolations) (name domain : Stored) (k : ℕ) : Type 0 where
+pub record Seeks (mem : Bytes) (t : Few Isolation) (name domain : Stored) (k : ℕ) : Type 0 where
   pub left : any (is_own mem (string mem name) (string mem domain)) (take t.n t.all) ≡ any (is_own mem (string mem name) (string mem domain)) (drop k (take t.n t.all))
 
-module _ (mem : Bytes) (t : Isolations) (name domain : Stored) (s : Sized 32 t.n t.all) where
+module _ (mem : Bytes) (t : Few Isolation) (name domain : Stored) (s : Sized 32 t.n t.all) where
   long : t.n ≤ length t.all
   long = omega (arith, s.long, s.count)
 

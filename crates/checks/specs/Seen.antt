@@ -1,4 +1,5 @@
 -- Laws: the strategies found are the checks that the definitions have. Assumes nothing.
+use Rattle.store.specs.declared.state.Few.{Few}
 use Rattle.std.specs.Prelude.{ℕ, ◌+◌, ◌≡◌, Bool, cond, ◌&&◌, take}
 use Rattle.std.proofs.Math.Path.{refl, ap}
 use Rattle.std.proofs.Common.{sym, ◌∙◌}
@@ -16,7 +17,6 @@ use Rattle.store.specs.Strings.{string}
 use Rattle.store.specs.View.{isolation_of}
 use Rattle.store.specs.declared.stored.Stored.{Stored}
 use Rattle.store.specs.declared.state.Isolation.{Isolation}
-use Rattle.store.specs.declared.state.Isolations.{Isolations}
 use Rattle.texts.specs.Setting.{Setting}
 use Rattle.texts.specs.Isolation.{Isolated, active_of}
 use Rattle.texts.specs.Domains.{Check, earlier, is_same, sorted_in_lem, sorted, check_of, belongs, checks, check_line}
@@ -67,7 +67,7 @@ unfolding any is_own isolation_of
 own_any mem name domain [] = refl
 own_any mem name domain (x ∷ l) = rw (own_any mem name domain l)
 
-module _ (mem : Bytes) (t : Isolations) (s : Setting) (domain : Stored) (d : Domainʳ) (named : d.name ≡ string mem domain) (are : s.records.isolations ≡ map (isolation_of mem) (take t.n t.all)) where
+module _ (mem : Bytes) (t : Few Isolation) (s : Setting) (domain : Stored) (d : Domainʳ) (named : d.name ≡ string mem domain) (are : s.records.isolations ≡ map (isolation_of mem) (take t.n t.all)) where
   abbrev f : ℕ → Isolationʳ
   f = strategy_at mem t
 

@@ -1,5 +1,6 @@
 -- The checks of a domain as strategies by their numbers, sorted as a set. f has the strategies by their numbers. Assumes nothing.
-use Rattle.std.specs.Prelude.{ℕ, ◌+◌, ◌≤◌, ◌<◌, ◌≡◌, Bool, true, cond, ◌&&◌, List, [], ◌∷◌, ◌++◌, ltb, length, take, drop}
+use Rattle.store.specs.declared.state.Few.{Few}
+use Rattle.std.specs.Prelude.{Option, None, Some, ℕ, ◌+◌, ◌≤◌, ◌<◌, ◌≡◌, Bool, true, cond, ◌&&◌, List, [], ◌∷◌, ◌++◌, ltb, length, take, drop}
 use Rattle.text.specs.Ascii.{Bytes}
 use Rattle.text.specs.Compare.{same, less}
 use Rattle.text.specs.Scan.{any, all}
@@ -12,7 +13,6 @@ use Rattle.store.specs.Strings.{string}
 use Rattle.store.specs.Order.{Sized}
 use Rattle.store.specs.declared.stored.Stored.{Stored}
 use Rattle.store.specs.declared.state.Isolation.{Isolation}
-use Rattle.store.specs.declared.state.Isolations.{Isolations}
 use Rattle.texts.specs.Isolation.{active_of}
 use Rattle.alike.specs.Strategies.{strategy_at, signal_of, are_alike}
 use Rattle.alike.specs.Numbers.{numbers_in}
@@ -32,10 +32,15 @@ is_earlier a b =
 unfoldable pub is_own : Bytes → Bytes → Bytes → Isolation → Bool
 is_own mem name domain x = same (string mem x.name) name && same (string mem x.domain) domain
 
-abbrev pub is_own_number : Bytes → Isolations → Stored → ℕ → Bool
+abbrev pub is_own_number : Bytes → Few Isolation → Stored → ℕ → Bool
 is_own_number mem t domain i = any (is_own mem (strategy_at mem t i).name (string mem domain)) (take t.n t.all)
 
 -- ---- sorted as a set
+
+-- a place as a number: one more than it, 0 where there is none
+abbrev pub place_number : Option ℕ → ℕ
+place_number None = 0
+place_number (Some k) = k + 1
 
 -- where strategy i goes behind k others: one more than the place, 0 where its check is there
 unfoldable pub spot_in : (ℕ → Isolationʳ) → ℕ → List ℕ → ℕ → ℕ
@@ -51,7 +56,7 @@ sorted_in f [] = []
 sorted_in f (i ∷ is) = inserted_in f i (sorted_in f is)
 
 -- the strategies of a domain among those of n ports
-abbrev pub own_in : Bytes → Isolations → Stored → List ℕ → ℕ → List ℕ
+abbrev pub own_in : Bytes → Few Isolation → Stored → List ℕ → ℕ → List ℕ
 own_in mem t domain ports n = sorted_in (strategy_at mem t) (those (is_own_number mem t domain) (numbers_in ports n))
 
 -- ---- numbers in a table
@@ -76,7 +81,7 @@ pub record Adds (found : List ℕ) (n i : ℕ) : Type 0 where
   pub few : n < 256
   pub room : 256 ≤ length found
 
-pub record Sorts (mem : Bytes) (t : Isolations) (ports : List ℕ) (n : ℕ) (found : List ℕ) : Type 0 where
+pub record Sorts (mem : Bytes) (t : Few Isolation) (ports : List ℕ) (n : ℕ) (found : List ℕ) : Type 0 where
   pub ruled : Ruled mem t ports n
   pub sized : Sized 32 t.n t.all
   pub room : 256 ≤ length found

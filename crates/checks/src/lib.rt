@@ -3,14 +3,14 @@
 
 ghost use Rattle.std.specs.Prelude.{◌+◌, ◌≤◌, ◌<◌, ◌≡◌, ◌++◌, length, take};
 ghost use Rattle.text.specs.Scan.{any};
-ghost use Rattle.out.specs.Emit.{◌▸◌, emit};
+ghost use Rattle.out.specs.Text.{Writes};
 ghost use Rattle.out.specs.Items.{each};
 ghost use Rattle.names.specs.Name.{name_of};
 ghost use Rattle.scope.specs.Parts.{parts};
 ghost use Rattle.store.specs.Strings.{string};
 ghost use Rattle.store.specs.Order.{Sized};
 ghost use Rattle.alike.specs.Strategies.{strategy_at};
-ghost use Rattle.checks.specs.Sorted.{are_same, is_earlier, is_own, spot_in, inserted_at, inserted_in, Known, Adds, Found, Sorts, own_in, check_text};
+ghost use Rattle.checks.specs.Sorted.{are_same, is_earlier, is_own, place_number, spot_in, inserted_at, inserted_in, Known, Adds, Found, Sorts, own_in, check_text};
 ghost use Rattle.checks.specs.Soles.{SoleSeen};
 
 use alike::{active_of, alike, less_dotted, named, same_dotted, signal_of};
@@ -19,10 +19,11 @@ use format::fill::fill4;
 use isolated::strategy_at;
 use names::compare::{less, same_names};
 use names::name::Name;
+use out::emit::Text;
 use portargs::{active_arg, signal_arg, strategy_arg};
 use spans::span::same_spans;
-use store::state::{Isolation, Isolations};
-use store::stored::{Stored, empty, span};
+use store::state::{Few, Isolation};
+use store::stored::{Stored, span};
 use text::part::place;
 
 // The strategies of a domain: none, one by its name, or more.
@@ -34,7 +35,8 @@ enum Sole {
 }
 
 // Whether two strategies make the same check.
-fn is_same<'a>(files: &'a [u8], area: &'a [u8], t: Isolations, i: usize, j: usize) -> bool
+#[tactic(auto, using(crate::proofs::Orders::sames))]
+fn is_same<'a>(files: &'a [u8], area: &'a [u8], t: Few<Isolation>, i: usize, j: usize) -> bool
     requires { (i < 32) × (j < 32) }
     ensures { result ≡ are_same (strategy_at (files.now ++ area.now) t i) (strategy_at (files.now ++ area.now) t j) }
 {
@@ -45,7 +47,8 @@ fn is_same<'a>(files: &'a [u8], area: &'a [u8], t: Isolations, i: usize, j: usiz
 }
 
 // Whether the check of a strategy is before that of another.
-fn is_earlier<'a>(files: &'a [u8], area: &'a [u8], t: Isolations, i: usize, j: usize) -> bool
+#[tactic(auto, using(crate::proofs::Orders::earlies))]
+fn is_earlier<'a>(files: &'a [u8], area: &'a [u8], t: Few<Isolation>, i: usize, j: usize) -> bool
     requires { (i < 32) × (j < 32) }
     ensures { result ≡ is_earlier (strategy_at (files.now ++ area.now) t i) (strategy_at (files.now ++ area.now) t j) }
 {
@@ -63,6 +66,7 @@ fn is_earlier<'a>(files: &'a [u8], area: &'a [u8], t: Isolations, i: usize, j: u
 }
 
 // Whether a strategy has a name and is of a domain.
+#[tactic(auto, using(crate::proofs::Owns::owns))]
 fn is_own<'a>(files: &'a [u8], area: &'a [u8], x: Isolation, name: Stored, domain: Stored) -> bool
     ensures { result ≡ is_own (files.now ++ area.now) (string (files.now ++ area.now) name) (string (files.now ++ area.now) domain) x }
 {
@@ -75,74 +79,75 @@ fn is_own<'a>(files: &'a [u8], area: &'a [u8], x: Isolation, name: Stored, domai
 }
 
 // Whether a strategy of a name is of a domain.
-fn has_own<'a>(files: &'a [u8], area: &'a [u8], t: Isolations, name: Stored, domain: Stored) -> bool
+#[tactic(auto, using(crate::proofs::Owns::seeks))]
+fn has_own<'a>(
+    files: &'a [u8],
+    area: &'a [u8],
+    t: Few<Isolation>,
+    name: Stored,
+    domain: Stored,
+) -> bool
     requires { Sized 32 t.n t.all }
     ensures { result ≡ any (is_own (files.now ++ area.now) (string (files.now ++ area.now) name) (string (files.now ++ area.now) domain)) (take t.n t.all) }
 {
     let m = t.n;
-    let mut j = 0;
-    while j < m {
+    for j in 0..m {
         let x = t.all[j];
         if is_own(files, area, x, name, domain) {
             return true;
         }
-        j += 1;
     }
     false
 }
 
 // Which strategies are of a domain.
-fn sole_of<'a>(files: &'a [u8], area: &'a [u8], t: Isolations, domain: Stored) -> Sole
+#[tactic(auto, using(crate::proofs::Soles::passes))]
+fn sole_of<'a>(files: &'a [u8], area: &'a [u8], t: Few<Isolation>, domain: Stored) -> Sole
     requires { Sized 32 t.n t.all }
     ensures { SoleSeen (files.now ++ area.now) t domain result }
 {
     let m = t.n;
-    let mut found = false;
-    let mut name = empty();
-    let mut j = 0;
-    while j < m {
+    let mut one = None;
+    for j in 0..m {
         let x = t.all[j];
         let d = x.domain;
-        j += 1;
         if !same_spans(files, area, span(d), span(domain)) {
             continue;
         }
-        if found {
-            return Sole::More;
+        match one {
+            None => one = Some(x.name),
+            Some(_) => return Sole::More,
         }
-        found = true;
-        name = x.name;
     }
-    if found {
-        return Sole::One(name);
+    match one {
+        None => Sole::None,
+        Some(name) => Sole::One(name),
     }
-    Sole::None
 }
 
-// Where the check of a strategy goes among the first n: one more than the place, 0 where it is there.
+// Where the check of a strategy goes among the first n; nowhere where it is there.
+#[tactic(auto, using(crate::proofs::Inserts::spots))]
 fn spot<'a>(
     files: &'a [u8],
     area: &'a [u8],
-    t: Isolations,
+    t: Few<Isolation>,
     found: &[u32],
     n: usize,
     i: usize,
-) -> usize
+) -> Option<usize>
     requires { (i < 32) × Known found.now n }
-    ensures { result ≡ spot_in (strategy_at (files.now ++ area.now) t) i (take n found.now) 0 }
+    ensures { place_number result ≡ spot_in (strategy_at (files.now ++ area.now) t) i (take n found.now) 0 }
 {
-    let mut k = 0;
-    while k < n {
+    for k in 0..n {
         let j = place(found, k);
         if is_same(files, area, t, i, j) {
-            return 0;
+            return None;
         }
         if is_earlier(files, area, t, i, j) {
-            return k + 1;
+            return Some(k);
         }
-        k += 1;
     }
-    n + 1
+    Some(n)
 }
 
 // Puts a number at place k of the first n, those from there on behind it.
@@ -150,19 +155,16 @@ fn insert(found: &mut [u32], n: usize, k: usize, x: u32)
     requires { (k ≤ n) × (n < length found.old) }
     ensures { found.new ≡ inserted_at found.old n k x }
 {
-    let mut i = n;
-    while k < i {
-        found[i] = found[i - 1];
-        i -= 1;
-    }
-    found[k] = x;
+    found[n] = x;
+    found[k..n + 1].rotate_right(1);
 }
 
 // A strategy more among the first n, where its check is new.
+#[tactic(auto, using(crate::proofs::Inserts::adds))]
 fn add<'a>(
     files: &'a [u8],
     area: &'a [u8],
-    t: Isolations,
+    t: Few<Isolation>,
     found: &mut [u32],
     n: usize,
     i: usize,
@@ -170,20 +172,20 @@ fn add<'a>(
     requires { Adds found.old n i }
     ensures { Found (inserted_in (strategy_at (files.now ++ area.now) t) i (take n found.old)) (n + 1) found.old found.new result }
 {
-    let s = spot(files, area, t, found, n, i);
-    if s == 0 {
+    let Some(k) = spot(files, area, t, found, n, i) else {
         return n;
-    }
-    insert(found, n, s - 1, i as u32);
+    };
+    insert(found, n, k, i as u32);
     n + 1
 }
 
 // The strategies whose checks a domain has, sorted, from the n ports: how many they are. `s` is the strategy that was looked at last: ports of one stand
 // together.
+#[tactic(auto, using(crate::proofs::Loops::gathers))]
 pub fn checks<'a>(
     files: &'a [u8],
     area: &'a [u8],
-    t: Isolations,
+    t: Few<Isolation>,
     ports: &[u32],
     n: usize,
     domain: Stored,
@@ -196,6 +198,7 @@ pub fn checks<'a>(
     let mut m = 0;
     let mut k = n;
     let mut s = 32;
+    // Counted by hand: the ports go from the last to the first, and a count upwards would only turn each place round.
     while 0 < k {
         k -= 1;
         let i = strategy_at(ports, k);
@@ -224,29 +227,28 @@ pub fn checks<'a>(
 }
 
 // Writes the check of a strategy.
+#[tactic(auto, using(crate::proofs::Loops::lines))]
 fn put_check(
-    out: &mut [u8],
-    at: usize,
+    to: &mut Text,
     job: &[u8],
     files: &[u8],
     area: &[u8],
     over: &[u8],
     from: usize,
     top: &[u8],
-    t: Isolations,
+    t: Few<Isolation>,
     i: usize,
     domain: Name,
-) -> usize
+)
     requires { i < 32 }
-    ensures { out.new ▸ result ≡ emit (out.old ▸ at) (check_text (parts over.now from) (strategy_at (files.now ++ area.now) t) (name_of (files.now ++ area.now) domain) i) }
+    ensures { Writes to.old (check_text (parts over.now from) (strategy_at (files.now ++ area.now) t) (name_of (files.now ++ area.now) domain) i) to.new }
 {
     let a = signal_arg(t, i);
     let b = active_arg(files, area, t, i);
     let c = name_arg(domain);
     let d = strategy_arg(t, i);
     fill4(
-        out,
-        at,
+        to,
         b"      if ({0} !== {1}) $display(\"[UPF] Warning: Time: %0t, Isolation control '{0}' (%b) is not enabled when power domain '{2}' is switched OFF (strategy {3})\", $time, {0});\n",
         job,
         files,
@@ -262,29 +264,25 @@ fn put_check(
 }
 
 // Writes the checks of the first n strategies found.
+#[tactic(auto, using(crate::proofs::Loops::writes))]
 pub fn put_checks(
-    out: &mut [u8],
-    at: usize,
+    to: &mut Text,
     job: &[u8],
     files: &[u8],
     area: &[u8],
     over: &[u8],
     from: usize,
     top: &[u8],
-    t: Isolations,
+    t: Few<Isolation>,
     found: &[u32],
     n: usize,
     domain: Name,
-) -> usize
+)
     requires { Known found.now n }
-    ensures { out.new ▸ result ≡ emit (out.old ▸ at) (each (check_text (parts over.now from) (strategy_at (files.now ++ area.now) t) (name_of (files.now ++ area.now) domain)) (take n found.now)) }
+    ensures { Writes to.old (each (check_text (parts over.now from) (strategy_at (files.now ++ area.now) t) (name_of (files.now ++ area.now) domain)) (take n found.now)) to.new }
 {
-    let mut o = at;
-    let mut k = 0;
-    while k < n {
+    for k in 0..n {
         let i = place(found, k);
-        o = put_check(out, o, job, files, area, over, from, top, t, i, domain);
-        k += 1;
+        put_check(to, job, files, area, over, from, top, t, i, domain);
     }
-    o
 }

@@ -1,4 +1,5 @@
 -- Loops over what is left of a string or a name, in lower case. Each law is stated as a loop's needs ask it. Assumes nothing.
+use Rattle.std.specs.Prelude.{Option, Some, None}
 use Prim.Native.Nat.{ℕ, ◌+◌, ◌-◌, ◌≤◌, ◌<◌, ◌^◌}
 use native.Mathlib.Omega.{arith}
 use mathlib.Core.Path.{◌≡◌, sym, ◌∙◌}
@@ -14,18 +15,12 @@ use Rattle.text.specs.Sames.{both}
 use Rattle.out.specs.Emit.{Out, emit, emit1}
 use Rattle.names.specs.Name.{named, name_of, step_of}
 use Rattle.names.specs.declared.name.Name.{Name}
-use Rattle.names.specs.declared.name.Step.{Step}
-use Rattle.names.specs.declared.name.Step.TheVariants.{Byte, End}
 use Rattle.names.specs.Laws.{shorter}
 use Rattle.model.specs.Commands.{or_else}
 use Rattle.store.specs.Strings.{string, maybe_of, span_of}
 use Rattle.store.specs.declared.stored.Stored.{Stored}
-use Rattle.store.specs.declared.stored.Maybe.{Maybe}
-use Rattle.store.specs.declared.stored.Maybe.TheVariants.{Not, Given}
 use Rattle.spans.specs.Span.{◌⋯◌, bytes, got_of}
 use Rattle.spans.specs.declared.span.Span.{Span}
-use Rattle.spans.specs.declared.span.Got.{Got}
-use Rattle.spans.specs.declared.span.Got.TheVariants.{Yes, No}
 use Rattle.texts.specs.Isolation.{lower, lowered, is_outputs}
 use Rattle.clamps.specs.Values.{stored_name, clamp_number, active_number}
 
@@ -51,16 +46,16 @@ pub ruleset lowers = (rules, lower_fits, lower_letter, lower_other)
 pub record Lows (mem s : Bytes) (t : Bool) (x : Span) (i : ℕ) : Type 0 where
   pub keeps : same (lowered (bytes mem x)) (drop i s) ≡ t
 
-module _ (mem s : Bytes) (t : Bool) (x : Span) (i : ℕ) (inv : Lows mem s t x i) (p : Got) (e : bytes mem x ≡ got_of mem p) where
-  pub lows_short : p ≡ No → i < length s → false ≡ t
+module _ (mem s : Bytes) (t : Bool) (x : Span) (i : ℕ) (inv : Lows mem s t x i) (p : Option (ℕ × Span)) (e : bytes mem x ≡ got_of mem p) where
+  pub lows_short : p ≡ None → i < length s → false ≡ t
   unfolding same
   lows_short h l = rw (e, h, here s i l) at inv.keeps
 
-  pub lows_end : p ≡ No → length s ≤ i → true ≡ t
+  pub lows_end : p ≡ None → length s ≤ i → true ≡ t
   unfolding same
   lows_end h l = rw (e, h, drop_of_length-le s {i = i} l) at inv.keeps
 
-  module _ (a : ℕ) (u : Span) (h : p ≡ Yes a u) where
+  module _ (a : ℕ) (u : Span) (h : p ≡ Some (a, u)) where
     pub lows_long : length s ≤ i → false ≡ t
     unfolding same
     lows_long l = rw (e, h, drop_of_length-le s {i = i} l) at inv.keeps
@@ -81,12 +76,12 @@ pub ruleset lows = (rules, lows_short, lows_end, lows_long, lows_stop, lows_next
 pub record Puts (mem : Bytes) (w o : Out) (x : Name) : Type 0 where
   pub keeps : emit o (lowered (name_of mem x)) ≡ w
 
-module _ (mem : Bytes) (w o : Out) (x : Name) (inv : Puts mem w o x) (p : Step) (e : name_of mem x ≡ step_of mem p) where
-  pub puts_end : p ≡ End → o ≡ w
+module _ (mem : Bytes) (w o : Out) (x : Name) (inv : Puts mem w o x) (p : Option (ℕ × Name)) (e : name_of mem x ≡ step_of mem p) where
+  pub puts_end : p ≡ None → o ≡ w
   unfolding emit
   puts_end h = rw (e, h) at inv.keeps
 
-  pub puts_step : (b d : ℕ) (u : Name) (o' : Out) → p ≡ Byte b u → d ≡ lower b → o' ≡ emit1 o d → Puts mem w o' u
+  pub puts_step : (b d : ℕ) (u : Name) (o' : Out) → p ≡ Some (b, u) → d ≡ lower b → o' ≡ emit1 o d → Puts mem w o' u
   unfolding emit
   puts_step b d u o' h f g = record { keeps = rw (g, f) (rw (e, h) at inv.keeps) }
 
@@ -102,25 +97,25 @@ module _ (mem : Bytes) where
   pub asked : (s : Stored) (v : Span) (w : Bytes) (b : Bool) → v ≡ span_of s → b ≡ same (lowered (bytes mem v)) w → b ≡ same (lowered (string mem s)) w
   asked s v w b e h = h ∙ rw e
 
-  pub clamp_none : (m : Maybe) → m ≡ Not → 7 ≡ clamp_number (lowered (or_else (maybe_of mem m) (ascii "0")))
+  pub clamp_none : (m : Option Stored) → m ≡ None → 7 ≡ clamp_number (lowered (or_else (maybe_of mem m) (ascii "0")))
   unfolding clamp_number same
   clamp_none m h = rw h
 
-  pub clamp_given : (m : Maybe) (s : Stored) (r : ℕ) → m ≡ Given s → r ≡ clamp_number (lowered (string mem s)) → r ≡ clamp_number (lowered (or_else (maybe_of mem m) (ascii "0")))
+  pub clamp_given : (m : Option Stored) (s : Stored) (r : ℕ) → m ≡ Some s → r ≡ clamp_number (lowered (string mem s)) → r ≡ clamp_number (lowered (or_else (maybe_of mem m) (ascii "0")))
   clamp_given m s r h e = rw h e
 
-  pub active_none : (m : Maybe) → m ≡ Not → 6 ≡ active_number (lowered (or_else (maybe_of mem m) (ascii "high")))
+  pub active_none : (m : Option Stored) → m ≡ None → 6 ≡ active_number (lowered (or_else (maybe_of mem m) (ascii "high")))
   unfolding active_number same
   active_none m h = rw h
 
-  pub active_given : (m : Maybe) (s : Stored) (r : ℕ) → m ≡ Given s → r ≡ active_number (lowered (string mem s)) → r ≡ active_number (lowered (or_else (maybe_of mem m) (ascii "high")))
+  pub active_given : (m : Option Stored) (s : Stored) (r : ℕ) → m ≡ Some s → r ≡ active_number (lowered (string mem s)) → r ≡ active_number (lowered (or_else (maybe_of mem m) (ascii "high")))
   active_given m s r h e = rw h e
 
-  pub outputs_none : (m : Maybe) → m ≡ Not → true ≡ is_outputs (or_else (maybe_of mem m) (ascii "outputs"))
+  pub outputs_none : (m : Option Stored) → m ≡ None → true ≡ is_outputs (or_else (maybe_of mem m) (ascii "outputs"))
   unfolding same
   outputs_none m h = rw h
 
-  pub outputs_given : (m : Maybe) (s : Stored) (r : Bool) → m ≡ Given s → r ≡ is_outputs (string mem s) → r ≡ is_outputs (or_else (maybe_of mem m) (ascii "outputs"))
+  pub outputs_given : (m : Option Stored) (s : Stored) (r : Bool) → m ≡ Some s → r ≡ is_outputs (string mem s) → r ≡ is_outputs (or_else (maybe_of mem m) (ascii "outputs"))
   outputs_given m s r h e = rw h e
 
   pub outputs_first : (s : Stored) (x : Span) (b : Bool) → x ≡ span_of s → b ≡ same (bytes mem x) (ascii "outputs") → b ≡ true → true ≡ is_outputs (string mem s)

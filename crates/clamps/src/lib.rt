@@ -4,7 +4,7 @@
 ghost use Rattle.std.specs.Prelude.{◌≡◌, ◌++◌};
 ghost use Rattle.text.specs.Ascii.{ascii};
 ghost use Rattle.text.specs.Compare.{same};
-ghost use Rattle.out.specs.Emit.{◌▸◌, emit};
+ghost use Rattle.out.specs.Text.{Writes};
 ghost use Rattle.spans.specs.Span.{bytes};
 ghost use Rattle.names.specs.Name.{name_of};
 ghost use Rattle.model.specs.Commands.{or_else};
@@ -12,11 +12,13 @@ ghost use Rattle.store.specs.Strings.{string, maybe_of};
 ghost use Rattle.texts.specs.Isolation.{lower as Isolation·lower, lowered, is_outputs};
 ghost use Rattle.clamps.specs.Values.{stored_name, clamp_number, active_number};
 
-use names::name::{Name, Step, alone, next};
-use spans::span::{Got, Span, first};
-use store::stored::{Maybe, Stored, span};
+use names::name::{Name, alone, next};
+use out::emit::Text;
+use spans::span::{Span, first};
+use store::stored::{Stored, span};
 
 // A stored string as a name.
+#[tactic(auto, using(crate::proofs::Streams::values))]
 pub fn stored(s: Stored) -> Name
     ensures { result ≡ stored_name s }
 {
@@ -24,6 +26,7 @@ pub fn stored(s: Stored) -> Name
 }
 
 // A byte in lower case.
+#[tactic(auto, using(crate::proofs::Streams::lowers))]
 fn lower(b: u8) -> u8
     ensures { result ≡ Isolation·lower b }
 {
@@ -34,30 +37,25 @@ fn lower(b: u8) -> u8
 }
 
 // Whether a string in lower case is w.
+#[tactic(auto, using(crate::proofs::Streams::lows))]
 fn is_lowered(files: &[u8], area: &[u8], s: Span, w: &[u8]) -> bool
     ensures { result ≡ same (lowered (bytes (files.now ++ area.now) s)) w.now }
 {
     let mut x = s;
-    let mut i = 0;
-    while i < w.len() {
-        match first(files, area, x) {
-            Got::No => return false,
-            Got::Yes(b, u) => {
-                if lower(b) != w[i] {
-                    return false;
-                }
-                x = u;
-                i += 1;
-            }
+    for c in w {
+        let Some((b, u)) = first(files, area, x) else {
+            return false;
+        };
+        if lower(b) != *c {
+            return false;
         }
+        x = u;
     }
-    match first(files, area, x) {
-        Got::No => true,
-        Got::Yes(_, _) => false,
-    }
+    first(files, area, x).is_none()
 }
 
 // The number of the literal of a clamp value that is given; 0 where it is not simulated.
+#[tactic(auto, using(crate::proofs::Streams::tolds))]
 fn given_clamp(files: &[u8], area: &[u8], s: Stored) -> u8
     ensures { result ≡ clamp_number (lowered (string (files.now ++ area.now) s)) }
 {
@@ -75,16 +73,18 @@ fn given_clamp(files: &[u8], area: &[u8], s: Stored) -> u8
 }
 
 // The number of the literal of a clamp value; 0 where it is not simulated.
-pub fn clamp(files: &[u8], area: &[u8], m: Maybe) -> u8
+#[tactic(auto, using(crate::proofs::Streams::values))]
+pub fn clamp(files: &[u8], area: &[u8], m: Option<Stored>) -> u8
     ensures { result ≡ clamp_number (lowered (or_else (maybe_of (files.now ++ area.now) m) (ascii "0"))) }
 {
     match m {
-        Maybe::Not => 7,
-        Maybe::Given(s) => given_clamp(files, area, s),
+        None => 7,
+        Some(s) => given_clamp(files, area, s),
     }
 }
 
 // The number of the literal of the value at which a strategy with a given sense isolates.
+#[tactic(auto, using(crate::proofs::Streams::tolds))]
 fn given_active(files: &[u8], area: &[u8], s: Stored) -> u8
     ensures { result ≡ active_number (lowered (string (files.now ++ area.now) s)) }
 {
@@ -95,16 +95,18 @@ fn given_active(files: &[u8], area: &[u8], s: Stored) -> u8
 }
 
 // The number of the literal of the value at which a strategy isolates.
-pub fn active(files: &[u8], area: &[u8], m: Maybe) -> u8
+#[tactic(auto, using(crate::proofs::Streams::values))]
+pub fn active(files: &[u8], area: &[u8], m: Option<Stored>) -> u8
     ensures { result ≡ active_number (lowered (or_else (maybe_of (files.now ++ area.now) m) (ascii "high"))) }
 {
     match m {
-        Maybe::Not => 6,
-        Maybe::Given(s) => given_active(files, area, s),
+        None => 6,
+        Some(s) => given_active(files, area, s),
     }
 }
 
 // Whether what is given names the outputs.
+#[tactic(auto, using(crate::proofs::Streams::values))]
 fn given_outputs<'a>(files: &'a [u8], area: &'a [u8], s: Stored) -> bool
     ensures { result ≡ is_outputs (string (files.now ++ area.now) s) }
 {
@@ -115,28 +117,24 @@ fn given_outputs<'a>(files: &'a [u8], area: &'a [u8], s: Stored) -> bool
 }
 
 // Whether a strategy without elements is about outputs.
-pub fn is_outputs<'a>(files: &'a [u8], area: &'a [u8], m: Maybe) -> bool
+#[tactic(auto, using(crate::proofs::Streams::values))]
+pub fn is_outputs<'a>(files: &'a [u8], area: &'a [u8], m: Option<Stored>) -> bool
     ensures { result ≡ is_outputs (or_else (maybe_of (files.now ++ area.now) m) (ascii "outputs")) }
 {
     match m {
-        Maybe::Not => true,
-        Maybe::Given(s) => given_outputs(files, area, s),
+        None => true,
+        Some(s) => given_outputs(files, area, s),
     }
 }
 
 // Writes a name in lower case.
-pub fn put_lowered(out: &mut [u8], at: usize, files: &[u8], area: &[u8], n: Name) -> usize
-    ensures { out.new ▸ result ≡ emit (out.old ▸ at) (lowered (name_of (files.now ++ area.now) n)) }
+#[tactic(auto, using(crate::proofs::Streams::puts))]
+pub fn put_lowered(to: &mut Text, files: &[u8], area: &[u8], n: Name)
+    ensures { Writes to.old (lowered (name_of (files.now ++ area.now) n)) to.new }
 {
-    let mut o = at;
     let mut x = n;
-    loop {
-        match next(files, area, x) {
-            Step::End => return o,
-            Step::Byte(b, u) => {
-                o = out::emit::byte(out, o, lower(b));
-                x = u;
-            }
-        }
+    while let Some((b, u)) = next(files, area, x) {
+        to.byte(lower(b));
+        x = u;
     }
 }

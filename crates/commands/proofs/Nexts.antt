@@ -1,4 +1,7 @@
 -- The next command, split and resolved: laws as the needs ask them. Assumes nothing.
+use Rattle.std.specs.Prelude.{Option, Some, None, Result, Ok, Err}
+use Rattle.substitution.specs.declared.put.Full.{Full}
+use Rattle.substitution.specs.Room.{full}
 use Prim.Native.Nat.{◌*◌, ◌+◌, ◌-◌, ◌<◌, ◌^◌, ◌≤◌, ℕ}
 use mathlib.Core.List.{List, [], ◌∷◌}
 use mathlib.Core.Bool.{Bool, ◌&&◌, cond, false, true}
@@ -9,11 +12,6 @@ use lib.Seq.{drop-drop}
 use lib.Dec.{leb}
 use borrow.Author.Rules.{rules}
 use borrow.Author.Tests.{le-leb, leb-false, leb-true, lt-leb}
-use Rattle.commands.specs.declared.split.Cut.{Cut}
-use Rattle.commands.specs.declared.split.Cut.TheVariants.{Words, None, Full}
-use Rattle.commands.specs.declared.resolve.Resolved.{Resolved}
-use Rattle.commands.specs.declared.resolve.Resolved.TheVariants.{Done, Full as Over}
-use Rattle.commands.specs.declared.next.Next.TheVariants.{Words as Read, None as Ended, Full as Refused}
 use Rattle.commands.specs.Stored.{AllAt, AllOver, Filed, NextOf, Resolves, Splits, written_words}
 use Rattle.commands.specs.Reading.{most_words, nothing, outcome, parted, parts, read, refused, result, results, too_many}
 use Rattle.tcl.specs.Substitution.{Variable, cost, costs, has_dollar, value, values}
@@ -85,7 +83,7 @@ module _ (files t : List ℕ) (base len : ℕ) (e : t ≡ take len (drop base fi
   pub text_short : (area : List ℕ) → length files + length area < 2 ^ 32 → length t < 2 ^ 32
   text_short area h = omega (arith, short)
 
-  pub text_filed : (at : ℕ) (k₀ k : List ℕ) (p : Cut) (n next : ℕ) → Splits t at k₀ k p → p ≡ Words n next → Filed files base t
+  pub text_filed : (at : ℕ) (k₀ k : List ℕ) (p : Result (Option (ℕ × ℕ)) Full) (n next : ℕ) → Splits t at k₀ k p → p ≡ Ok (Some (n, next)) → Filed files base t
   text_filed at k₀ k p n next s g =
       record {
         is = sym (rw e (front_is (take len (drop base files)) (drop base files) len refl));
@@ -113,18 +111,18 @@ module _ (files t : List ℕ) (base len : ℕ) (e : t ≡ take len (drop base fi
 
 -- ---- the answers
 
-module _ (files t : List ℕ) (vs : List Variable) (at o limit : ℕ) (k₀ k : List ℕ) (p : Cut) (s : Splits t at k₀ k p) where
-  next_none' : (l : List ℕ) → p ≡ None → NextOf files t at vs l l o limit k₀ k Ended
+module _ (files t : List ℕ) (vs : List Variable) (at o limit : ℕ) (k₀ k : List ℕ) (p : Result (Option (ℕ × ℕ)) Full) (s : Splits t at k₀ k p) where
+  next_none' : (l : List ℕ) → p ≡ Ok None → NextOf files t at vs l l o limit k₀ k (Ok None)
   unfolding outcome
   next_none' l g =
       let c : commands (drop at t) ≡ [] = parted_none (commands (drop at t)) (rw g at s.is) in
       record { is = sym (rw c); lent = record { area = refl; nums = rw g at s.back } }
 
-  next_many' : (l : List ℕ) → p ≡ Full → NextOf files t at vs l l o limit k₀ k Refused
+  next_many' : (l : List ℕ) → p ≡ Err full → NextOf files t at vs l l o limit k₀ k (Err full)
   next_many' l g =
       record { is = refused_by_lem vs o limit (commands (drop at t)) (rw g at s.is); lent = record { kept = refl; back = refl; rest = rw g at s.back } }
 
-  module _ (n next : ℕ) (g : p ≡ Words n next) where
+  module _ (n next : ℕ) (g : p ≡ Ok (Some (n, next))) where
     ws : List Word
     ws = written_words t k 0 n
 
@@ -141,8 +139,8 @@ module _ (files t : List ℕ) (vs : List Variable) (at o limit : ℕ) (k₀ k : 
     split_back : drop (2 * n) k ≡ drop (2 * n) k₀
     split_back = rw g at s.back
 
-    module _ (l₀ l k' : List ℕ) (r : Resolved) (q : Resolves files l₀ l k k' vs o limit (written_words t k 0 n) n r) where
-      next_over' : r ≡ Over → NextOf files t at vs l₀ l o limit k₀ k' Refused
+    module _ (l₀ l k' : List ℕ) (r : Result ℕ Full) (q : Resolves files l₀ l k k' vs o limit (written_words t k 0 n) n r) where
+      next_over' : r ≡ Err full → NextOf files t at vs l₀ l o limit k₀ k' (Err full)
       unfolding outcome ws
       next_over' h =
           let d : AllOver l₀ l k k' vs o limit (written_words t k 0 n) n = rw h at q in
@@ -157,7 +155,7 @@ module _ (files t : List ℕ) (vs : List Variable) (at o limit : ℕ) (k₀ k : 
             };
           }
 
-      next_read' : (e : ℕ) → r ≡ Done e → NextOf files t at vs l₀ l o limit k₀ k' (Read n next e)
+      next_read' : (e : ℕ) → r ≡ Ok e → NextOf files t at vs l₀ l o limit k₀ k' (Ok (Some (record { count = n; next = next; end = e })))
       unfolding outcome ws
       next_read' e h =
           let d : AllAt files l₀ l k k' vs o limit (written_words t k 0 n) n e = rw h at q in
@@ -172,27 +170,27 @@ module _ (files t : List ℕ) (vs : List Variable) (at o limit : ℕ) (k₀ k : 
             };
           }
 
-module _ (files : List ℕ) (base len : ℕ) (vs : List Variable) (at o limit : ℕ) (t k₀ k : List ℕ) (p : Cut) (s : Splits t at k₀ k p) (f : t ≡ take len (drop base files)) where
-  pub next_none : (l : List ℕ) → p ≡ None → NextOf files (take len (drop base files)) at vs l l o limit k₀ k Ended
+module _ (files : List ℕ) (base len : ℕ) (vs : List Variable) (at o limit : ℕ) (t k₀ k : List ℕ) (p : Result (Option (ℕ × ℕ)) Full) (s : Splits t at k₀ k p) (f : t ≡ take len (drop base files)) where
+  pub next_none : (l : List ℕ) → p ≡ Ok None → NextOf files (take len (drop base files)) at vs l l o limit k₀ k (Ok None)
   next_none l g = rw f at (next_none' files t vs at o limit k₀ k p s l g)
 
-  pub next_many : (l : List ℕ) → p ≡ Full → NextOf files (take len (drop base files)) at vs l l o limit k₀ k Refused
+  pub next_many : (l : List ℕ) → p ≡ Err full → NextOf files (take len (drop base files)) at vs l l o limit k₀ k (Err full)
   next_many l g = rw f at (next_many' files t vs at o limit k₀ k p s l g)
 
-  module _ (n next : ℕ) (g : p ≡ Words n next) (l₀ l k' : List ℕ) (r : Resolved) (q : Resolves files l₀ l k k' vs o limit (written_words t k 0 n) n r) where
-    pub next_over : r ≡ Over → NextOf files (take len (drop base files)) at vs l₀ l o limit k₀ k' Refused
+  module _ (n next : ℕ) (g : p ≡ Ok (Some (n, next))) (l₀ l k' : List ℕ) (r : Result ℕ Full) (q : Resolves files l₀ l k k' vs o limit (written_words t k 0 n) n r) where
+    pub next_over : r ≡ Err full → NextOf files (take len (drop base files)) at vs l₀ l o limit k₀ k' (Err full)
     next_over h = rw f at (next_over' files t vs at o limit k₀ k p s n next g l₀ l k' r q h)
 
-    pub next_read : (e : ℕ) → r ≡ Done e → NextOf files (take len (drop base files)) at vs l₀ l o limit k₀ k' (Read n next e)
+    pub next_read : (e : ℕ) → r ≡ Ok e → NextOf files (take len (drop base files)) at vs l₀ l o limit k₀ k' (Ok (Some (record { count = n; next = next; end = e })))
     next_read e h = rw f at (next_read' files t vs at o limit k₀ k p s n next g l₀ l k' r q e h)
 
-pub few_is : (t : List ℕ) (at : ℕ) (k₀ k : List ℕ) (p : Cut) (n next : ℕ) → Splits t at k₀ k p → p ≡ Words n next → n ≤ 128
+pub few_is : (t : List ℕ) (at : ℕ) (k₀ k : List ℕ) (p : Result (Option (ℕ × ℕ)) Full) (n next : ℕ) → Splits t at k₀ k p → p ≡ Ok (Some (n, next)) → n ≤ 128
 few_is t at k₀ k p n next s g = rw g at s.few
 
-pub nums_is : (t : List ℕ) (at : ℕ) (k₀ k : List ℕ) (p : Cut) (n next : ℕ) → Splits t at k₀ k p → p ≡ Words n next → 256 ≤ length k₀ → 2 * n ≤ length k
+pub nums_is : (t : List ℕ) (at : ℕ) (k₀ k : List ℕ) (p : Result (Option (ℕ × ℕ)) Full) (n next : ℕ) → Splits t at k₀ k p → p ≡ Ok (Some (n, next)) → 256 ≤ length k₀ → 2 * n ≤ length k
 nums_is t at k₀ k p n next s g h = let f : n ≤ 128 = rw g at s.few in omega (arith, s.long)
 
-pub inside_is : (t : List ℕ) (at : ℕ) (k₀ k : List ℕ) (p : Cut) (n next : ℕ) → Splits t at k₀ k p → p ≡ Words n next → last_end (pairs k 0 n) ≤ length t
+pub inside_is : (t : List ℕ) (at : ℕ) (k₀ k : List ℕ) (p : Result (Option (ℕ × ℕ)) Full) (n next : ℕ) → Splits t at k₀ k p → p ≡ Ok (Some (n, next)) → last_end (pairs k 0 n) ≤ length t
 inside_is t at k₀ k p n next s g = rw g at s.inside
 
 pub ruleset nexts = (rules, text_short, text_filed, few_is, nums_is, inside_is, next_none, next_many, next_over, next_read)

@@ -1,4 +1,7 @@
 -- What a word comes to, and where it lies: laws as the needs ask them. Assumes nothing.
+use Rattle.std.specs.Prelude.{Result, Ok, Err}
+use Rattle.substitution.specs.declared.put.Full.{Full}
+use Rattle.substitution.specs.Room.{full}
 use Prim.Native.Nat.{◌+◌, ◌-◌, ◌<◌, ◌≤◌, suc, ℕ}
 use mathlib.Core.Bool.{Bool, ◌&&◌, ◌||◌, cond, false, true}
 use mathlib.Core.Path.{◌∙◌, ◌≡◌, ap, refl, sym}
@@ -9,9 +12,6 @@ use lib.ListN.{get_or-eq_default, drop, get_or, length, length-drop, length-take
 use lib.Dec.{eqb, leb}
 use borrow.Author.Tests.{le-ltb, leb-false, leb-true, lt-ltb, ne_eqb}
 use borrow.Author.Rules.{rules}
-use Rattle.commands.specs.declared.resolve.Place.{Place}
-use Rattle.substitution.specs.declared.put.Put.{Put}
-use Rattle.substitution.specs.declared.put.Put.TheVariants.{Done, Full}
 use Rattle.spans.specs.declared.span.Span.{Span}
 use Rattle.commands.specs.Stored.{Filed, Placed, PlacedAt, PlacedOver, as_written, written_at}
 use Rattle.commands.specs.Reading.{result}
@@ -37,8 +37,8 @@ unfolding bytes
 at_end_lem files l o all h =
     rw (drop-append-add files (take o l ++ all) o, drop_at (take o l) all o (length-take-le o l h)) (take_all (length all) all (omega arith))
 
-module _ (files l₀ l : List ℕ) (o limit : ℕ) (all : List ℕ) (p : Put) (w : Puts l₀ l o limit all p) where
-  pub area_placed : (e : ℕ) → p ≡ Done e → limit ≤ length l₀ → PlacedAt files l₀ l o limit all all ((length files + o) ⋯ (e - o)) e
+module _ (files l₀ l : List ℕ) (o limit : ℕ) (all : List ℕ) (p : Result ℕ Full) (w : Puts l₀ l o limit all p) where
+  pub area_placed : (e : ℕ) → p ≡ Ok e → limit ≤ length l₀ → PlacedAt files l₀ l o limit all all ((length files + o) ⋯ (e - o)) e
   area_placed e g h =
       let v : Wrote l₀ l o all e = puts_wrote l₀ l o limit all p w e g in
       let m : e ≤ limit = puts_within l₀ l o limit all p w e g in
@@ -52,10 +52,10 @@ module _ (files l₀ l : List ℕ) (o limit : ℕ) (all : List ℕ) (p : Put) (w
         inside = rw (reach_held (length files) ((length files + o) ⋯ (e - o)) (stored (omega arith))) (omega (arith, v.ends));
       }
 
-  pub area_over : p ≡ Full → PlacedOver l₀ l o limit all
+  pub area_over : p ≡ Err full → PlacedOver l₀ l o limit all
   area_over g = record { over = puts_over l₀ l o limit all p w g; kept = w.kept; back = w.back }
 
-  pub area_up : (e : ℕ) → p ≡ Done e → o ≤ e
+  pub area_up : (e : ℕ) → p ≡ Ok e → o ≤ e
   area_up e g = omega (arith, puts_ends l₀ l o limit all p w e g)
 
 pub ruleset areas = (rules, area_placed, area_over, area_up)
@@ -89,7 +89,7 @@ plain_same vs (x ∷ b) h = go (eqb x (byte "$")) refl h (λ g. plain_same vs b 
     go false e g f = rw e (ap (λ (r : List ℕ). x ∷ r) (f (omega arith)))
 
 module _ (files l₀ l body : List ℕ) (vs : List Variable) (o limit e : ℕ) (d : Ends (0 + up_to (byte "$") (drop 0 body)) (length body) e) where
-  pub plain_dollar : (r : Place) → Placed files l₀ l o limit (substitute vs (written false body)) (substitute vs (written false body)) r → e < length body → Placed files l₀ l o limit (substitute vs body) (cond (has_dollar body) (substitute vs body) []) r
+  pub plain_dollar : (r : Result (Span × ℕ) Full) → Placed files l₀ l o limit (substitute vs (written false body)) (substitute vs (written false body)) r → e < length body → Placed files l₀ l o limit (substitute vs body) (cond (has_dollar body) (substitute vs body) []) r
   unfolding written
   plain_dollar r p h =
       let k : up_to (byte "$") body < length body = omega (arith, d.is_at) in
@@ -158,7 +158,7 @@ module _ (files : List ℕ) (base : ℕ) (t : List ℕ) (f : Filed files base t)
       let v : base + s.at + 1 + length inner ≤ length files = rw q at (part_fits files base t f inner (s.at + 1) m a g') in
       rw (← k, z, ← b, ← a) (filed_at files l inner (base + s.at + 1) o limit u v h)
 
-  pub word_quote : (l₀ l inner : List ℕ) (m o limit : ℕ) (r : Place) → Placed files l₀ l o limit (substitute vs (written true inner)) (substitute vs (written true inner)) r → inner ≡ take m (drop (s.at + 1) t) → m ≡ s.len - 1 → c ≡ byte "\"" → Placed files l₀ l o limit (value vs (written_at t s)) (result vs (written_at t s)) r
+  pub word_quote : (l₀ l inner : List ℕ) (m o limit : ℕ) (r : Result (Span × ℕ) Full) → Placed files l₀ l o limit (substitute vs (written true inner)) (substitute vs (written true inner)) r → inner ≡ take m (drop (s.at + 1) t) → m ≡ s.len - 1 → c ≡ byte "\"" → Placed files l₀ l o limit (value vs (written_at t s)) (result vs (written_at t s)) r
   unfolding written_at kind_of written
   word_quote l₀ l inner m o limit r p a b z = rw (← k, z, ← b, ← a) p
 
@@ -167,7 +167,7 @@ module _ (files : List ℕ) (base : ℕ) (t : List ℕ) (f : Filed files base t)
     unfolding written_at kind_of
     word_bracket l o limit z g = rw (← k, z, ← a) (filed_at files l whole (base + s.at) o limit (whole_files files base t f s whole a h) (whole_fits files base t f s whole a h) g)
 
-  pub word_plain : (l₀ l whole : List ℕ) (o limit : ℕ) (r : Place) → Placed files l₀ l o limit (substitute vs whole) (cond (has_dollar whole) (substitute vs whole) []) r → whole ≡ take (s.len + 1) (drop s.at t) → (c ≡ byte "{" → ⊥) → (c ≡ byte "\"" → ⊥) → (c ≡ byte "[" → ⊥) → Placed files l₀ l o limit (value vs (written_at t s)) (result vs (written_at t s)) r
+  pub word_plain : (l₀ l whole : List ℕ) (o limit : ℕ) (r : Result (Span × ℕ) Full) → Placed files l₀ l o limit (substitute vs whole) (cond (has_dollar whole) (substitute vs whole) []) r → whole ≡ take (s.len + 1) (drop s.at t) → (c ≡ byte "{" → ⊥) → (c ≡ byte "\"" → ⊥) → (c ≡ byte "[" → ⊥) → Placed files l₀ l o limit (value vs (written_at t s)) (result vs (written_at t s)) r
   unfolding written_at kind_of
   word_plain l₀ l whole o limit r p a x y z =
       let other : written_at t s ≡ plain (take (s.len + 1) (drop s.at t)) = rw (← k, ne_eqb c (byte "{") x, ne_eqb c (byte "\"") y, ne_eqb c (byte "[") z) (go (eqb c (byte "\n") || eqb c (byte ";")) (is_space c) (eqb c (byte "#") && false)) in

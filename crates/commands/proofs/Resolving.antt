@@ -1,4 +1,7 @@
 -- The loop that resolves the words of a command: laws as the needs ask them. Assumes nothing.
+use Rattle.std.specs.Prelude.{Result, Ok, Err}
+use Rattle.substitution.specs.declared.put.Full.{Full}
+use Rattle.substitution.specs.Room.{full}
 use Prim.Native.Nat.{◌*◌, ◌+◌, ◌-◌, ◌<◌, ◌≤◌, suc, zero, ℕ, ◌^◌}
 use mathlib.Core.List.{List, [], ◌++◌, ◌∷◌, append_assoc, append-nil, map-append}
 use mathlib.Core.Path.{◌∙◌, ◌≡◌, ap, refl, sym}
@@ -7,8 +10,6 @@ use native.Mathlib.Nat.{add-zero, sub-zero, zero-add}
 use lib.Seq.{drop-drop, get_or-drop, take-take}
 use lib.ListN.{drop, get_or, length, length-set, set, take}
 use borrow.Author.Rules.{rules}
-use Rattle.commands.specs.declared.resolve.Place.{Place}
-use Rattle.commands.specs.declared.resolve.Place.TheVariants.{At, Full as NoRoom}
 use Rattle.spans.specs.declared.span.Span.{Span}
 use Rattle.spans.specs.Span.{pair_at, pairs, strings}
 use Rattle.spans.specs.Writes.{Written, written_all, written_kept, written_none, written_over, written_piece, wrote_kept}
@@ -81,7 +82,7 @@ module _ (files t : List ℕ) (vs : List Variable) (l₀ l k₀ k : List ℕ) (a
       same_vs : variables (files ++ take m l) vars nv ≡ vs
       same_vs = rw u (rw (written_kept l₀ at (results vs (written_words t k₀ 0 n)) (results vs (written_words t k₀ j (n - j))) l o inv.wrote) (rw u at (sym v)))
 
-      module _ (limit : ℕ) (l' : List ℕ) (r : Place)
+      module _ (limit : ℕ) (l' : List ℕ) (r : Result (Span × ℕ) Full)
           (p : Placed files l l' o limit (value (variables (files ++ take m l) vars nv) (written_at t s)) (result (variables (files ++ take m l) vars nv) (written_at t s)) r) where
         p' : Placed files l l' o limit (value vs (written_at t s)) (result vs (written_at t s)) r
         p' = rw same_vs at p
@@ -90,7 +91,7 @@ module _ (files t : List ℕ) (vs : List Variable) (l₀ l k₀ k : List ℕ) (a
         unfolding results
         left = rw next at inv.wrote
 
-        pub resolving_over : r ≡ NoRoom → Room files l₀ k₀ limit n o → AllOver l₀ l' k₀ k vs at limit (written_words t k₀ 0 n) n
+        pub resolving_over : r ≡ Err full → Room files l₀ k₀ limit n o → AllOver l₀ l' k₀ k vs at limit (written_words t k₀ 0 n) n
         resolving_over e m =
             let d : PlacedOver l l' o limit (result vs (written_at t s)) = rw e at p' in
             let up : at ≤ o = inv.wrote.low in
@@ -103,7 +104,7 @@ module _ (files t : List ℕ) (vs : List Variable) (l₀ l k₀ k : List ℕ) (a
               rest = sym (drop-drop (2 * (n - j)) (2 * j) k ∙ rw y) ∙ ap (drop (2 * (n - j))) inv.rest ∙ drop-drop (2 * (n - j)) (2 * j) k₀ ∙ rw y;
             }
 
-        module _ (w : Span) (e : ℕ) (d : r ≡ At w e) where
+        module _ (w : Span) (e : ℕ) (d : r ≡ Ok (w, e)) where
           here_at : PlacedAt files l l' o limit (value vs (written_at t s)) (result vs (written_at t s)) w e
           here_at = rw d at p'
 
@@ -169,7 +170,7 @@ pub ruleset resolvings = (rules, resolving_start, resolving_up, pair_in, resolvi
 
 -- ---- its numbers fit
 
-module _ (files l l' : List ℕ) (o limit : ℕ) (val res : List ℕ) (r : Place) (p : Placed files l l' o limit val res r) (w : Span) (e : ℕ) (d : r ≡ At w e) (l₀ k₀ : List ℕ) (n : ℕ) (m : Room files l₀ k₀ limit n o) where
+module _ (files l l' : List ℕ) (o limit : ℕ) (val res : List ℕ) (r : Result (Span × ℕ) Full) (p : Placed files l l' o limit val res r) (w : Span) (e : ℕ) (d : r ≡ Ok (w, e)) (l₀ k₀ : List ℕ) (n : ℕ) (m : Room files l₀ k₀ limit n o) where
   fits_in : w.at + w.len < 2 ^ 32
   fits_in =
       let q : PlacedAt files l l' o limit val res w e = rw d at p in

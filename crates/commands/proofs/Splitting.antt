@@ -1,4 +1,7 @@
 -- The loop that splits the next command: laws as the needs ask them. Assumes nothing.
+use Rattle.std.specs.Prelude.{Option, Some, None, Result, Ok, Err}
+use Rattle.substitution.specs.declared.put.Full.{Full}
+use Rattle.substitution.specs.Room.{full}
 use Prim.Native.Nat.{◌*◌, ◌+◌, ◌-◌, ◌<◌, ◌≤◌, suc, zero, ℕ}
 use mathlib.Core.Path.{◌∙◌, ◌≡◌, ap, refl, sym}
 use mathlib.Core.List.{List, [], ◌++◌, ◌∷◌, append-nil, map-append}
@@ -10,7 +13,6 @@ use lib.Seq.{drop-drop}
 use lib.Dec.{eqb}
 use borrow.Author.Tests.{le-leb, ne_eqb}
 use borrow.Author.Rules.{rules}
-use Rattle.commands.specs.declared.split.Cut.TheVariants.{Words, None, Full}
 use Rattle.commands.proofs.Readings.{done_is, is_word_lem, is_word, kind_blank, kind_comment, kind_end, kind_word, parted_full, reading_end, reading_step, word_byte, word_done, word_kept, written_is}
 use Rattle.tcl.specs.Words.{Kind, Word, kind_of, size_of, words_of}
 use Rattle.tcl.specs.Commands.{commands, done, done_by, kept_by, none_yet, reading}
@@ -50,7 +52,7 @@ module _ (t : List ℕ) (at : ℕ) (l₀ l : List ℕ) (n i : ℕ) (inv : Splitt
 
   -- the text is at its end
   module _ (h : length t ≤ i) where
-    pub split_none : n ≡ 0 → Splits t at l₀ l None
+    pub split_none : n ≡ 0 → Splits t at l₀ l (Ok None)
     unfolding parted pairs last_end ws
     split_none z =
         record {
@@ -61,7 +63,7 @@ module _ (t : List ℕ) (at : ℕ) (l₀ l : List ℕ) (n i : ℕ) (inv : Splitt
           few = omega arith;
         }
 
-    pub split_last : (n ≡ 0 → ⊥) → Splits t at l₀ l (Words n i)
+    pub split_last : (n ≡ 0 → ⊥) → Splits t at l₀ l (Ok (Some (n, i)))
     unfolding parted ws
     split_last z =
         let g : 0 < length (written_words t l 0 n) = rw (count_is t l 0 n) (omega (arith, z)) in
@@ -97,7 +99,7 @@ module _ (t : List ℕ) (at : ℕ) (l₀ l : List ℕ) (n i : ℕ) (inv : Splitt
             few = inv.few;
           }
 
-      pub split_command : (n ≡ 0 → ⊥) → Splits t at l₀ l (Words n (i + 1))
+      pub split_command : (n ≡ 0 → ⊥) → Splits t at l₀ l (Ok (Some (n, (i + 1))))
       unfolding parted ws
       split_command z =
           let k : 0 < length (written_words t l 0 n) = rw (count_is t l 0 n) (omega (arith, z)) in
@@ -147,7 +149,7 @@ module _ (t : List ℕ) (at : ℕ) (l₀ l : List ℕ) (n i : ℕ) (inv : Splitt
               step (kind_of false (get_or t i 0)) e (sym (kind_word (get_or t i 0) g space (eqb n 0) x)) (b ∙ rw a)
               ∙ rw (word_done (kind_of false (get_or t i 0)) ws w, word_kept (kind_of false (get_or t i 0)) ws w, written_is t i m (kind_of false (get_or t i 0)) w refl h split_byte a)
 
-          pub split_full : n ≡ 128 → 256 ≤ length l₀ → Splits t at l₀ l Full
+          pub split_full : n ≡ 128 → 256 ≤ length l₀ → Splits t at l₀ l (Err full)
           unfolding pairs last_end ws
           split_full z r =
               let m : ℕ = size_of (kind_of false (get_or t i 0)) (drop (i + 1) t) in

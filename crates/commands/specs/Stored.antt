@@ -1,13 +1,9 @@
 -- How the numbers of the reader stand for words, and what its functions leave in what they are lent. Assumes nothing.
+use Rattle.std.specs.Prelude.{Option, Some, None, Result, Ok, Err}
+use Rattle.substitution.specs.declared.put.Full.{Full}
+use Rattle.substitution.specs.Room.{full}
+use Rattle.commands.specs.declared.next.Words.{Words}
 use Rattle.std.specs.Prelude.{◌*◌, ◌+◌, ◌-◌, ◌<◌, ◌≤◌, ℕ, false, List, ◌++◌, map, ◌≡◌, drop, get_or, length, take}
-use Rattle.commands.specs.declared.split.Cut.{Cut}
-use Rattle.commands.specs.declared.split.Cut.TheVariants.{Words, None, Full}
-use Rattle.commands.specs.declared.resolve.Place.{Place}
-use Rattle.commands.specs.declared.resolve.Place.TheVariants.{At, Full as NoRoom}
-use Rattle.commands.specs.declared.resolve.Resolved.{Resolved}
-use Rattle.commands.specs.declared.resolve.Resolved.TheVariants.{Done, Full as Over}
-use Rattle.commands.specs.declared.next.Next.{Next}
-use Rattle.commands.specs.declared.next.Next.TheVariants.{Words as Read, None as Ended, Full as Refused}
 use Rattle.spans.specs.declared.span.Span.{Span}
 use Rattle.tcl.specs.Words.{Kind, Word, braced, bracketed, kind_of, plain, quoted}
 use Rattle.spans.specs.Frame.{last_end}
@@ -37,23 +33,23 @@ written_at t s = as_written (kind_of false (get_or t s.at 0)) t s
 abbrev pub written_words : Bytes → List ℕ → ℕ → ℕ → List Word
 written_words t nums k n = map (written_at t) (pairs nums k n)
 
-abbrev pub parts_of : Bytes → List ℕ → Cut → Parted
-parts_of t nums (Words n next) = parts (written_words t nums 0 n) (commands (drop next t))
-parts_of t nums None = nothing
-parts_of t nums Full = too_many
+abbrev pub parts_of : Bytes → List ℕ → Result (Option (ℕ × ℕ)) Full → Parted
+parts_of t nums (Ok (Some (n, next))) = parts (written_words t nums 0 n) (commands (drop next t))
+parts_of t nums (Ok None) = nothing
+parts_of t nums (Err _) = too_many
 
-abbrev pub words_in : Cut → ℕ
-words_in (Words n next) = n
-words_in None = 0
-words_in Full = 0
+abbrev pub words_in : Result (Option (ℕ × ℕ)) Full → ℕ
+words_in (Ok (Some (n, next))) = n
+words_in (Ok None) = 0
+words_in (Err _) = 0
 
 -- how many numbers are written at the most
-abbrev pub changed : Cut → ℕ
-changed (Words n next) = 2 * n
-changed None = 0
-changed Full = 256
+abbrev pub changed : Result (Option (ℕ × ℕ)) Full → ℕ
+changed (Ok (Some (n, next))) = 2 * n
+changed (Ok None) = 0
+changed (Err _) = 256
 
-pub record Splits (t : Bytes) (at : ℕ) (l₀ l : List ℕ) (r : Cut) : Type 0 where
+pub record Splits (t : Bytes) (at : ℕ) (l₀ l : List ℕ) (r : Result (Option (ℕ × ℕ)) Full) : Type 0 where
   pub is : parts_of t l r ≡ parted (commands (drop at t))
   pub back : drop (changed r) l ≡ drop (changed r) l₀
   pub long : length l ≡ length l₀
@@ -80,9 +76,9 @@ pub record PlacedOver (l₀ l : List ℕ) (o limit : ℕ) (res : Bytes) : Type 0
   pub kept : take o l ≡ take o l₀
   pub back : drop limit l ≡ drop limit l₀
 
-abbrev pub Placed : Bytes → List ℕ → List ℕ → ℕ → ℕ → Bytes → Bytes → Place → Type 0
-Placed files l₀ l o limit val res (At s e) = PlacedAt files l₀ l o limit val res s e
-Placed files l₀ l o limit val res NoRoom = PlacedOver l₀ l o limit res
+abbrev pub Placed : Bytes → List ℕ → List ℕ → ℕ → ℕ → Bytes → Bytes → Result (Span × ℕ) Full → Type 0
+Placed files l₀ l o limit val res (Ok (s, e)) = PlacedAt files l₀ l o limit val res s e
+Placed files l₀ l o limit val res (Err _) = PlacedOver l₀ l o limit res
 
 -- all words of a command; the numbers were k₀ and are k
 pub record AllAt (files : Bytes) (l₀ l : List ℕ) (k₀ k : List ℕ) (vs : List Variable) (o limit : ℕ) (ws : List Word) (n e : ℕ) : Type 0 where
@@ -98,16 +94,16 @@ pub record AllOver (l₀ l : List ℕ) (k₀ k : List ℕ) (vs : List Variable) 
   pub back : drop limit l ≡ drop limit l₀
   pub rest : drop (2 * n) k ≡ drop (2 * n) k₀
 
-abbrev pub Resolves : Bytes → List ℕ → List ℕ → List ℕ → List ℕ → List Variable → ℕ → ℕ → List Word → ℕ → Resolved → Type 0
-Resolves files l₀ l k₀ k vs o limit ws n (Done e) = AllAt files l₀ l k₀ k vs o limit ws n e
-Resolves files l₀ l k₀ k vs o limit ws n Over = AllOver l₀ l k₀ k vs o limit ws n
+abbrev pub Resolves : Bytes → List ℕ → List ℕ → List ℕ → List ℕ → List Variable → ℕ → ℕ → List Word → ℕ → Result ℕ Full → Type 0
+Resolves files l₀ l k₀ k vs o limit ws n (Ok e) = AllAt files l₀ l k₀ k vs o limit ws n e
+Resolves files l₀ l k₀ k vs o limit ws n (Err _) = AllOver l₀ l k₀ k vs o limit ws n
 
 -- ---- the next command
 
-abbrev pub outcome_of : Bytes → Bytes → List ℕ → Bytes → Next → Outcome
-outcome_of files area nums t (Read n next e) = read (strings (files ++ take e area) nums 0 n) (commands (drop next t)) e
-outcome_of files area nums t Ended = ended
-outcome_of files area nums t Refused = refused
+abbrev pub outcome_of : Bytes → Bytes → List ℕ → Bytes → Result (Option Words) Full → Outcome
+outcome_of files area nums t (Ok (Some r)) = read (strings (files ++ take r.end area) nums 0 r.count) (commands (drop r.next t)) r.end
+outcome_of files area nums t (Ok None) = ended
+outcome_of files area nums t (Err _) = refused
 
 -- what is lent: a command read leaves its result bytes behind the others and its spans, which end by them and lie in the files or in the area, in the numbers
 pub record Reads (files : Bytes) (l₀ l : List ℕ) (k₀ k : List ℕ) (o : ℕ) (all : Bytes) (n e : ℕ) : Type 0 where
@@ -126,12 +122,12 @@ pub record Spoils (l₀ l : List ℕ) (k₀ k : List ℕ) (o limit : ℕ) : Type
   pub back : drop limit l ≡ drop limit l₀
   pub rest : drop 256 k ≡ drop 256 k₀
 
-abbrev pub Lent : Bytes → List ℕ → List ℕ → List ℕ → List ℕ → ℕ → ℕ → Bytes → Next → Type 0
-Lent files l₀ l k₀ k o limit all (Read n next e) = Reads files l₀ l k₀ k o all n e
-Lent files l₀ l k₀ k o limit all Ended = Keeps l₀ l k₀ k
-Lent files l₀ l k₀ k o limit all Refused = Spoils l₀ l k₀ k o limit
+abbrev pub Lent : Bytes → List ℕ → List ℕ → List ℕ → List ℕ → ℕ → ℕ → Bytes → Result (Option Words) Full → Type 0
+Lent files l₀ l k₀ k o limit all (Ok (Some r)) = Reads files l₀ l k₀ k o all r.count r.end
+Lent files l₀ l k₀ k o limit all (Ok None) = Keeps l₀ l k₀ k
+Lent files l₀ l k₀ k o limit all (Err _) = Spoils l₀ l k₀ k o limit
 
 -- the next command of the text t from `at` on
-pub record NextOf (files t : Bytes) (at : ℕ) (vs : List Variable) (l₀ l : List ℕ) (o limit : ℕ) (k₀ k : List ℕ) (r : Next) : Type 0 where
+pub record NextOf (files t : Bytes) (at : ℕ) (vs : List Variable) (l₀ l : List ℕ) (o limit : ℕ) (k₀ k : List ℕ) (r : Result (Option Words) Full) : Type 0 where
   pub is : outcome_of files l k t r ≡ outcome vs o limit (commands (drop at t))
   pub lent : Lent files l₀ l k₀ k o limit (results vs (first_of (commands (drop at t)))) r

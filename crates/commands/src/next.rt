@@ -3,16 +3,17 @@ ghost use Rattle.std.specs.Prelude.{◌+◌, ◌≤◌, ◌<◌, ◌^◌, ◌++�
 ghost use Rattle.substitution.specs.Stored.{variables};
 ghost use Rattle.commands.specs.Stored.{NextOf};
 
-use super::resolve::{Resolved, resolve};
-use super::split::{Cut, split};
+use super::resolve::resolve;
+use super::split::split;
+use substitution::put::Full;
 use text::part::part;
 
-// The command's words: how many, where the next command begins, where the area ends; or there is no command, or a reading limit is passed.
+// A command: how many words it has, where the next command begins, and where the area ends.
 #[derive(Clone, Copy)]
-pub enum Next {
-    Words(usize, usize, usize),
-    None,
-    Full,
+pub struct Words {
+    pub count: usize,
+    pub next: usize,
+    pub end: usize,
 }
 
 // The next command from `at` on of the file that is the part of `len` bytes at `base`.
@@ -27,19 +28,18 @@ pub fn next_command(
     o: usize,
     limit: usize,
     words: &mut [u32],
-) -> Next
+) -> Result<Option<Words>, Full>
     requires { (length files.now + length area.old < 2 ^ 32) × ((256 ≤ length words.old) × ((o ≤ limit) × (limit ≤ length area.old))) }
     ensures { NextOf files.now (take len (drop base files.now)) at (variables (files.now ++ take o area.old) vars.now nv) area.old area.new o limit words.old words.new result }
 {
     let text = part(files, base, len);
-    match split(text, at, words) {
-        Cut::None => Next::None,
-        Cut::Full => Next::Full,
-        Cut::Words(n, next) => {
-            match resolve(files, base, text, vars, nv, area, o, limit, words, n) {
-                Resolved::Full => Next::Full,
-                Resolved::Done(e) => Next::Words(n, next, e),
-            }
-        }
-    }
+    let Some((n, next)) = split(text, at, words)? else {
+        return Ok(None);
+    };
+    let end = resolve(files, base, text, vars, nv, area, o, limit, words, n)?;
+    Ok(Some(Words {
+        count: n,
+        next: next,
+        end: end,
+    }))
 }

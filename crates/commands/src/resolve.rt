@@ -9,16 +9,9 @@ ghost use Rattle.commands.specs.Reading.{result as result_bytes};
 ghost use Rattle.commands.specs.Stored.{Filed, written_at, written_words, Placed, Resolves};
 
 use spans::span::{Span, minus, pair};
-use substitution::put::{Put, substitute};
+use substitution::put::{Full, substitute};
 use text::part::{part, peek};
 use text::scan::find;
-
-// A word's bytes as a span, and where the area ends then; or the area is full.
-#[derive(Clone, Copy)]
-pub enum Place {
-    At(Span, usize),
-    Full,
-}
 
 // A quoted word, or a plain one with a `$`, substituted to the area.
 fn to_area(
@@ -31,20 +24,18 @@ fn to_area(
     m: usize,
     o: usize,
     limit: usize,
-) -> Place
+) -> Result<(Span, usize), Full>
     requires { (m ≤ o) × ((o ≤ limit) × (limit ≤ length area.old)) }
     ensures { Placed files.now area.old area.new o limit (Substitution·substitute (variables (files.now ++ take m area.old) vars.now nv) (written quoted body.now)) (Substitution·substitute (variables (files.now ++ take m area.old) vars.now nv) (written quoted body.now)) result }
 {
-    match substitute(files, vars, nv, body, quoted, area, m, o, limit) {
-        Put::Full => Place::Full,
-        Put::Done(e) => Place::At(
-            Span {
-                at: files.len() + o,
-                len: e - o,
-            },
-            e,
-        ),
-    }
+    let e = substitute(files, vars, nv, body, quoted, area, m, o, limit)?;
+    Ok((
+        Span {
+            at: files.len() + o,
+            len: e - o,
+        },
+        e,
+    ))
 }
 
 // A plain word: a part of the file where it has no `$`.
@@ -58,20 +49,20 @@ fn plain_word(
     m: usize,
     o: usize,
     limit: usize,
-) -> Place
+) -> Result<(Span, usize), Full>
     requires { (body.now ≡ take (length body.now) (drop at files.now)) × ((at + length body.now ≤ length files.now) × ((m ≤ o) × ((o ≤ limit) × (limit ≤ length area.old)))) }
     ensures { Placed files.now area.old area.new o limit (Substitution·substitute (variables (files.now ++ take m area.old) vars.now nv) body.now) (cond (has_dollar body.now) (Substitution·substitute (variables (files.now ++ take m area.old) vars.now nv) body.now) []) result }
 {
     if find(body, 0, b'$') < body.len() {
         return to_area(files, vars, nv, body, false, area, m, o, limit);
     }
-    Place::At(
+    Ok((
         Span {
             at: at,
             len: body.len(),
         },
         o,
-    )
+    ))
 }
 
 // What the word comes to that is written at s in the text, which begins at `base` in the files.
@@ -86,7 +77,7 @@ fn word(
     m: usize,
     o: usize,
     limit: usize,
-) -> Place
+) -> Result<(Span, usize), Full>
     requires { Filed files.now base text.now × ((s.at + s.len ≤ length text.now) × ((m ≤ o) × ((o ≤ limit) × (limit ≤ length area.old)))) }
     ensures { Placed files.now area.old area.new o limit (value (variables (files.now ++ take m area.old) vars.now nv) (written_at text.now s)) (result_bytes (variables (files.now ++ take m area.old) vars.now nv) (written_at text.now s)) result }
 {
@@ -94,34 +85,27 @@ fn word(
     let whole = part(text, s.at, s.len + 1);
     let inner = part(text, s.at + 1, minus(s.len, 1));
     if c == b'{' {
-        return Place::At(
+        return Ok((
             Span {
                 at: base + s.at + 1,
                 len: inner.len(),
             },
             o,
-        );
+        ));
     }
     if c == b'"' {
         return to_area(files, vars, nv, inner, true, area, m, o, limit);
     }
     if c == b'[' {
-        return Place::At(
+        return Ok((
             Span {
                 at: base + s.at,
                 len: whole.len(),
             },
             o,
-        );
+        ));
     }
     plain_word(files, base + s.at, vars, nv, whole, area, m, o, limit)
-}
-
-// All words are resolved, and the area ends here; or it is full.
-#[derive(Clone, Copy)]
-pub enum Resolved {
-    Done(usize),
-    Full,
 }
 
 // Puts in place of each of the first n written words of the text the span of what it comes to.
@@ -136,23 +120,17 @@ pub fn resolve(
     limit: usize,
     words: &mut [u32],
     n: usize,
-) -> Resolved
+) -> Result<usize, Full>
     requires { Filed files.now base text.now × ((last_end (pairs words.old 0 n) ≤ length text.now) × ((2 * n ≤ length words.old) × ((n ≤ 128) × ((length files.now + length area.old < 2 ^ 32) × ((at ≤ limit) × (limit ≤ length area.old)))))) }
     ensures { Resolves files.now area.old area.new words.old words.new (variables (files.now ++ take at area.old) vars.now nv) at limit (written_words text.now words.old 0 n) n result }
 {
-    let mut k = 0;
     let mut o = at;
-    while k < n {
+    for k in 0..n {
         let s = pair(words, k);
-        match word(files, base, text, s, vars, nv, area, at, o, limit) {
-            Place::Full => return Resolved::Full,
-            Place::At(w, e) => {
-                words[2 * k] = w.at as u32;
-                words[2 * k + 1] = w.len as u32;
-                o = e;
-                k += 1;
-            }
-        }
+        let (w, e) = word(files, base, text, s, vars, nv, area, at, o, limit)?;
+        words[2 * k] = w.at as u32;
+        words[2 * k + 1] = w.len as u32;
+        o = e;
     }
-    Resolved::Done(o)
+    Ok(o)
 }

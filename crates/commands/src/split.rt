@@ -2,25 +2,19 @@
 ghost use Rattle.std.specs.Prelude.{◌+◌, ◌*◌, ◌≤◌, ◌<◌, ◌^◌, length};
 ghost use Rattle.commands.specs.Stored.{Splits};
 
+use substitution::put::Full;
 use tcl::word::size;
 use text::class::is_space;
 use text::scan::find;
 
-// A command has words (how many, and where the next command begins), there is none, or it has too many words.
-#[derive(Clone, Copy)]
-pub enum Cut {
-    Words(usize, usize),
-    None,
-    Full,
-}
-
 // The next command of a text from `at` on: two numbers a word, where it begins and how many bytes it has besides its first.
-pub fn split(text: &[u8], at: usize, words: &mut [u32]) -> Cut
+pub fn split(text: &[u8], at: usize, words: &mut [u32]) -> Result<Option<(usize, usize)>, Full>
     requires { (length text.now < 2 ^ 32) × (256 ≤ length words.old) }
     ensures { Splits text.now at words.old words.new result }
 {
     let mut i = at;
     let mut n = 0;
+    // Counted by hand: the place moves on by a whole word or comment, so an iterator is no plainer.
     while i < text.len() {
         let c = text[i];
         if (c == b'\n') | (c == b';') {
@@ -28,7 +22,7 @@ pub fn split(text: &[u8], at: usize, words: &mut [u32]) -> Cut
                 i += 1;
                 continue;
             }
-            return Cut::Words(n, i + 1);
+            return Ok(Some((n, i + 1)));
         }
         if is_space(c) {
             i += 1;
@@ -39,7 +33,7 @@ pub fn split(text: &[u8], at: usize, words: &mut [u32]) -> Cut
             continue;
         }
         if n == 128 {
-            return Cut::Full;
+            return Err(Full);
         }
         let l = size(text, i);
         words[2 * n] = i as u32;
@@ -48,7 +42,7 @@ pub fn split(text: &[u8], at: usize, words: &mut [u32]) -> Cut
         i += l;
     }
     if n == 0 {
-        return Cut::None;
+        return Ok(None);
     }
-    Cut::Words(n, i)
+    Ok(Some((n, i)))
 }

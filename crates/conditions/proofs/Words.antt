@@ -4,7 +4,7 @@ use native.Mathlib.Omega.{arith}
 use mathlib.Core.Path.{◌≡◌, refl, sym, ap, ◌∙◌}
 use mathlib.Core.Bool.{Bool, true, false, cond, ◌&&◌, not}
 use mathlib.Core.List.{List, [], ◌∷◌}
-use mathlib.Core.Option.{Option, none, some}
+use Rattle.std.specs.Prelude.{Option, None, Some}
 use lib.Dec.{eqb}
 use lib.ListN.{length, take, drop}
 use lib.Seq.{take-nil, drop-nil}
@@ -18,8 +18,6 @@ use Rattle.text.specs.Scans.{before_le}
 use Rattle.tcl.specs.Substitution.{no_variable}
 use Rattle.names.specs.Name.{name_of, step_of}
 use Rattle.names.specs.declared.name.Name.{Name}
-use Rattle.names.specs.declared.name.Step.{Step}
-use Rattle.names.specs.declared.name.Step.TheVariants.{Byte, End}
 use Rattle.names.specs.Laws.{shorter}
 use Rattle.nametable.specs.Table.{row_name, names_from, table_names, names_next}
 use Rattle.paths.specs.Sizes.{name_short}
@@ -39,12 +37,12 @@ pub record Sizes (mem : Bytes) (w : ℕ) (x : Name) (n : ℕ) : Type 0 where
 pub sizes_start : (mem : Bytes) (e : Name) → length mem < 2 ^ 32 → Sizes mem (before no_variable (name_of mem e)) e 0
 sizes_start mem e h = record { keeps = omega arith; small = omega (arith, before_le no_variable (name_of mem e), name_short mem e) }
 
-module _ (mem : Bytes) (w : ℕ) (x : Name) (n : ℕ) (inv : Sizes mem w x n) (p : Step) (e : name_of mem x ≡ step_of mem p) where
-  pub size_end : p ≡ End → n ≡ w
+module _ (mem : Bytes) (w : ℕ) (x : Name) (n : ℕ) (inv : Sizes mem w x n) (p : Option (ℕ × Name)) (e : name_of mem x ≡ step_of mem p) where
+  pub size_end : p ≡ None → n ≡ w
   unfolding before
   size_end h = let z : n + 0 ≡ w = rw (e, h) at inv.keeps in omega (arith, z)
 
-  module _ (b : ℕ) (u : Name) (h : p ≡ Byte b u) (t : Bool) (et : t ≡ is_variable b) where
+  module _ (b : ℕ) (u : Name) (h : p ≡ Some (b, u)) (t : Bool) (et : t ≡ is_variable b) where
     size_left : n + cond (not t) 0 (suc (before no_variable (name_of mem u))) ≡ w
     unfolding before
     size_left = rw et (rw (e, h) at inv.keeps)
@@ -76,11 +74,11 @@ module _ (mem w : Bytes) (n : ℕ) (x : Name) (k : ℕ) (inv : Drops mem w n x k
   pub drops_done : n ≤ k → name_of mem x ≡ w
   drops_done h = let z : n - k ≡ 0 = omega arith in rw z at inv.keeps
 
-  module _ (p : Step) (e : name_of mem x ≡ step_of mem p) where
-    pub drops_end : p ≡ End → name_of mem x ≡ w
+  module _ (p : Option (ℕ × Name)) (e : name_of mem x ≡ step_of mem p) where
+    pub drops_end : p ≡ None → name_of mem x ≡ w
     drops_end h = let z : name_of mem x ≡ [] = e ∙ rw h in let y : [] ≡ w = sym (drop-nil (n - k)) ∙ (rw z at inv.keeps) in z ∙ y
 
-    pub drops_step : (b : ℕ) (u : Name) → p ≡ Byte b u → k < n → Drops mem w n u (k + 1)
+    pub drops_step : (b : ℕ) (u : Name) → p ≡ Some (b, u) → k < n → Drops mem w n u (k + 1)
     drops_step b u h l = let z : n - k ≡ suc (n - (k + 1)) = omega arith in record { keeps = rw (z, e, h) at inv.keeps }
 
 pub ruleset drops = (rules, drops_start, drops_done, drops_end, drops_step)
@@ -105,11 +103,11 @@ module _ (mem : Bytes) (w : Bool) (n : ℕ) (x : Name) (k : ℕ) (inv : Digits m
   pub digits_done : n ≤ k → true ≡ w
   digits_done h = let z : n - k ≡ 0 = omega arith in sym (all_none is_digit) ∙ (rw z at inv.keeps)
 
-  module _ (p : Step) (e : name_of mem x ≡ step_of mem p) where
-    pub digits_end : p ≡ End → true ≡ w
+  module _ (p : Option (ℕ × Name)) (e : name_of mem x ≡ step_of mem p) where
+    pub digits_end : p ≡ None → true ≡ w
     digits_end h = sym (all_none is_digit) ∙ (rw (e, h, take-nil) at inv.keeps)
 
-    module _ (b : ℕ) (u : Name) (h : p ≡ Byte b u) (l : k < n) (t : Bool) (et : t ≡ is_digit b) where
+    module _ (b : ℕ) (u : Name) (h : p ≡ Some (b, u)) (l : k < n) (t : Bool) (et : t ≡ is_digit b) where
       digits_left : t && all is_digit (take (n - (k + 1)) (name_of mem u)) ≡ w
       digits_left = let z : n - k ≡ suc (n - (k + 1)) = omega arith in rw et (sym (all_cons b (take (n - (k + 1)) (name_of mem u))) ∙ (rw (z, e, h) at inv.keeps))
 
@@ -124,14 +122,14 @@ pub ruleset digits = (rules, digits_start, digits_done, digits_end, digits_no, d
 -- ---- the control port of a word
 
 pub record Controls (mem : Bytes) (table : List ℕ) (n : ℕ) (port : Bytes) (found i : ℕ) : Type 0 where
-  pub keeps : last_signal (controls_of (names_from mem table i (n - i))) port (signal_at mem table found) ≡ last_signal (controls_of (table_names mem table n)) port none
+  pub keeps : last_signal (controls_of (names_from mem table i (n - i))) port (signal_at mem table found) ≡ last_signal (controls_of (table_names mem table n)) port None
   pub found_low : found ≤ 65536
   pub low : i ≤ n + 1
 
 pub controls_start : (mem : Bytes) (table : List ℕ) (n : ℕ) (port : Bytes) → Controls mem table n port 0 0
 controls_start mem table n port = let z : n - 0 ≡ n = omega arith in record { keeps = rw z; found_low = omega arith; low = omega arith }
 
-last_cons : (c : Control) (cs : List Control) (port : Bytes) (o : Option Bytes) → last_signal (c ∷ cs) port o ≡ last_signal cs port (cond (same c.port port) (some c.signal) o)
+last_cons : (c : Control) (cs : List Control) (port : Bytes) (o : Option Bytes) → last_signal (c ∷ cs) port o ≡ last_signal cs port (cond (same c.port port) (Some c.signal) o)
 unfolding last_signal
 last_cons c cs port o = refl
 
@@ -159,14 +157,14 @@ module _ (mem : Bytes) (table : List ℕ) (n : ℕ) (port : Bytes) (found i : �
     control_less = omega arith
 
     module _ (job : Bytes) (p : Name) (ep : p ≡ row_name table i) (r w : Ref) (er : r ≡ whole_ref p) (t : Bool) (et : t ≡ same (text_of job mem r) (text_of job mem w)) (ew : port ≡ text_of job mem w) where
-      left_is : last_signal (controls_of (names_from mem table (i + 2) (n - (i + 2)))) port (cond t (some (name_of mem (row_name table (i + 1)))) (signal_at mem table found)) ≡ last_signal (controls_of (table_names mem table n)) port none
+      left_is : last_signal (controls_of (names_from mem table (i + 2) (n - (i + 2)))) port (cond t (Some (name_of mem (row_name table (i + 1)))) (signal_at mem table found)) ≡ last_signal (controls_of (table_names mem table n)) port None
       left_is =
           let z : n - i ≡ suc (suc (n - (i + 2))) = omega arith in
           let y : i + 1 + 1 ≡ i + 2 = omega arith in
           let q : same (name_of mem (row_name table i)) port ≡ t = sym (et ∙ rw (er, ep, whole_is job mem (row_name table i), ew)) in
           let l : names_from mem table i (n - i) ≡ name_of mem (row_name table i) ∷ name_of mem (row_name table (i + 1)) ∷ names_from mem table (i + 2) (n - (i + 2)) =
           rw z (names_next mem table i (suc (n - (i + 2))) ∙ ap (λ (k : List Bytes). name_of mem (row_name table i) ∷ k) (rw (names_next mem table (i + 1) (n - (i + 2)), y))) in
-          ap (λ (b : Bool). last_signal (controls_of (names_from mem table (i + 2) (n - (i + 2)))) port (cond b (some (name_of mem (row_name table (i + 1)))) (signal_at mem table found))) (sym q)
+          ap (λ (b : Bool). last_signal (controls_of (names_from mem table (i + 2) (n - (i + 2)))) port (cond b (Some (name_of mem (row_name table (i + 1)))) (signal_at mem table found))) (sym q)
           ∙ sym (last_cons (record { port = name_of mem (row_name table i); signal = name_of mem (row_name table (i + 1)) }) (controls_of (names_from mem table (i + 2) (n - (i + 2)))) port (signal_at mem table found))
           ∙ (rw l at inv.keeps)
 

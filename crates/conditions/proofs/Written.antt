@@ -1,13 +1,14 @@
 -- A condition, written: laws as the needs ask them. Assumes nothing.
+use Rattle.std.specs.Prelude.{Option}
 use Prim.Native.Nat.{ℕ, ◌+◌, ◌-◌, ◌≤◌, ◌<◌}
 use mathlib.Core.Path.{◌≡◌, refl, sym, ap, ◌∙◌}
 use mathlib.Core.Bool.{Bool, true, false}
 use mathlib.Core.List.{List, [], ◌∷◌, ◌++◌}
-use mathlib.Core.Option.{none, some}
+use Rattle.std.specs.Prelude.{None, Some}
 use native.Mathlib.Omega.{arith}
 use lib.Dec.{eqb, ltb}
 use lib.ListN.{length, take, drop}
-use borrow.Author.Tests.{eq-eqb, ne_eqb, le-ltb, eqb-true, eqb-false}
+use borrow.Author.Tests.{eq-eqb, ne_eqb, le-ltb, eqb-true}
 use Rattle.text.specs.Ascii.{Bytes, ascii}
 use Rattle.text.specs.Classes.{is_digit, is_variable}
 use Rattle.text.specs.Scan.{all, before}
@@ -16,8 +17,6 @@ use Rattle.out.specs.Bytewise.{flat, becomes, flat_same}
 use Rattle.tcl.specs.Substitution.{no_variable}
 use Rattle.names.specs.Name.{name_of, step_of}
 use Rattle.names.specs.declared.name.Name.{Name}
-use Rattle.names.specs.declared.name.Step.{Step}
-use Rattle.names.specs.declared.name.Step.TheVariants.{Byte, End}
 use Rattle.nametable.specs.Table.{row_name, table_names}
 use Rattle.refs.specs.Text.{text_of, as_dots, whole_ref, front_ref}
 use Rattle.refs.specs.Laws.{whole_is, front_is}
@@ -36,38 +35,27 @@ module _ (job mem : Bytes) (scope : List Bytes) (table : List ℕ) (count n : �
   port_is : text_of job mem w ≡ take n (name_of mem e)
   port_is = rw ew (front_is job mem e n)
 
-  signal_seen : signal_of (scope_setting scope) (controls_of (table_names mem table count)) (take n (name_of mem e)) none ≡ hier_of (scope_setting scope) (signal_at mem table k)
-  signal_seen = ap (λ (p : Bytes). signal_of (scope_setting scope) (controls_of (table_names mem table count)) p none) (sym port_is) ∙ seen_signal scope mem table count (text_of job mem w) k seen
+  signal_seen : signal_of (scope_setting scope) (controls_of (table_names mem table count)) (take n (name_of mem e)) None ≡ hier_of (scope_setting scope) (signal_at mem table k)
+  signal_seen = ap (λ (p : Bytes). signal_of (scope_setting scope) (controls_of (table_names mem table count)) p None) (sym port_is) ∙ seen_signal scope mem table count (text_of job mem w) k seen
 
-  pub word_known : (r : Ref) (x : Name) → o' ≡ emit o (flat (becomes 0) (element_path scope (text_of job mem r))) → r ≡ whole_ref x → x ≡ row_name table k → (k ≡ 0 → ⊥) → o' ≡ emit o (word_text (signal_of (scope_setting scope) (controls_of (table_names mem table count)) (take n (name_of mem e)) none) (take n (name_of mem e)))
+  pub word_known : (r : Ref) (x : Name) → o' ≡ emit o (flat (becomes 0) (element_path scope (text_of job mem r))) → r ≡ whole_ref x → x ≡ row_name table k → (k ≡ 0 → ⊥) → o' ≡ emit o (word_text (signal_of (scope_setting scope) (controls_of (table_names mem table count)) (take n (name_of mem e)) None) (take n (name_of mem e)))
   word_known r x g er ex h =
-      let z : signal_of (scope_setting scope) (controls_of (table_names mem table count)) (take n (name_of mem e)) none ≡ some (element_path scope (name_of mem (row_name table k))) = signal_seen ∙ rw (ne_eqb k 0 h) in
+      let z : signal_of (scope_setting scope) (controls_of (table_names mem table count)) (take n (name_of mem e)) None ≡ Some (element_path scope (name_of mem (row_name table k))) = signal_seen ∙ rw (ne_eqb k 0 h) in
       let y : flat (becomes 0) (element_path scope (text_of job mem r)) ≡ element_path scope (name_of mem (row_name table k)) = flat_same (element_path scope (text_of job mem r)) ∙ rw (er, ex, whole_is job mem (row_name table k)) in
       rw z (g ∙ ap (emit o) y)
 
   module _ (h : k ≡ 0) where
-    no_signal_lem : signal_of (scope_setting scope) (controls_of (table_names mem table count)) (take n (name_of mem e)) none ≡ none
+    no_signal_lem : signal_of (scope_setting scope) (controls_of (table_names mem table count)) (take n (name_of mem e)) None ≡ None
     no_signal_lem = signal_seen ∙ rw (eq-eqb k 0 h)
 
     module _ (t : Bool) (et : t ≡ all is_digit (take n (name_of mem e))) where
-      pub word_number : o' ≡ emit o (flat (becomes 0) (as_dots false (text_of job mem w))) → t ≡ true → o' ≡ emit o (word_text (signal_of (scope_setting scope) (controls_of (table_names mem table count)) (take n (name_of mem e)) none) (take n (name_of mem e)))
+      pub word_number : o' ≡ emit o (flat (becomes 0) (as_dots false (text_of job mem w))) → t ≡ true → o' ≡ emit o (word_text (signal_of (scope_setting scope) (controls_of (table_names mem table count)) (take n (name_of mem e)) None) (take n (name_of mem e)))
       word_number g d = rw (no_signal_lem, ← et, d) (g ∙ ap (emit o) (flat_same (text_of job mem w) ∙ port_is))
 
-      pub word_unknown : o' ≡ emit o (ascii "1'bx") → t ≡ false → o' ≡ emit o (word_text (signal_of (scope_setting scope) (controls_of (table_names mem table count)) (take n (name_of mem e)) none) (take n (name_of mem e)))
+      pub word_unknown : o' ≡ emit o (ascii "1'bx") → t ≡ false → o' ≡ emit o (word_text (signal_of (scope_setting scope) (controls_of (table_names mem table count)) (take n (name_of mem e)) None) (take n (name_of mem e)))
       word_unknown g d = rw (no_signal_lem, ← et, d) g
 
 -- ---- a full buffer
-
--- the place one past the end
-pub full_below : (n at : ℕ) → at ≤ n → false ≡ eqb at (n + 1)
-full_below n at h = sym (ne_eqb at (n + 1) (λ e. omega (arith, e)))
-
-full_either : (n at : ℕ) (t : Bool) → n < at → eqb (at - n) 1 ≡ t → t ≡ eqb at (n + 1)
-full_either n at true h e = let z : at - n ≡ 1 = eqb-true (at - n) 1 e in sym (eq-eqb at (n + 1) (omega (arith, z)))
-full_either n at false h e = sym (ne_eqb at (n + 1) (λ z. eqb-false (at - n) 1 e (omega (arith, z))))
-
-pub full_above : (n at : ℕ) → n < at → eqb (at - n) 1 ≡ eqb at (n + 1)
-full_above n at h = full_either n at (eqb (at - n) 1) h refl
 
 -- past the end nothing changes any more
 emit1_full : (o : Out) (b : ℕ) → o.at ≡ length o.bytes + 1 → emit1 o b ≡ o
@@ -95,11 +83,11 @@ emit_cons : (o : Out) (b : ℕ) (t : Bytes) → emit o (b ∷ t) ≡ emit (emit1
 unfolding emit
 emit_cons o b t = refl
 
-module _ (s : Setting) (cs : List Control) (mem : Bytes) (w o : Out) (x : Name) (inv : Conditions s cs mem w o x) (p : Step) (e : name_of mem x ≡ step_of mem p) where
-  pub condition_end : p ≡ End → o ≡ w
+module _ (s : Setting) (cs : List Control) (mem : Bytes) (w o : Out) (x : Name) (inv : Conditions s cs mem w o x) (p : Option (ℕ × Name)) (e : name_of mem x ≡ step_of mem p) where
+  pub condition_end : p ≡ None → o ≡ w
   condition_end h = sym (emit_none o) ∙ ap (emit o) (sym (condition_none s cs 0 [])) ∙ (rw (e, h) at inv.keeps)
 
-  module _ (b : ℕ) (u : Name) (h : p ≡ Byte b u) (t : Bool) (et : t ≡ is_variable b) where
+  module _ (b : ℕ) (u : Name) (h : p ≡ Some (b, u)) (t : Bool) (et : t ≡ is_variable b) where
     at_byte : name_of mem x ≡ b ∷ name_of mem u
     at_byte = e ∙ rw h
 
@@ -112,9 +100,9 @@ module _ (s : Setting) (cs : List Control) (mem : Bytes) (w o : Out) (x : Name) 
       size_is : n ≡ before no_variable (b ∷ name_of mem u)
       size_is = en ∙ ap (before no_variable) at_byte
 
-      pub condition_over : (o' : Out) → o' ≡ emit o (word_text (signal_of s cs (take n (name_of mem x)) none) (take n (name_of mem x))) → Conditions s cs mem w o' y
+      pub condition_over : (o' : Out) → o' ≡ emit o (word_text (signal_of s cs (take n (name_of mem x)) None) (take n (name_of mem x))) → Conditions s cs mem w o' y
       condition_over o' g =
-          let v = word_text (signal_of s cs (take n (name_of mem x)) none) (take n (name_of mem x)) in
+          let v = word_text (signal_of s cs (take n (name_of mem x)) None) (take n (name_of mem x)) in
           let z : condition s cs (name_of mem x) ≡ v ++ condition s cs (drop n (name_of mem x)) = rw at_byte (condition_word s cs b (name_of mem u) (sym et ∙ d) n size_is) in
           record { keeps = rw (g, ey) (sym (emit_append o v (condition s cs (drop n (name_of mem x)))) ∙ (rw z at inv.keeps)) }
 

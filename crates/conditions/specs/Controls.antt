@@ -1,7 +1,6 @@
 -- The control ports of a switch in a table, ports and signals by turns; conditions look at the scope alone. Assumes nothing.
-use Rattle.std.specs.Prelude.{ℕ, zero, suc, ◌≤◌, ◌≡◌, refl, Bool, true, false, cond, List, [], ◌∷◌, ◌++◌, eqb}
+use Rattle.std.specs.Prelude.{ℕ, zero, suc, ◌≤◌, ◌≡◌, refl, Bool, true, false, cond, List, [], ◌∷◌, ◌++◌, eqb, Option, None, Some}
 use Rattle.std.proofs.Common.{sym, ap, ap₂, ◌∙◌, arith}
-use Rattle.std.proofs.Math.Option.{Option, none, some}
 use Rattle.text.specs.Ascii.{Bytes}
 use Rattle.text.specs.Classes.{is_variable}
 use Rattle.text.specs.Compare.{same}
@@ -21,44 +20,44 @@ scope_setting scope = record { top = []; scope = scope; base = no_module; design
 -- ---- the signal of a control port, as it stands in the table: of two for one port the last counts
 unfoldable pub last_signal : List Control → Bytes → Option Bytes → Option Bytes
 last_signal [] port found = found
-last_signal (c ∷ cs) port found = last_signal cs port (cond (same c.port port) (some c.signal) found)
+last_signal (c ∷ cs) port found = last_signal cs port (cond (same c.port port) (Some c.signal) found)
 
 -- what a row stands for: row 0 has a port, and means none
 abbrev pub signal_at : Bytes → List ℕ → ℕ → Option Bytes
-signal_at mem table r = cond (eqb r 0) none (some (name_of mem (row_name table r)))
+signal_at mem table r = cond (eqb r 0) None (Some (name_of mem (row_name table r)))
 
 pub record ControlSeen (mem : Bytes) (table : List ℕ) (n : ℕ) (port : Bytes) (r : ℕ) : Type 0 where
-  pub says : signal_at mem table r ≡ last_signal (controls_of (table_names mem table n)) port none
+  pub says : signal_at mem table r ≡ last_signal (controls_of (table_names mem table n)) port None
   pub within : r ≤ 65536
 
 abbrev pub hier_of : Setting → Option Bytes → Option Bytes
-hier_of s none = none
-hier_of s (some t) = some (hier s t)
+hier_of s None = None
+hier_of s (Some t) = Some (hier s t)
 
 pub signal_is : (s : Setting) (cs : List Control) (port : Bytes) (found : Option Bytes) → signal_of s cs port (hier_of s found) ≡ hier_of s (last_signal cs port found)
 unfolding signal_of last_signal
 signal_is s [] port found = refl
-signal_is s (c ∷ cs) port found = ap (signal_of s cs port) (step (same c.port port)) ∙ signal_is s cs port (cond (same c.port port) (some c.signal) found)
+signal_is s (c ∷ cs) port found = ap (signal_of s cs port) (step (same c.port port)) ∙ signal_is s cs port (cond (same c.port port) (Some c.signal) found)
   where
-    step : (b : Bool) → cond b (some (hier s c.signal)) (hier_of s found) ≡ hier_of s (cond b (some c.signal) found)
+    step : (b : Bool) → cond b (Some (hier s c.signal)) (hier_of s found) ≡ hier_of s (cond b (Some c.signal) found)
     step true = refl
     step false = refl
 
 -- what the answer for a port says of its signal
-pub seen_signal : (scope : List Bytes) (mem : Bytes) (table : List ℕ) (n : ℕ) (port : Bytes) (r : ℕ) → ControlSeen mem table n port r → signal_of (scope_setting scope) (controls_of (table_names mem table n)) port none ≡ hier_of (scope_setting scope) (signal_at mem table r)
-seen_signal scope mem table n port r seen = signal_is (scope_setting scope) (controls_of (table_names mem table n)) port none ∙ ap (hier_of (scope_setting scope)) (sym seen.says)
+pub seen_signal : (scope : List Bytes) (mem : Bytes) (table : List ℕ) (n : ℕ) (port : Bytes) (r : ℕ) → ControlSeen mem table n port r → signal_of (scope_setting scope) (controls_of (table_names mem table n)) port None ≡ hier_of (scope_setting scope) (signal_at mem table r)
+seen_signal scope mem table n port r seen = signal_is (scope_setting scope) (controls_of (table_names mem table n)) port None ∙ ap (hier_of (scope_setting scope)) (sym seen.says)
 
 -- ---- of every setting with that scope
 
 signal_same : (s : Setting) (cs : List Control) (port : Bytes) (found : Option Bytes) → signal_of (scope_setting s.scope) cs port found ≡ signal_of s cs port found
 unfolding signal_of
 signal_same s [] port found = refl
-signal_same s (c ∷ cs) port found = signal_same s cs port (cond (same c.port port) (some (hier s c.signal)) found)
+signal_same s (c ∷ cs) port found = signal_same s cs port (cond (same c.port port) (Some (hier s c.signal)) found)
 
 piece_same : (s : Setting) (cs : List Control) (t : Bytes) → piece_text (scope_setting s.scope) cs t ≡ piece_text s cs t
 unfolding piece_text
 piece_same s cs [] = refl
-piece_same s cs (b ∷ t) = ap (λ (o : Option Bytes). cond (is_variable b) (word_text o (word_at (b ∷ t))) (b ∷ [])) (signal_same s cs (word_at (b ∷ t)) none)
+piece_same s cs (b ∷ t) = ap (λ (o : Option Bytes). cond (is_variable b) (word_text o (word_at (b ∷ t))) (b ∷ [])) (signal_same s cs (word_at (b ∷ t)) None)
 
 rewrite_same : (more : Bytes → ℕ) (f g : Bytes → Bytes) → ((t : Bytes) → f t ≡ g t) → (k : ℕ) (t : Bytes) → rewrite more f k t ≡ rewrite more g k t
 unfolding rewrite
@@ -73,7 +72,7 @@ pub unknowns_same : (s : Setting) (cs : List Control) (k : ℕ) (e : Bytes) → 
 unfolding unknowns
 unknowns_same s cs k [] = refl
 unknowns_same s cs zero (b ∷ t) =
-    ap₂ (λ (o : Option Bytes) (l : List Bytes). cond (is_variable b) (unless_known o (word_at (b ∷ t))) [] ++ l) (signal_same s cs (word_at (b ∷ t)) none) (unknowns_same s cs (word_more (b ∷ t)) t)
+    ap₂ (λ (o : Option Bytes) (l : List Bytes). cond (is_variable b) (unless_known o (word_at (b ∷ t))) [] ++ l) (signal_same s cs (word_at (b ∷ t)) None) (unknowns_same s cs (word_more (b ∷ t)) t)
 unknowns_same s cs (suc k) (b ∷ t) = unknowns_same s cs k t
 
 -- less than a port and a signal is no control port

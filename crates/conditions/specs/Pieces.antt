@@ -1,8 +1,7 @@
 -- Laws: a condition piece by piece, for all who read it so. Assumes nothing.
-use Rattle.std.specs.Prelude.{ℕ, zero, suc, ◌+◌, ◌≤◌, ◌<◌, ◌≡◌, Bool, true, false, cond, List, [], ◌∷◌, ◌++◌, length, take, drop}
+use Rattle.std.specs.Prelude.{ℕ, zero, suc, ◌+◌, ◌≤◌, ◌<◌, ◌≡◌, Bool, true, false, cond, List, [], ◌∷◌, ◌++◌, length, take, drop, Option, None, Some}
 use Rattle.std.proofs.Common.{arith, ◌∙◌, length-drop, length-append}
 use Rattle.std.proofs.Math.Path.{refl}
-use Rattle.std.proofs.Math.Option.{Option, none, some}
 use Rattle.text.specs.Ascii.{Bytes}
 use Rattle.text.specs.Classes.{is_digit, is_variable}
 use Rattle.text.specs.Scan.{all, before}
@@ -64,11 +63,11 @@ module _ (s : Setting) (cs : List Control) (b : ℕ) (t : Bytes) where
     n_is : n ≡ suc (before no_variable t)
     n_is = e ∙ word_is b t v
 
-    pub condition_word : condition s cs (b ∷ t) ≡ word_text (signal_of s cs (take n (b ∷ t)) none) (take n (b ∷ t)) ++ condition s cs (drop n (b ∷ t))
+    pub condition_word : condition s cs (b ∷ t) ≡ word_text (signal_of s cs (take n (b ∷ t)) None) (take n (b ∷ t)) ++ condition s cs (drop n (b ∷ t))
     unfolding rewrite piece_text
     condition_word = rw (v, at_is b t v, more_is b t v, rewrite_skip word_more (piece_text s cs) (before no_variable t) t, n_is)
 
-    pub unknowns_word : unknowns s cs 0 (b ∷ t) ≡ unless_known (signal_of s cs (take n (b ∷ t)) none) (take n (b ∷ t)) ++ unknowns s cs 0 (drop n (b ∷ t))
+    pub unknowns_word : unknowns s cs 0 (b ∷ t) ≡ unless_known (signal_of s cs (take n (b ∷ t)) None) (take n (b ∷ t)) ++ unknowns s cs 0 (drop n (b ∷ t))
     unfolding unknowns
     unknowns_word = rw (v, at_is b t v, more_is b t v, unknowns_skip s cs (before no_variable t) t, n_is)
 
@@ -77,8 +76,8 @@ module _ (s : Setting) (cs : List Control) (b : ℕ) (t : Bytes) where
 
 -- no more of them than there are bytes
 unless_few : (o : Option Bytes) (w : Bytes) → length (unless_known o w) ≤ 1
-unless_few (some sig) w = omega arith
-unless_few none w = go (all is_digit w) (format1 "power switch state uses unknown control port '{0}'" w)
+unless_few (Some sig) w = omega arith
+unless_few None w = go (all is_digit w) (format1 "power switch state uses unknown control port '{0}'" w)
   where
     go : (b : Bool) (t : Bytes) → length (cond b [] (t ∷ [])) ≤ 1
     go true t = omega arith
@@ -89,7 +88,7 @@ unfolding unknowns
 unknowns_few s cs k [] = omega arith
 unknowns_few s cs zero (b ∷ t) = go (is_variable b) (unknowns_few s cs (word_more (b ∷ t)) t)
   where
-    go : (v : Bool) → length (unknowns s cs (word_more (b ∷ t)) t) ≤ length t → length (cond v (unless_known (signal_of s cs (word_at (b ∷ t)) none) (word_at (b ∷ t))) [] ++ unknowns s cs (word_more (b ∷ t)) t) ≤ suc (length t)
-    go true h = omega (arith, length-append (unless_known (signal_of s cs (word_at (b ∷ t)) none) (word_at (b ∷ t))) (unknowns s cs (word_more (b ∷ t)) t), unless_few (signal_of s cs (word_at (b ∷ t)) none) (word_at (b ∷ t)))
+    go : (v : Bool) → length (unknowns s cs (word_more (b ∷ t)) t) ≤ length t → length (cond v (unless_known (signal_of s cs (word_at (b ∷ t)) None) (word_at (b ∷ t))) [] ++ unknowns s cs (word_more (b ∷ t)) t) ≤ suc (length t)
+    go true h = omega (arith, length-append (unless_known (signal_of s cs (word_at (b ∷ t)) None) (word_at (b ∷ t))) (unknowns s cs (word_more (b ∷ t)) t), unless_few (signal_of s cs (word_at (b ∷ t)) None) (word_at (b ∷ t)))
     go false h = omega arith
 unknowns_few s cs (suc k) (b ∷ t) = let h : length (unknowns s cs k t) ≤ length t = unknowns_few s cs k t in omega arith

@@ -4,7 +4,7 @@ use Prim.Native.Nat.{ℕ, suc, ◌+◌, ◌-◌, ◌≤◌, ◌<◌, ◌^◌}
 use mathlib.Core.Path.{◌≡◌, refl, sym, ap, ◌∙◌}
 use mathlib.Core.Bool.{true, false}
 use mathlib.Core.List.{List, [], ◌∷◌, ◌++◌, flat_map, append-nil}
-use mathlib.Core.Option.{none, some}
+use Rattle.std.specs.Prelude.{None, Some}
 use native.Mathlib.Omega.{arith}
 use native.Mathlib.Nat.{sub-zero}
 use lib.ListN.{length, take, length-append}
@@ -109,7 +109,7 @@ module _ (job : Bytes) (index : List ℕ) (count k : ℕ) (table : List ℕ) (fi
         pub elements_pass : row ≡ 0 → Elements job index count k table files area n entries elements m prefix tail₀ text₀ ends₀ total all text ends w (i + 1)
         unfolding row_is element_entered element_list
         elements_pass z =
-            let o : module_at d base (filled_parts (name_of mem e)) ≡ none = sym seen.says ∙ rw z in
+            let o : module_at d base (filled_parts (name_of mem e)) ≡ None = sym seen.says ∙ rw z in
             let x : element_entered d base [] entries (name_of mem e) ≡ 0 = rw o in
             let y : element_list d base [] entries (name_of mem e) ≡ [] = rw o in
             record {
@@ -139,7 +139,7 @@ module _ (job : Bytes) (index : List ℕ) (count k : ℕ) (table : List ℕ) (fi
               }
 
           module _ (tail tail' : Bytes) (w' : Walk) (text' : Bytes) (ends' : List ℕ) (a : Walked job table (row - 1) 32 mem entries e tail tail' 0 prefix w.entered (paths_of text ends w.count) w' text' ends') where
-            found : module_at d base (filled_parts (name_of mem e)) ≡ some (module_row job index (row - 1))
+            found : module_at d base (filled_parts (name_of mem e)) ≡ Some (module_row job index (row - 1))
             unfolding row_is
             found = let y : row ≡ suc (row - 1) = omega arith in sym seen.says ∙ ap (row_is job index) y
 

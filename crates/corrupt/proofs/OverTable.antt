@@ -3,7 +3,7 @@ use Prim.Native.Nat.{ℕ, zero, suc, ◌+◌, ◌≤◌, ◌<◌}
 use mathlib.Core.Path.{◌≡◌, refl, sym, ap, ap₂, subst, ◌∙◌}
 use mathlib.Core.Logic.{⊎_elim}
 use mathlib.Core.Bool.{cond}
-use mathlib.Core.Option.{Option, none, some}
+use Rattle.std.specs.Prelude.{Option, None, Some}
 use mathlib.Core.List.{List, [], ◌∷◌, ◌++◌, map, flat_map, append_assoc, append-nil}
 use mathlib.Core.List.Memᴰ.{cases_cons}
 use mathlib.Core.List.Memᴰ.{head as here}
@@ -57,8 +57,8 @@ module _ (d : List Module) where
     where
       go : (o : Option Module) → flat_map (λ (i : Inst). on_some (entered d i) [] λ m. f m i.name) is ≡ flat_map (λ (w : Way). f w.into w.name) (ways_down d is)
           → on_some o [] (λ m. f m i.name) ++ flat_map (λ (i : Inst). on_some (entered d i) [] λ m. f m i.name) is ≡ flat_map (λ (w : Way). f w.into w.name) (on_some o (ways_down d is) λ m. record { name = i.name; into = m } ∷ ways_down d is)
-      go none h = h
-      go (some m) h = ap (λ (y : List Bytes). f m i.name ++ y) h
+      go None h = h
+      go (Some m) h = ap (λ (y : List Bytes). f m i.name ++ y) h
 
   sums_down : (f : Module → Bytes → ℕ) (is : List Inst) → sum_over (λ (i : Inst). on_some (entered d i) 0 λ m. f m i.name) is ≡ sum_over (λ (w : Way). f w.into w.name) (ways_down d is)
   unfolding sum_over ways_down
@@ -67,8 +67,8 @@ module _ (d : List Module) where
     where
       go : (o : Option Module) → sum_over (λ (i : Inst). on_some (entered d i) 0 λ m. f m i.name) is ≡ sum_over (λ (w : Way). f w.into w.name) (ways_down d is)
           → on_some o 0 (λ m. f m i.name) + sum_over (λ (i : Inst). on_some (entered d i) 0 λ m. f m i.name) is ≡ sum_over (λ (w : Way). f w.into w.name) (on_some o (ways_down d is) λ m. record { name = i.name; into = m } ∷ ways_down d is)
-      go none h = omega (arith, h)
-      go (some m) h = ap (λ y. f m i.name + y) h
+      go None h = omega (arith, h)
+      go (Some m) h = ap (λ y. f m i.name + y) h
 
   ways_short : (n : ℕ) (is : List Inst) → ((i : Inst) → Mem i is → length i.name ≤ n) → (w : Way) → Mem w (ways_down d is) → length w.name ≤ n
   unfolding ways_down
@@ -76,8 +76,8 @@ module _ (d : List Module) where
   ways_short n (i ∷ is) h w m = go (entered d i) (ways_short n is (λ x y. h x (there y)) w) m
     where
       go : (o : Option Module) → (Mem w (ways_down d is) → length w.name ≤ n) → Mem w (on_some o (ways_down d is) λ m. record { name = i.name; into = m } ∷ ways_down d is) → length w.name ≤ n
-      go none r m = r m
-      go (some x) r m = ⊎_elim (λ e. omega (arith, ap (λ (y : Way). length y.name) e, h i (here refl))) r (cases_cons m)
+      go None r m = r m
+      go (Some x) r m = ⊎_elim (λ e. omega (arith, ap (λ (y : Way). length y.name) e, h i (here refl))) r (cases_cons m)
 
 -- ---- the walk
 

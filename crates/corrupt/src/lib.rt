@@ -22,6 +22,7 @@ use names::name::Name;
 mod marks;
 
 // Puts a dot behind a module's path, where it is not empty: what is below it begins there.
+#[tactic(auto, using(crate::proofs::OwnNames::stems))]
 fn stem(tail: &mut [u8], elen: usize, t: usize) -> usize
     requires { (elen < 2 ^ 36) × (t < length tail.old) }
     ensures { Stemmed elen t tail.old tail.new result }
@@ -34,6 +35,7 @@ fn stem(tail: &mut [u8], elen: usize, t: usize) -> usize
 }
 
 // The names that module k loses itself, below the element and the tail; the module is counted. `h` is the element's number.
+#[tactic(auto, using(crate::proofs::OwnNames::owns))]
 fn own(
     job: &[u8],
     table: &[u32],
@@ -52,29 +54,22 @@ fn own(
     requires { OwnGiven job.now table.now k (files.now ++ area.now) e elen h tail.now × Ready prefix s text.old ends.old }
     ensures { Answer prefix (s.entered + 1) (add_all (paths_of text.old ends.old s.count) (map (λ n. dotted (name_of (files.now ++ area.now) e) ++ (tail.now ++ n)) (names_of job.now table.now k))) result text.new ends.new }
 {
-    let entered = s.entered;
-    if entered == 4096 {
+    if s.entered == 4096 {
         return listing::refused();
     }
     let mut w = Walk {
         over: false,
-        entered: entered + 1,
-        count: s.count,
-        end: s.end,
-        used: s.used,
-        stamp: s.stamp,
+        entered: s.entered + 1,
+        ..s
     };
     let number = pathnumber::number_on(h, tail);
     let z = modtable::name_count(table, k);
-    let mut i = 0;
-    while i < z {
+    for i in 0..z {
         let n = modtable::name(job, table, k, i);
         w = listing::add(files, area, e, elen, tail, n, number, prefix, text, ends, w);
-        let over = w.over;
-        if over {
+        if w.over {
             return w;
         }
-        i += 1;
     }
     w
 }
@@ -142,8 +137,7 @@ fn corruptible(
         return w;
     }
     let z = modtable::way_count(table, k);
-    let mut j = 0;
-    while j < z {
+    for j in 0..z {
         let v = out::emit::put(tail, u, modtable::way_name(job, table, k, j));
         w = corruptible(
             job,
@@ -170,7 +164,6 @@ fn corruptible(
         if over {
             return w;
         }
-        j += 1;
     }
     w
 }
@@ -200,12 +193,10 @@ fn marked_paths(
     ensures { Answer prefix (domain_entered (modules job.now index.now count) (module_row job.now index.now k) [] (entries_below below (table_names (files.now ++ area.now) retained.now n)) (table_names (files.now ++ area.now) elements.now m)) (domain_list (modules job.now index.now count) (module_row job.now index.now k) [] (entries_below below (table_names (files.now ++ area.now) retained.now n)) (table_names (files.now ++ area.now) elements.now m)) result text.new ends.new }
 {
     let mut w = listing::start(stamp);
-    let mut i = 0;
-    while i < m {
+    for i in 0..m {
         let e = nametable::row(elements, i);
         let row = elements::element_module(job, index, count, k, files, area, e);
         if row == 0 {
-            i += 1;
             continue;
         }
         let elen = paths::entry::size(files, area, e);
@@ -231,11 +222,9 @@ fn marked_paths(
             w,
             marks,
         );
-        let over = w.over;
-        if over {
+        if w.over {
             return w;
         }
-        i += 1;
     }
     w
 }
@@ -243,6 +232,7 @@ fn marked_paths(
 // The paths that a domain loses, whose elements are the first m names of `elements` and are looked up from module k. `retained` has n entries;
 // `below` says that the scope is not the top, and `prefix` what its path adds to each path. `stamp` tells the flags of
 // this walk from those of the walks before it.
+#[tactic(auto, using(crate::proofs::Marking::empties))]
 pub fn domain_paths(
     job: &[u8],
     index: &[u32],
@@ -271,7 +261,7 @@ pub fn domain_paths(
             tail, text, ends, stamp, b"",
         );
     }
-    let mut marks: [u8; 32768] = [0; 32768];
+    let mut marks = [0u8; 32768];
     marks::mark(files, area, retained, n, &mut marks);
     marked_paths(
         job, index, count, k, table, files, area, retained, n, below, elements, m, prefix, tail,

@@ -12,16 +12,15 @@ ghost use Rattle.corrupt.specs.Marked.{mark_count, Marked};
 use names::name::Name;
 
 // Sets the marks of the first n entries of a table.
+#[tactic(auto, using(crate::proofs::Marking::marking))]
 pub fn mark(files: &[u8], area: &[u8], table: &[u32], n: usize, marks: &mut [u8])
     requires { (n ≤ 65536) × (mark_count ≤ length marks.old) }
     ensures { Marked marks.new (table_names (files.now ++ area.now) table.now n) }
 {
-    let mut k = 0;
-    while k < n {
+    for k in 0..n {
         let y = nametable::row(table, k);
         let i = pathnumber::element_number(files, area, y) % 32768;
         marks[i] = 1;
-        k += 1;
     }
 }
 

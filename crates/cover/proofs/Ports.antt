@@ -1,10 +1,11 @@
 -- The ports of an element: each law is stated as a need asks it. Assumes nothing.
+use Rattle.std.specs.Prelude.{Option}
 use Prim.Native.Nat.{ℕ, ◌+◌, ◌-◌, ◌≤◌, ◌<◌, ◌^◌}
 use native.Mathlib.Omega.{arith}
 use mathlib.Core.Path.{◌≡◌, refl, sym, ap, ◌∙◌}
 use mathlib.Core.Bool.{Bool, true, false, not}
 use mathlib.Core.List.{List, [], ◌∷◌, ◌++◌, append-nil}
-use mathlib.Core.Option.{none, some}
+use Rattle.std.specs.Prelude.{None, Some}
 use lib.ListN.{length, take, length-append, length-take}
 use lib.Seq.{take-take}
 use borrow.Author.Rules.{rules}
@@ -28,7 +29,6 @@ use Rattle.ports.specs.Starts.{outputs_start}
 use Rattle.ports.specs.declared.Cursor.{Cursor}
 use Rattle.ports.specs.declared.Cursor.TheVariants as cursor
 use Rattle.ports.specs.declared.Step.{Step}
-use Rattle.ports.specs.declared.Step.TheVariants as step
 use Rattle.refs.specs.Text.{no_name, text_of, whole_ref, front_ref, job_ref}
 use Rattle.refs.specs.Laws.{none_is, whole_is, front_is, job_is}
 use Rattle.refs.specs.declared.Ref.{Ref}
@@ -125,8 +125,8 @@ module _ (job mem : Bytes) (number : ℕ) (e : Name) (upto : ℕ) where
   net_for_lem : (x : Isolated) → name_of mem x.element ≡ name_of mem e → x.upto ≡ upto → (p : Bytes) → text_of job mem (net_ref x) ≡ take upto (name_of mem e) ++ p
       → (ps : List Bytes) → ((n : Bytes) → below_parent (front_parts ps) n ≡ take upto (name_of mem e) ++ n) → (r : Net) → net_for job mem x r ≡ net_below ps (net_is job p r)
   net_for_lem x h u p own ps front net.None = refl
-  net_for_lem x h u p own ps front net.Own = ap (λ (w : Bytes). some w) (own ∙ sym (front p))
-  net_for_lem x h u p own ps front (net.Of n) = ap (λ (w : Bytes). some w) (net_of_lem x h u n ∙ sym (front (spanned job n)))
+  net_for_lem x h u p own ps front net.Own = ap (λ (w : Bytes). Some w) (own ∙ sym (front p))
+  net_for_lem x h u p own ps front (net.Of n) = ap (λ (w : Bytes). Some w) (net_of_lem x h u n ∙ sym (front (spanned job n)))
 
 -- ---- one port of an instance
 
@@ -193,13 +193,13 @@ module _ (job : Bytes) (index : List ℕ) (mem : Bytes) (warn : Bool) (c₀ : Co
     pub goes_here : CursorAt job index p.sub cu
     goes_here = inv.here
 
-    module _ (r : Step) (seen : OutputSeen job index p.sub cu r) where
-      pub goes_end : r ≡ step.End → Answer job mem warn c₀ out₀ (all_gain job index mem t₀ number name e p c₀) x out t
+    module _ (r : Option Step) (seen : OutputSeen job index p.sub cu r) where
+      pub goes_end : r ≡ None → Answer job mem warn c₀ out₀ (all_gain job index mem t₀ number name e p c₀) x out t
       goes_end h =
           let n : outputs_from job index p.sub cu ≡ [] = sym (rw h at seen.says) in
           turn_end job mem warn c₀ out₀ (all_gain job index mem t₀ number name e p c₀) x out t (gains number name (left_aims job index e p (outputs_from job index p.sub cu))) inv.turn (λ l. rw n (gains_none number name l))
 
-      module _ (n : Part) (next : Cursor) (h : r ≡ step.Name n next) where
+      module _ (n : Part) (next : Cursor) (h : r ≡ Some (record { name = n; next = next })) where
         names_are : outputs_from job index p.sub cu ≡ spanned job n ∷ outputs_from job index p.sub next
         names_are = sym (rw h at seen.says)
 
@@ -234,7 +234,7 @@ module _ (job : Bytes) (index : List ℕ) (mem : Bytes) (warn : Bool) (c₀ : Co
 
       pub goes_on : (n : Part) (next : Cursor) (q : Cover) (out' : Bytes) (t' : List ℕ)
           → Answer job mem warn x out (gain_of number name (part_aim job e (conns_in (section job p.conns (insts_end index p.parent))) (module_row job index p.sub) n) (kept_in job mem t x.ports)) q out' t'
-          → q.over ≡ false → r ≡ step.Name n next → Goes job index mem warn c₀ out₀ t₀ number name e p q out' t' next
+          → q.over ≡ false → r ≡ Some (record { name = n; next = next }) → Goes job index mem warn c₀ out₀ t₀ number name e p q out' t' next
       goes_on n next q out' t' a o h = goes_next n next h q out' t' a o
 
 pub ruleset goings = (rules, output_sub, goes_start, goes_ready, goes_here, goes_end, goes_less, goes_stop, goes_next)
@@ -257,13 +257,13 @@ module _ (job : Bytes) (index : List ℕ) (count k : ℕ) (files area : Bytes) (
 
   -- nothing, or an instance
   module _ (t : Bytes) (p : Place) (seen : PlaceSeen job index count k t p) where
-    none_there : not p.found ≡ true → instance_at (modules job index count) (module_row job index k) (parts t) ≡ none
+    none_there : not p.found ≡ true → instance_at (modules job index count) (module_row job index k) (parts t) ≡ None
     none_there h = sym (rw (not-true p.found h) at seen.is)
 
     abbrev there : Instance
     there = record { parent = module_row job index p.parent; conns = conns_in (section job p.conns (insts_end index p.parent)); sub = module_row job index p.sub }
 
-    one_there : not p.found ≡ false → instance_at (modules job index count) (module_row job index k) (parts t) ≡ some there
+    one_there : not p.found ≡ false → instance_at (modules job index count) (module_row job index k) (parts t) ≡ Some there
     one_there h = sym (rw (not-false p.found h) at seen.is)
 
   module _ (e : Name) (r : Ref) (er : r ≡ whole_ref e) (p : Place) (seen : PlaceSeen job index count k (text_of job (files ++ area) r) p) where

@@ -1,6 +1,5 @@
 -- The ports that a strategy's elements aim at, by the module lines. Assumes nothing.
-use Rattle.std.specs.Prelude.{cond, List, [], ◌∷◌, ◌++◌, map}
-use Rattle.std.proofs.Math.Option.{Option, none, some}
+use Rattle.std.specs.Prelude.{cond, List, [], ◌∷◌, ◌++◌, map, Option, None, Some}
 use Rattle.text.specs.Ascii.{Bytes, ascii, byte}
 use Rattle.text.specs.Scan.{any, is}
 use Rattle.joblines.specs.Job.{Conn, Module}
@@ -17,8 +16,8 @@ use Rattle.keep.specs.Gains.{Aim}
 
 -- a port p of the instance that the parts lead to: its net below the scope
 abbrev pub net_below : List Bytes → Option Bytes → Option Bytes
-net_below ps none = none
-net_below ps (some n) = some (below_parent (front_parts ps) n)
+net_below ps None = None
+net_below ps (Some n) = Some (below_parent (front_parts ps) n)
 
 abbrev pub port_aim : List Bytes → Bytes → List Conn → Module → Bytes → Aim
 port_aim ps key conns sub p = record { key = key; net = net_below ps (actual_of conns sub p) }

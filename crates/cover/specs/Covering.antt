@@ -1,9 +1,8 @@
 -- Theorem: what the definitions cover is what is gained from the ports that are aimed at. Assumes nothing.
-use Rattle.std.specs.Prelude.{ℕ, ◌≡◌, Bool, true, false, cond}
+use Rattle.std.specs.Prelude.{ℕ, ◌≡◌, Bool, true, false, cond, Option, None, Some}
 use Rattle.std.proofs.Math.Path.{refl, sym, ap, ap₂}
 use Rattle.std.proofs.Common.{◌∙◌}
 use mathlib.Core.List.{List, [], ◌∷◌, ◌++◌, map, flat_map, append_assoc, append-nil}
-use Rattle.std.proofs.Math.Option.{Option, none, some}
 use Rattle.text.specs.Ascii.{Bytes, ascii, byte}
 use Rattle.text.specs.Scan.{any, is}
 use Rattle.out.specs.Fill.{format3, fill, filled, adds, turns, arg, pick}
@@ -25,8 +24,8 @@ use Rattle.cover.specs.Aims.{net_below, port_aim, port_aims, output_aims, slash_
 
 abbrev pub aims_by : Bytes → Resolved → List Aim
 aims_by key Resolved.absent = []
-aims_by key Resolved.not_plain_lem = record { key = key; net = none } ∷ []
-aims_by key (Resolved.net n) = record { key = key; net = some n } ∷ []
+aims_by key Resolved.not_plain_lem = record { key = key; net = None } ∷ []
+aims_by key (Resolved.net n) = record { key = key; net = Some n } ∷ []
 
 unfoldable pub target_aims : Setting → List Target → List Aim
 target_aims s [] = []
@@ -41,10 +40,10 @@ aims_append s (t ∷ ts) us = ap (λ (l : List Aim). aims_by (key_of t) (resolve
 
 module _ (s : Setting) where
   comes_aims : (key : Bytes) (ps : List Bytes) (o : Option Bytes) → aims_by key (on_some o Resolved.not_plain_lem λ n. Resolved.net (below_parent (front_parts ps) n)) ≡ record { key = key; net = net_below ps o } ∷ []
-  comes_aims key ps none = refl
-  comes_aims key ps (some n) = refl
+  comes_aims key ps None = refl
+  comes_aims key ps (Some n) = refl
 
-  ports_aims : (e : Bytes) (x : Instance) → instance_at s.design s.base (parts e) ≡ some x → (ps : List Bytes) → target_aims s (map (λ p. aimed e p) ps) ≡ port_aims e x.conns x.sub ps
+  ports_aims : (e : Bytes) (x : Instance) → instance_at s.design s.base (parts e) ≡ Some x → (ps : List Bytes) → target_aims s (map (λ p. aimed e p) ps) ≡ port_aims e x.conns x.sub ps
   unfolding target_aims
   ports_aims e x h [] = refl
   ports_aims e x h (p ∷ ps) =
@@ -56,8 +55,8 @@ module _ (s : Setting) where
   outputs_aims e = ap (target_aims s) (outputs_is s e) ∙ go (instance_at s.design s.base (parts e)) refl
     where
       go : (o : Option Instance) → instance_at s.design s.base (parts e) ≡ o → target_aims s (on_some o [] λ x. map (λ p. aimed e p) (output_ports x.sub)) ≡ on_some o [] λ x. port_aims e x.conns x.sub (output_ports x.sub)
-      go none h = refl
-      go (some x) h = ports_aims e x h (output_ports x.sub)
+      go None h = refl
+      go (Some x) h = ports_aims e x h (output_ports x.sub)
 
   slash_aims_lem : (e : Bytes) → any (is (byte "/")) e ≡ true → target_aims s (aimed (up e) (last_part (parts e)) ∷ []) ≡ slash_aims s.design s.base e
   unfolding target_aims
@@ -66,8 +65,8 @@ module _ (s : Setting) where
       rw (append-nil (aims_by (key_of (aimed (up e) (last_part (parts e)))) (resolved s (aimed (up e) (last_part (parts e))))), k, resolved_is s (aimed (up e) (last_part (parts e)))) (go (instance_at s.design s.base (parts (up e))))
     where
       go : (o : Option Instance) → aims_by e (on_some o Resolved.absent λ x. comes (parts (up e)) (last_part (parts e)) x.conns x.sub) ≡ on_some o [] λ x. port_aim (parts (up e)) e x.conns x.sub (last_part (parts e)) ∷ []
-      go none = refl
-      go (some x) = comes_aims e (parts (up e)) (actual_of x.conns x.sub (last_part (parts e)))
+      go None = refl
+      go (Some x) = comes_aims e (parts (up e)) (actual_of x.conns x.sub (last_part (parts e)))
 
   pub element_aims_lem : (e : Bytes) → target_aims s (element_targets s e) ≡ element_aims s.design s.base e
   element_aims_lem e = go (any (is (byte "/")) e) refl

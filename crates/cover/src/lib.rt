@@ -126,17 +126,14 @@ fn cover_ports<'a>(
 {
     let mut x = c;
     let mut cursor = ports::first(index, p.sub);
-    loop {
-        let r = ports::next_output(job, index, p.sub, cursor);
-        let Port::Name { name, next } = r else {
-            return x;
-        };
+    while let Some(Port { name, next }) = ports::next_output(job, index, p.sub, cursor) {
         cursor = next;
         x = cover_output(out, warn, job, index, files, area, ports, x, s, e, p, name);
         if x.over {
             return x;
         }
     }
+    x
 }
 
 // All output ports of the instance that an element is.

@@ -64,8 +64,7 @@ pub fn cover_all<'a>(
     ensures { Answer job.now (files.now ++ area.now) warn c out.old (gains s.number (name_of (files.now ++ area.now) s.name) (flat_map (aims_for outputs (modules job.now index.now count) (module_row job.now index.now k)) (table_names (files.now ++ area.now) table.now n)) (kept_in job.now (files.now ++ area.now) ports.old c.ports)) result out.new ports.new }
 {
     let mut x = c;
-    let mut i = 0;
-    while i < n {
+    for i in 0..n {
         let e = row(table, i);
         x = cover_one(
             out, warn, job, index, count, k, files, area, ports, x, s, outputs, e,
@@ -73,7 +72,6 @@ pub fn cover_all<'a>(
         if x.over {
             return x;
         }
-        i += 1;
     }
     x
 }

@@ -1,6 +1,6 @@
 -- A deed carried out, as the code does it: whether it is refused, how many rows and warnings there are with it, the row in the store, the record in its
 -- table; and that this is what the deed comes to. Assumes nothing.
-use Rattle.std.specs.Prelude.{ℕ, ◌+◌, ◌-◌, ◌≡◌, refl, Bool, true, false, cond, List, leb}
+use Rattle.std.specs.Prelude.{ℕ, ◌+◌, ◌≡◌, refl, Bool, true, false, cond, List, leb}
 use Rattle.std.proofs.Common.{sym}
 use Rattle.text.specs.Sames.{no_true}
 use Rattle.store.specs.Rows.{row_put_lem}

@@ -8,10 +8,9 @@ ghost use Rattle.deeds.specs.Deeds.{refused_by, rows_by, warnings_by, row_by, de
 use made::Deed;
 use store::row::{Row, put_row};
 use store::state::{
-    Domain, Domains, Head, Isolation, Isolations, Nets, Port, PortState, PortStates, Ports,
-    Retention, Retentions, Shifter, Shifters, Switch, Switches, Table, Tables, Variables,
+    Domain, Few, Head, Isolation, Port, PortState, Retention, Shifter, Switch, Table, Variables,
 };
-use store::stored::{Below, Maybe, Stored};
+use store::stored::{Stored, empty};
 
 // Whether a reading limit is passed, where there are so many warnings.
 pub fn refused(d: Deed, warnings: usize) -> bool
@@ -33,7 +32,7 @@ pub fn put_deed(nums: &mut [u32], rows: usize, warnings: usize, d: Deed)
         Deed::Row(r) => put_row(nums, rows, r),
         Deed::Warning(kind, name) => {
             if warnings < 256 {
-                let z = Stored { at: 0, len: 0 };
+                let z = empty();
                 let r = Row {
                     kind: kind,
                     scope: z,
@@ -53,8 +52,7 @@ pub fn rows_with(d: Deed, rows: usize) -> usize
     ensures { result ≡ rows_by d rows }
 {
     match d {
-        Deed::Warning(_, _) => rows + 1,
-        Deed::Row(_) => rows + 1,
+        Deed::Warning(_, _) | Deed::Row(_) => rows + 1,
         _ => rows,
     }
 }
@@ -71,110 +69,13 @@ pub fn warnings_with(d: Deed, warnings: usize) -> usize
 }
 
 // A record more.
-pub fn add_domain(s: Domains, x: Domain) -> Domains
+pub fn add<T: Copy>(s: Few<T>, x: T) -> Few<T>
     requires { s.n < 32 }
     ensures { result ≡ record { n = s.n + 1; all = set s.all s.n x } }
 {
     let mut t = s;
-    let i = t.n;
-    t.all[i] = x;
-    t.n = i + 1;
-    t
-}
-
-// A record more.
-pub fn add_net(s: Nets, x: Below) -> Nets
-    requires { s.n < 32 }
-    ensures { result ≡ record { n = s.n + 1; all = set s.all s.n x } }
-{
-    let mut t = s;
-    let i = t.n;
-    t.all[i] = x;
-    t.n = i + 1;
-    t
-}
-
-// A record more.
-pub fn add_port(s: Ports, x: Port) -> Ports
-    requires { s.n < 32 }
-    ensures { result ≡ record { n = s.n + 1; all = set s.all s.n x } }
-{
-    let mut t = s;
-    let i = t.n;
-    t.all[i] = x;
-    t.n = i + 1;
-    t
-}
-
-// A record more.
-pub fn add_isolation(s: Isolations, x: Isolation) -> Isolations
-    requires { s.n < 32 }
-    ensures { result ≡ record { n = s.n + 1; all = set s.all s.n x } }
-{
-    let mut t = s;
-    let i = t.n;
-    t.all[i] = x;
-    t.n = i + 1;
-    t
-}
-
-// A record more.
-pub fn add_retention(s: Retentions, x: Retention) -> Retentions
-    requires { s.n < 32 }
-    ensures { result ≡ record { n = s.n + 1; all = set s.all s.n x } }
-{
-    let mut t = s;
-    let i = t.n;
-    t.all[i] = x;
-    t.n = i + 1;
-    t
-}
-
-// A record more.
-pub fn add_shifter(s: Shifters, x: Shifter) -> Shifters
-    requires { s.n < 32 }
-    ensures { result ≡ record { n = s.n + 1; all = set s.all s.n x } }
-{
-    let mut t = s;
-    let i = t.n;
-    t.all[i] = x;
-    t.n = i + 1;
-    t
-}
-
-// A record more.
-pub fn add_table(s: Tables, x: Table) -> Tables
-    requires { s.n < 32 }
-    ensures { result ≡ record { n = s.n + 1; all = set s.all s.n x } }
-{
-    let mut t = s;
-    let i = t.n;
-    t.all[i] = x;
-    t.n = i + 1;
-    t
-}
-
-// A record more.
-pub fn add_switch(s: Switches, x: Switch) -> Switches
-    requires { s.n < 32 }
-    ensures { result ≡ record { n = s.n + 1; all = set s.all s.n x } }
-{
-    let mut t = s;
-    let i = t.n;
-    t.all[i] = x;
-    t.n = i + 1;
-    t
-}
-
-// A record more.
-pub fn add_port_state(s: PortStates, x: PortState) -> PortStates
-    requires { s.n < 32 }
-    ensures { result ≡ record { n = s.n + 1; all = set s.all s.n x } }
-{
-    let mut t = s;
-    let i = t.n;
-    t.all[i] = x;
-    t.n = i + 1;
+    t.all[t.n] = x;
+    t.n += 1;
     t
 }
 
@@ -193,18 +94,8 @@ pub fn add_variable(s: Variables, name: Stored, value: Stored) -> Variables
     t
 }
 
-// Domain i anew.
-pub fn set_domain(s: Domains, i: usize, x: Domain) -> Domains
-    requires { i < 32 }
-    ensures { result ≡ record { n = s.n; all = set s.all i x } }
-{
-    let mut t = s;
-    t.all[i] = x;
-    t
-}
-
-// Isolation i anew.
-pub fn set_isolation(s: Isolations, i: usize, x: Isolation) -> Isolations
+// Record i anew.
+pub fn replace<T: Copy>(s: Few<T>, i: usize, x: T) -> Few<T>
     requires { i < 32 }
     ensures { result ≡ record { n = s.n; all = set s.all i x } }
 {
@@ -214,12 +105,8 @@ pub fn set_isolation(s: Isolations, i: usize, x: Isolation) -> Isolations
 }
 
 // Another design top.
-pub fn with_top(s: Head, top: Maybe) -> Head
+pub fn with_top(s: Head, top: Option<Stored>) -> Head
     ensures { result ≡ record { scope = s.scope; top = top } }
 {
-    let scope = s.scope;
-    Head {
-        scope: scope,
-        top: top,
-    }
+    Head { top: top, ..s }
 }

@@ -1,10 +1,8 @@
 -- The names in the module lines of an accepted job are NAMEs: of its ports, declarations and instances. So none of them has a dot or is empty.
 -- Assumes nothing.
-use Rattle.std.specs.Prelude.{ℕ, zero, suc, ◌+◌, ◌<◌, ◌≡◌, refl, Bool, cond, ◌&&◌, leb, ltb, length, drop}
+use Rattle.std.specs.Prelude.{ℕ, zero, suc, ◌+◌, ◌<◌, ◌≡◌, refl, Bool, cond, ◌&&◌, leb, ltb, length, drop, option_map, Option, None, Some}
 use Rattle.std.proofs.Common.{sym, subst, ⊎_elim, arith}
 use Rattle.std.proofs.Math.Bool.{true, false, not}
-use Rattle.std.proofs.Math.Option
-use Rattle.std.proofs.Math.Option.{Option, none, some}
 use mathlib.Core.List.{List, [], ◌∷◌, ◌++◌, map}
 use mathlib.Core.List.Memᴰ.{cases_cons}
 use mathlib.Core.List.Memᴰ.{head as here}
@@ -65,51 +63,51 @@ new_module name s = record { ports = λ p at. absurd (not-nil at); decls = λ d 
 
 -- ---- a value that was taken is named
 
-when_true : {A : Type 0} (b : Bool) (x : A) {a : A} → when b x ≡ some a → (b ≡ true) × (x ≡ a)
+when_true : {A : Type 0} (b : Bool) (x : A) {a : A} → when b x ≡ Some a → (b ≡ true) × (x ≡ a)
 when_true true x e = (refl, cc)
 when_true false x e = let z : ◌≡◌ {A = ℕ} 0 1 = cc in absurd (omega arith)
 
-pub no_some : {A : Type 0} {a : A} → ◌≡◌ {A = Option A} none (some a) → ⊥
+pub no_some : {A : Type 0} {a : A} → ◌≡◌ {A = Option A} None (Some a) → ⊥
 no_some e = let z : ◌≡◌ {A = ℕ} 0 1 = cc in absurd (omega arith)
 
-port_named : (s : Style) (fs : List Bytes) {p : Port} → port_of s fs ≡ some p → is_name p.name ≡ true
+port_named : (s : Style) (fs : List Bytes) {p : Port} → port_of s fs ≡ Some p → is_name p.name ≡ true
 unfolding port_of
 port_named s [] e = absurd (no_some e)
 port_named s (d ∷ []) e = absurd (no_some e)
 port_named s (d ∷ n ∷ []) {p} e = go (dir_of d) e
   where
-    go : (o : Option Dir) → as_port s o n ≡ some p → is_name p.name ≡ true
-    go none e = absurd (no_some e)
-    go (some k) e =
+    go : (o : Option Dir) → as_port s o n ≡ Some p → is_name p.name ≡ true
+    go None e = absurd (no_some e)
+    go (Some k) e =
         let r = when_true (may_have s k && is_name n) (record { dir = k; name = n }) e in
         subst (λ (q : Port). is_name q.name ≡ true) r.1 (both (may_have s k) (is_name n) r.0).1
 port_named s (d ∷ n ∷ x ∷ fs) e = absurd (no_some e)
 
-decl_named : (fs : List Bytes) {d : Decl} → decl_of fs ≡ some d → is_name d.name ≡ true
+decl_named : (fs : List Bytes) {d : Decl} → decl_of fs ≡ Some d → is_name d.name ≡ true
 unfolding decl_of
 decl_named [] e = absurd (no_some e)
 decl_named (k ∷ []) e = absurd (no_some e)
 decl_named (k ∷ b ∷ []) e = absurd (no_some e)
 decl_named (k ∷ b ∷ n ∷ []) {d} e = go (kind_of k) (dims_of b) e
   where
-    go : (o : Option Kind) (u : Option Bool) → as_decl o u n ≡ some d → is_name d.name ≡ true
-    go none u e = absurd (no_some e)
-    go (some x) none e = absurd (no_some e)
-    go (some x) (some y) e =
+    go : (o : Option Kind) (u : Option Bool) → as_decl o u n ≡ Some d → is_name d.name ≡ true
+    go None u e = absurd (no_some e)
+    go (Some x) None e = absurd (no_some e)
+    go (Some x) (Some y) e =
         let r = when_true (is_name n) (record { kind = x; dims = y; name = n }) e in
         subst (λ (q : Decl). is_name q.name ≡ true) r.1 r.0
 decl_named (k ∷ b ∷ n ∷ x ∷ fs) e = absurd (no_some e)
 
-inst_named : (fs : List Bytes) {i : Inst} → inst_of fs ≡ some i → is_name i.name ≡ true
+inst_named : (fs : List Bytes) {i : Inst} → inst_of fs ≡ Some i → is_name i.name ≡ true
 unfolding inst_of
 inst_named [] e = absurd (no_some e)
 inst_named (b ∷ []) e = absurd (no_some e)
 inst_named (b ∷ n ∷ []) e = absurd (no_some e)
 inst_named (b ∷ n ∷ m ∷ []) {i} e = go (dims_of b) e
   where
-    go : (o : Option Bool) → as_inst o n m ≡ some i → is_name i.name ≡ true
-    go none e = absurd (no_some e)
-    go (some x) e =
+    go : (o : Option Bool) → as_inst o n m ≡ Some i → is_name i.name ≡ true
+    go None e = absurd (no_some e)
+    go (Some x) e =
         let r = when_true (is_name n && is_name m) (record { dims = x; name = n; type = m; conns = [] }) e in
         subst (λ (q : Inst). is_name q.name ≡ true) r.1 (both (is_name n) (is_name m) r.0).0
 inst_named (b ∷ n ∷ m ∷ x ∷ fs) e = absurd (no_some e)
@@ -121,13 +119,13 @@ Fine (refuse n) = Unit {0}
 Fine (on due j rest) = AllNamed j.modules
 
 abbrev FineIf : Option Read → Type 0
-FineIf none = Unit {0}
-FineIf (some r) = Fine r
+FineIf None = Unit {0}
+FineIf (Some r) = Fine r
 
-module _ {A : Type 0} (key : String) (line : Bytes) (value : Bytes → Option A) (within : Bool) (new : A → Bool) (go : A → Read) (h : (v : Bytes) (a : A) → value v ≡ some a → Fine (go a)) where
-  checked_fine : (o : Option A) → ((a : A) → o ≡ some a → Fine (go a)) → Fine (checks o within new go)
-  checked_fine none g = tt
-  checked_fine (some a) g = by within (new a)
+module _ {A : Type 0} (key : String) (line : Bytes) (value : Bytes → Option A) (within : Bool) (new : A → Bool) (go : A → Read) (h : (v : Bytes) (a : A) → value v ≡ Some a → Fine (go a)) where
+  checked_fine : (o : Option A) → ((a : A) → o ≡ Some a → Fine (go a)) → Fine (checks o within new go)
+  checked_fine None g = tt
+  checked_fine (Some a) g = by within (new a)
     where
       by : (w b : Bool) → Fine (and_then (cond w (cond b (good a) (bad 6)) (bad 5)) go)
       by true true = g a refl
@@ -143,10 +141,10 @@ module _ {A : Type 0} (key : String) (line : Bytes) (value : Bytes → Option A)
       by false v = tt
 
   -- a kind that is read beside the names so far
-  read_fine : FineIf (Option.map (λ (r : Checked A). and_then r go) (keyed key line λ v. check (value v) within new))
+  read_fine : FineIf (option_map (λ (r : Checked A). and_then r go) (keyed key line λ v. check (value v) within new))
   read_fine = by (starts_with (ascii key) line) (drop (length (ascii key)) line)
     where
-      by : (b : Bool) (v : Bytes) → FineIf (Option.map (λ (r : Checked A). and_then r go) (when b (check (value v) within new)))
+      by : (b : Bool) (v : Bytes) → FineIf (option_map (λ (r : Checked A). and_then r go) (when b (check (value v) within new)))
       by true v = checked_fine (value v) (h v)
       by false v = tt
 
@@ -236,8 +234,8 @@ module _ (j : Job) (line rest : Bytes) (h : AllNamed j.modules) where
 -- ---- all lines
 
 else_fine : (o : Option Read) (r : Read) → FineIf o → Fine r → Fine (or_else o r)
-else_fine none r h g = g
-else_fine (some x) r h g = h
+else_fine None r h g = g
+else_fine (Some x) r h g = h
 
 line_fine : (due : Due) (j : Job) (line rest : Bytes) → AllNamed j.modules → Fine (read_line due j line rest)
 unfolding read_line

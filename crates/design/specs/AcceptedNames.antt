@@ -1,7 +1,6 @@
 -- What is said of the names in the module lines of an accepted job. Assumes nothing.
-use Rattle.std.specs.Prelude.{◌<◌, ◌≡◌, length}
+use Rattle.std.specs.Prelude.{◌<◌, ◌≡◌, length, option_map}
 use Rattle.std.proofs.Math.Bool.{true}
-use Rattle.std.proofs.Math.Option
 use mathlib.Core.List.{List}
 use mathlib.Core.List.{Memᴰ as Mem}
 use Rattle.text.specs.Ascii.{Bytes, byte}

@@ -1,8 +1,7 @@
 -- The net of the parent that an instance's port is connected to, if it is a plain identifier (the Rust's `output_actual`).
 -- Assumes nothing.
-use Rattle.std.specs.Prelude.{Bool, true, false, cond}
+use Rattle.std.specs.Prelude.{Bool, true, false, cond, Option, None, Some}
 use mathlib.Core.List.{List, [], ◌∷◌, tail}
-use Rattle.std.proofs.Math.Option.{Option, none, some}
 use Rattle.text.specs.Ascii.{Bytes, ascii}
 use Rattle.text.specs.Compare.{same}
 use Rattle.text.specs.Scan.{any}
@@ -13,7 +12,7 @@ use Rattle.design.specs.Ports.{port_order}
 
 -- "NET `-` means not a plain identifier"
 abbrev pub plain : Bytes → Option Bytes
-plain net = cond (same net (ascii "-")) none (some net)
+plain net = cond (same net (ascii "-")) None (Some net)
 
 -- the port is the first of these
 abbrev pub is_first : Bytes → List Bytes → Bool
@@ -23,8 +22,8 @@ is_first port (n ∷ ns) = same n port
 -- what a connection says of the port: nothing where it is another port's, else its net. `order` has the header's names from the one on that
 -- stands at the connection's own place: "`pos` counts all connections before it"
 abbrev pub says_of : Bytes → List Bytes → Conn → Option (Option Bytes)
-says_of port order Conn.star = none
-says_of port order (Conn.implicit p) = when (same p port) (some port)
+says_of port order Conn.star = None
+says_of port order (Conn.implicit p) = when (same p port) (Some port)
 says_of port order (Conn.named p net) = when (same p port) (plain net)
 says_of port order (Conn.pos net) = when (is_first port order) (plain net)
 

@@ -1,9 +1,8 @@
 -- Worked examples of the definitions on the text of jobs, each computed.
 -- Assumes nothing.
-use Rattle.std.specs.Prelude.{ℕ, zero, suc, ◌≡◌, refl, false}
+use Rattle.std.specs.Prelude.{ℕ, zero, suc, ◌≡◌, refl, false, Option, None, Some, option_map}
 use Prim.Native.String.{String, ◌++◌}
 use mathlib.Core.List.{List, [], ◌∷◌, flat_map}
-use Rattle.std.proofs.Math.Option.{Option, none, some, map}
 use Rattle.text.specs.Ascii.{Bytes, ascii, byte}
 use Rattle.text.specs.Compare.{same}
 use Rattle.text.specs.Scan.{any, split_at}
@@ -117,42 +116,42 @@ unfoldable pub actual : String → String → Option (Option Bytes)
 unfolding the design first decided any same
 actual conns port =
     let d = design ("module=top\nstyle=empty\ninst=0 u sub\n" ++ conns ++ "module=sub\nstyle=ansi\nport=out a\nport=out b\nport=out c\n") in
-    map (λ (i : Inst). output_actual i (the d "sub") (ascii port)) (instance_named (the d "top") (ascii "u"))
+    option_map (λ (i : Inst). output_actual i (the d "sub") (ascii port)) (instance_named (the d "top") (ascii "u"))
 
-by_star : actual "conn=star\n" "a" ≡ some (some (ascii "a"))
+by_star : actual "conn=star\n" "a" ≡ Some (Some (ascii "a"))
 unfolding actual
 by_star = refl
 
-by_nothing : actual "" "a" ≡ some none
+by_nothing : actual "" "a" ≡ Some None
 unfolding actual
 by_nothing = refl
 
-by_implicit : actual "conn=implicit a\n" "a" ≡ some (some (ascii "a"))
+by_implicit : actual "conn=implicit a\n" "a" ≡ Some (Some (ascii "a"))
 unfolding actual
 by_implicit = refl
 
 -- the first one decides
-by_name : actual "conn=named a x\nconn=named a y\n" "a" ≡ some (some (ascii "x"))
+by_name : actual "conn=named a x\nconn=named a y\n" "a" ≡ Some (Some (ascii "x"))
 unfolding actual
 by_name = refl
 
 -- not a plain identifier: it decides, also beside `star`
-by_expression : actual "conn=star\nconn=named a -\nconn=named a y\n" "a" ≡ some none
+by_expression : actual "conn=star\nconn=named a -\nconn=named a y\n" "a" ≡ Some None
 unfolding actual
 by_expression = refl
 
 -- `star` comes last
-star_last : actual "conn=star\nconn=named a x\n" "a" ≡ some (some (ascii "x"))
+star_last : actual "conn=star\nconn=named a x\n" "a" ≡ Some (Some (ascii "x"))
 unfolding actual
 star_last = refl
 
 -- `pos` counts all connections before it
-by_place : actual "conn=star\nconn=named a x\nconn=pos y\n" "c" ≡ some (some (ascii "y"))
+by_place : actual "conn=star\nconn=named a x\nconn=pos y\n" "c" ≡ Some (Some (ascii "y"))
 unfolding actual
 by_place = refl
 
 -- past the header it is no port's, not that of the empty name either
-past_header : actual "conn=pos x\nconn=pos x\nconn=pos x\nconn=pos y\n" "" ≡ some none
+past_header : actual "conn=pos x\nconn=pos x\nconn=pos x\nconn=pos y\n" "" ≡ Some None
 unfolding actual
 past_header = refl
 
@@ -164,23 +163,23 @@ tree = "module=top\nstyle=empty\ninst=0 s mid\ninst=0 k away\nmodule=mid\nstyle=
 -- the name of the module that instance names lead to, from the top
 unfoldable pub found : String → List Bytes → Option Bytes
 unfolding the design first same module_at
-found s ns = let d = design s in map (λ (m : Module). m.name) (module_at d (the d "top") ns)
+found s ns = let d = design s in option_map (λ (m : Module). m.name) (module_at d (the d "top") ns)
 
-at_top : found tree [] ≡ some (ascii "top")
+at_top : found tree [] ≡ Some (ascii "top")
 unfolding found
 at_top = refl
 
 -- through an instance with dimensions
-through_array : found tree (names "s u1") ≡ some (ascii "core")
+through_array : found tree (names "s u1") ≡ Some (ascii "core")
 unfolding found names
 through_array = refl
 
 -- the module is not listed; the instance is not there
-unlisted : found tree (names "k") ≡ none
+unlisted : found tree (names "k") ≡ None
 unfolding found names
 unlisted = refl
 
-not_there : found tree (names "s u2") ≡ none
+not_there : found tree (names "s u2") ≡ None
 unfolding found names
 not_there = refl
 
@@ -191,16 +190,16 @@ unfoldable pub searched : String → String → Search
 unfolding the design first same search_from among_instances
 searched s type = let d = design s in search_type d (the d "top") (ascii type)
 
-search_core : searched tree "core" ≡ record { found = some (names "s u1"); calls = 2 }
+search_core : searched tree "core" ≡ record { found = Some (names "s u1"); calls = 2 }
 unfolding searched names
 search_core = refl
 
 -- a type is found also where its module is not listed; what is below an instance comes before the next instance
-search_away : searched tree "away" ≡ record { found = some (names "k"); calls = 3 }
+search_away : searched tree "away" ≡ record { found = Some (names "k"); calls = 3 }
 unfolding searched names
 search_away = refl
 
-search_none : searched tree "top" ≡ record { found = none; calls = 3 }
+search_none : searched tree "top" ≡ record { found = None; calls = 3 }
 unfolding searched
 search_none = refl
 
@@ -226,11 +225,11 @@ us zero = []
 us (suc n) = ascii "u" ∷ us n
 
 -- 33 instances down it is found, 34 not; the call past the last depth is counted
-deep_33 : deep 34 ≡ record { found = some (us 33); calls = 33 }
+deep_33 : deep 34 ≡ record { found = Some (us 33); calls = 33 }
 unfolding deep us
 deep_33 = refl
 
-deep_34 : deep 35 ≡ record { found = none; calls = 34 }
+deep_34 : deep 35 ≡ record { found = None; calls = 34 }
 unfolding deep
 deep_34 = refl
 

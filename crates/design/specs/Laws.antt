@@ -1,9 +1,8 @@
 -- Laws: tests with their equations, and membership in lists that are mapped, joined, tested, looked up in, or grown by what is new.
 -- Assumes nothing.
-use Rattle.std.specs.Prelude.{ℕ, ◌≤◌, ◌<◌, ◌≡◌, refl, ◌⊎◌, Bool, true, false, cond, ◌||◌, leb}
+use Rattle.std.specs.Prelude.{ℕ, ◌≤◌, ◌<◌, ◌≡◌, refl, ◌⊎◌, Bool, true, false, cond, ◌||◌, leb, Option, None, Some}
 use Rattle.std.proofs.Common.{sym, ap, subst, ◌∙◌, inl, inr, ⊎_elim, arith, leb-true, leb-false}
 use Rattle.std.proofs.Math.Logic.{⊎_map}
-use Rattle.std.proofs.Math.Option.{Option, none, some}
 use mathlib.Core.List.{List, [], ◌∷◌, ◌++◌, map, flat_map}
 use mathlib.Core.List.Memᴰ.{cases_cons}
 use mathlib.Core.List.Memᴰ.{head as here}
@@ -99,16 +98,16 @@ unfolding flat_map
 flat_same f g [] h = refl
 flat_same f g (x ∷ l) h = rw (h x (here refl), flat_same f g l (λ a m. h a (there m)))
 
-pub some_mem : {A B : Type 0} (o : Option A) (f : A → List B) {b : B} → Mem b (on_some o [] f) → (a : A) × (o ≡ some a) × Mem b (f a)
-some_mem none f m = absurd (not-nil m)
-some_mem (some a) f m = (a, refl, m)
+pub some_mem : {A B : Type 0} (o : Option A) (f : A → List B) {b : B} → Mem b (on_some o [] f) → (a : A) × (o ≡ Some a) × Mem b (f a)
+some_mem None f m = absurd (not-nil m)
+some_mem (Some a) f m = (a, refl, m)
 
-pub mem_some : {A B : Type 0} {o : Option A} (f : A → List B) {a : A} {b : B} → o ≡ some a → Mem b (f a) → Mem b (on_some o [] f)
+pub mem_some : {A B : Type 0} {o : Option A} (f : A → List B) {a : A} {b : B} → o ≡ Some a → Mem b (f a) → Mem b (on_some o [] f)
 mem_some f e m = rw e m
 
-pub some_of : {A B : Type 0} (o : Option A) (f : A → Option B) {b : B} → on_some o none f ≡ some b → (a : A) × (o ≡ some a) × (f a ≡ some b)
-some_of none f e = let z : ◌≡◌ {A = ℕ} 0 1 = cc in absurd (omega arith)
-some_of (some a) f e = (a, refl, e)
+pub some_of : {A B : Type 0} (o : Option A) (f : A → Option B) {b : B} → on_some o None f ≡ Some b → (a : A) × (o ≡ Some a) × (f a ≡ Some b)
+some_of None f e = let z : ◌≡◌ {A = ℕ} 0 1 = cc in absurd (omega arith)
+some_of (Some a) f e = (a, refl, e)
 
 -- those that pass a test
 pub those_mem : {A : Type 0} (t : A → Bool) (l : List A) {a : A} → Mem a (those t l) → Mem a l × (t a ≡ true)
@@ -132,21 +131,21 @@ mem_those {A} t (x ∷ l) {a} m h = go (t x) refl (cases_cons m) (λ n. mem_thos
     go false e (inr n) ih = ih n
 
 -- the first that passes a test
-pub first_mem : {A : Type 0} (t : A → Bool) (l : List A) {a : A} → first t l ≡ some a → Mem a l
+pub first_mem : {A : Type 0} (t : A → Bool) (l : List A) {a : A} → first t l ≡ Some a → Mem a l
 unfolding first
 first_mem t [] e = let z : ◌≡◌ {A = ℕ} 0 1 = cc in absurd (omega arith)
 first_mem {A} t (x ∷ l) {a} e = go (t x) (first_mem t l) e
   where
-    go : (b : Bool) → (first t l ≡ some a → Mem a l) → cond b (some x) (first t l) ≡ some a → Mem a (x ∷ l)
+    go : (b : Bool) → (first t l ≡ Some a → Mem a l) → cond b (Some x) (first t l) ≡ Some a → Mem a (x ∷ l)
     go true ih e = here {x = x} (cc)
     go false ih e = there (ih e)
 
-pub first_passes : {A : Type 0} (t : A → Bool) (l : List A) {a : A} → first t l ≡ some a → t a ≡ true
+pub first_passes : {A : Type 0} (t : A → Bool) (l : List A) {a : A} → first t l ≡ Some a → t a ≡ true
 unfolding first
 first_passes t [] e = let z : ◌≡◌ {A = ℕ} 0 1 = cc in absurd (omega arith)
 first_passes {A} t (x ∷ l) {a} e = go (t x) refl (first_passes t l) e
   where
-    go : (b : Bool) → t x ≡ b → (first t l ≡ some a → t a ≡ true) → cond b (some x) (first t l) ≡ some a → t a ≡ true
+    go : (b : Bool) → t x ≡ b → (first t l ≡ Some a → t a ≡ true) → cond b (Some x) (first t l) ≡ Some a → t a ≡ true
     go true h ih e = let s : x ≡ a = cc in ap t (sym s) ∙ h
     go false h ih e = ih e
 

@@ -1,20 +1,19 @@
 -- How the definitions speak of lists: the first that passes a test, those that pass it, one of them, each of them one time.
 -- Assumes nothing.
-use Rattle.std.specs.Prelude.{Bool, cond, List, [], ◌∷◌, ◌++◌}
-use Rattle.std.proofs.Math.Option.{Option, none, some}
+use Rattle.std.specs.Prelude.{Bool, cond, List, [], ◌∷◌, ◌++◌, Option, None, Some}
 use Rattle.text.specs.Ascii.{Bytes}
 use Rattle.text.specs.Compare.{same}
 use Rattle.text.specs.Scan.{any}
 
 -- what is made of a value, and what stands where there is none
 abbrev pub on_some {ℓ} : {A : Type 0} {B : Type ℓ} → Option A → B → (A → B) → B
-on_some none b f = b
-on_some (some a) b f = f a
+on_some None b f = b
+on_some (Some a) b f = f a
 
 -- the first that passes the test
 unfoldable pub first : {A : Type 0} → (A → Bool) → List A → Option A
-first t [] = none
-first t (x ∷ xs) = cond (t x) (some x) (first t xs)
+first t [] = None
+first t (x ∷ xs) = cond (t x) (Some x) (first t xs)
 
 -- those that pass the test, in their order
 unfoldable pub those : {A : Type 0} → (A → Bool) → List A → List A

@@ -1,7 +1,6 @@
 -- Modules and instances by name, in the module lines of a job (the Rust's `instances` and `module_at`).
 -- Assumes nothing.
-use Rattle.std.specs.Prelude.{List, [], ◌∷◌}
-use Rattle.std.proofs.Math.Option.{Option, none, some}
+use Rattle.std.specs.Prelude.{List, [], ◌∷◌, Option, None, Some}
 use Rattle.text.specs.Ascii.{Bytes}
 use Rattle.text.specs.Compare.{same}
 use Rattle.joblines.specs.Job.{Inst, Module}
@@ -22,8 +21,8 @@ instance_named m n = first (λ i. same i.name n) (instances m)
 -- "the module that the Rust's lookup in the module lines finds": from a module down by instance names; none where an instance is not there
 -- or its module is not listed. It passes through instances with dimensions too
 unfoldable pub module_at : List Module → Module → List Bytes → Option Module
-module_at d m [] = some m
+module_at d m [] = Some m
 module_at d m (n ∷ ns) =
-    on_some (instance_named m n) none λ i.
-    on_some (module_named d i.type) none λ m'.
+    on_some (instance_named m n) None λ i.
+    on_some (module_named d i.type) None λ m'.
     module_at d m' ns

@@ -1,8 +1,7 @@
 -- Laws: what is losable, said by membership; a lookup stays in the module lines.
 -- Assumes nothing.
-use Rattle.std.specs.Prelude.{◌≡◌, refl, ◌⊎◌, ◌↔◌, Bool, not, ◌&&◌, List, [], ◌∷◌, ◌++◌}
+use Rattle.std.specs.Prelude.{◌≡◌, refl, ◌⊎◌, ◌↔◌, Bool, not, ◌&&◌, List, [], ◌∷◌, ◌++◌, None, Some}
 use Rattle.std.proofs.Common.{ap, ◌∙◌, inl, inr, ⊎_elim}
-use Rattle.std.proofs.Math.Option.{none, some}
 use mathlib.Core.List.Memᴰ.{cases_cons}
 use mathlib.Core.List.Memᴰ.{head as here}
 use mathlib.Core.List.Memᴰ.{not-nil}
@@ -107,13 +106,13 @@ losable_name m n h = ⊎_elim port signal ((losable_iff m n).0 h).0
 
 -- ---- a lookup finds a module of the module lines
 
-pub named_mem : (d : List Module) (n : Bytes) {m : Module} → module_named d n ≡ some m → Mem m d
+pub named_mem : (d : List Module) (n : Bytes) {m : Module} → module_named d n ≡ Some m → Mem m d
 named_mem d n e = first_mem (λ (m : Module). same m.name n) d e
 
-pub module_at_mem : (d : List Module) (m : Module) (ns : List Bytes) {m' : Module} → Mem m d → module_at d m ns ≡ some m' → Mem m' d
+pub module_at_mem : (d : List Module) (m : Module) (ns : List Bytes) {m' : Module} → Mem m d → module_at d m ns ≡ Some m' → Mem m' d
 unfolding module_at
 module_at_mem d m [] {m'} at e = cast {a = m'} {b = m} (cc) at
 module_at_mem d m (n ∷ ns) at e =
-    let i = some_of (instance_named m n) (λ (i : Inst). on_some (module_named d i.type) none (λ m'. module_at d m' ns)) e in
+    let i = some_of (instance_named m n) (λ (i : Inst). on_some (module_named d i.type) None (λ m'. module_at d m' ns)) e in
     let k = some_of (module_named d i.0.type) (λ m'. module_at d m' ns) i.2 in
     module_at_mem d k.0 ns (named_mem d i.0.type k.1) k.2

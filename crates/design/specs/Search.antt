@@ -1,8 +1,7 @@
 -- "Is it the type of an instance found by `find_by_type`?": the first instance of a type, in the order of the `inst` lines, what is below an
 -- instance before the next instance; and the number of the calls made.
 -- Assumes nothing.
-use Rattle.std.specs.Prelude.{ℕ, zero, suc, ◌+◌, cond, List, [], ◌∷◌}
-use Rattle.std.proofs.Math.Option.{Option, none, some, map}
+use Rattle.std.specs.Prelude.{ℕ, zero, suc, ◌+◌, cond, List, [], ◌∷◌, Option, None, Some, option_map}
 use Rattle.text.specs.Ascii.{Bytes}
 use Rattle.text.specs.Compare.{same}
 use Rattle.joblines.specs.Job.{Inst, Module}
@@ -16,7 +15,7 @@ pub record Search : Type 0 where
   pub calls : ℕ
 
 abbrev pub nothing : Search
-nothing = record { found = none; calls = 0 }
+nothing = record { found = None; calls = 0 }
 
 -- one call more
 abbrev pub called : Search → Search
@@ -24,7 +23,7 @@ called s = record { found = s.found; calls = 1 + s.calls }
 
 -- a search below an instance: its name stands first
 abbrev pub under : Bytes → Search → Search
-under n s = record { found = map (λ (ns : List Bytes). n ∷ ns) s.found; calls = s.calls }
+under n s = record { found = option_map (λ (ns : List Bytes). n ∷ ns) s.found; calls = s.calls }
 
 -- a search that goes on only where the one before it found nothing; the calls of both count then
 abbrev pub or_else : Search → Search → Search
@@ -33,7 +32,7 @@ or_else s r = on_some s.found (record { found = r.found; calls = s.calls + r.cal
 -- an instance: it is of the type, or what is searched is its module, if that is listed. `down` is the call for a module
 abbrev pub at_instance : List Module → Bytes → (Module → Search) → Inst → Search
 at_instance d type down i =
-    cond (same i.type type) (record { found = some (i.name ∷ []); calls = 0 })
+    cond (same i.type type) (record { found = Some (i.name ∷ []); calls = 0 })
     (on_some (module_named d i.type) nothing λ m. under i.name (down m))
 
 unfoldable pub among_instances : List Module → Bytes → (Module → Search) → List Inst → Search

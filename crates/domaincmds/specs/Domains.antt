@@ -1,13 +1,12 @@
 -- create_power_domain: what its words come to, and what it does. Assumes nothing.
-use Rattle.std.specs.Prelude.{ℕ, ◌+◌, ◌≤◌, ◌<◌, max, ◌≡◌, Bool, cond, List, [], ◌∷◌, ◌++◌, map, length}
+use Rattle.std.specs.Prelude.{Option, Some}
+use Rattle.std.specs.Prelude.{ℕ, ◌+◌, ◌≤◌, ◌<◌, max, ◌≡◌, Bool, cond, List, [], ◌∷◌, ◌++◌, map, length, None}
 use Rattle.std.proofs.Common.{arith, sym, ap, ◌∙◌}
 use Rattle.std.proofs.Math.Path.{refl}
-use Rattle.std.proofs.Math.Option.{none}
 use Rattle.text.specs.Ascii.{Bytes, ascii}
 use Rattle.spans.specs.Span.{◌⋯◌, pairs}
 use Rattle.spans.specs.Reach.{last_of, reach, none_reach}
 use Rattle.spans.specs.declared.span.Span.{Span}
-use Rattle.spans.specs.declared.span.Found.{Found}
 use Rattle.tcl.specs.Arguments.{option_of, has_flag, name_of}
 use Rattle.args.specs.View.{words_from, Reads, Finds}
 use Rattle.model.specs.Scope.{scoped}
@@ -23,7 +22,6 @@ use Rattle.store.specs.Fits.{fit_domains}
 use Rattle.store.specs.Variables.{now_fits}
 use Rattle.store.specs.Steps.{domain_view, domain_shaped, domain_bounded}
 use Rattle.store.specs.declared.stored.Stored.{Stored}
-use Rattle.store.specs.declared.stored.MaybeBelow.TheVariants.{Not}
 use Rattle.store.specs.declared.state.Domain.{Domain}
 use Rattle.store.specs.declared.state.State.{State}
 use Rattle.made.specs.declared.Made.{Made}
@@ -37,8 +35,8 @@ new_domain scope ws =
     record {
       name = name_of ws;
       elements = map (scoped scope) (option_list "-elements" ws) ++ cond (has_flag (ascii "-include_scope") ws) (scope ∷ []) [];
-      power = none;
-      ground_net = none;
+      power = None;
+      ground_net = None;
       scope = scope;
     }
 
@@ -47,7 +45,7 @@ pub record DomainIs (mem : Bytes) (words : List ℕ) (n : ℕ) (scope : Stored) 
   pub within : (e : Span → ℕ) → e (0 ⋯ 0) ≡ 0 → of_domain (λ s. e (span_of s)) r ≤ max (e (span_of scope)) (last_of e (pairs words 0 n))
 
 module _ (mem : Bytes) (words : List ℕ) (n : ℕ) (scope : Stored) where
-  pub domain_is : (named : Span) (x : Stored) (f : Found) (y : Stored) (b : Bool) → Reads mem words n (name_of (words_from mem words n 1)) named → x ≡ stored_of named → Finds mem words n (option_of (ascii "-elements") (words_from mem words n 1)) f → y ≡ found_or f → b ≡ has_flag (ascii "-include_scope") (words_from mem words n 1) → DomainIs mem words n scope (record { name = x; elements = y; whole = b; power = Not; ground_net = Not; scope = scope })
+  pub domain_is : (named : Span) (x : Stored) (f : Option Span) (y : Stored) (b : Bool) → Reads mem words n (name_of (words_from mem words n 1)) named → x ≡ stored_of named → Finds mem words n (option_of (ascii "-elements") (words_from mem words n 1)) f → y ≡ found_or f → b ≡ has_flag (ascii "-include_scope") (words_from mem words n 1) → DomainIs mem words n scope (record { name = x; elements = y; whole = b; power = None; ground_net = None; scope = scope })
   unfolding domain_of new_domain
   domain_is named x f y b p e q g h =
       rw (e, g, h)

@@ -1,13 +1,13 @@
 -- set_domain_supply_net: the first domain of a name, and what the command does. Assumes nothing.
-use Rattle.std.specs.Prelude.{ℕ, ◌≤◌, ◌<◌, max, ◌≡◌, refl, Bool, List, length, get_or, set, take}
+use Rattle.std.specs.Prelude.{Option}
+use Rattle.store.specs.declared.stored.Below.{Below}
+use Rattle.std.specs.Prelude.{ℕ, ◌≤◌, ◌<◌, max, ◌≡◌, refl, Bool, List, length, get_or, set, take, None, Some, option_map}
 use Rattle.std.proofs.Common.{arith, ◌∙◌}
 use Rattle.std.proofs.Math.Path.{sym, ap}
-use Rattle.std.proofs.Math.Option.{none, some, map}
 use Rattle.text.specs.Ascii.{Bytes, ascii}
 use Rattle.text.specs.Compare.{same}
 use Rattle.spans.specs.Reach.{reach, none_reach}
 use Rattle.spans.specs.declared.span.Span.{Span}
-use Rattle.spans.specs.declared.span.Found.{Found}
 use Rattle.tcl.specs.Arguments.{option_of, name_of}
 use Rattle.args.specs.View.{words_from, Reads, Finds}
 use Rattle.model.specs.Scope.{scoped}
@@ -21,7 +21,6 @@ use Rattle.store.specs.Tables.{sized_length, table_get, within_get}
 use Rattle.store.specs.First.{first_at, first_hit, first_miss}
 use Rattle.store.specs.Steps.{domain_set_view, domain_set_shaped, domain_set_bounded}
 use Rattle.store.specs.declared.stored.Stored.{Stored}
-use Rattle.store.specs.declared.stored.MaybeBelow.{MaybeBelow}
 use Rattle.store.specs.declared.state.Domain.{Domain}
 use Rattle.store.specs.declared.state.State.{State}
 use Rattle.made.specs.declared.Made.{Made}
@@ -52,7 +51,7 @@ module _ (long : ℕ) (mem : Bytes) (words : List ℕ) (n : ℕ) (st : Store) (l
 
   -- the supplies that the words name
   abbrev supplies : Domainʳ → Domainʳ
-  supplies = supplied (map (scoped now.scope) (option_of (ascii "-primary_power_net") ws)) (map (scoped now.scope) (option_of (ascii "-primary_ground_net") ws))
+  supplies = supplied (option_map (scoped now.scope) (option_of (ascii "-primary_power_net") ws)) (option_map (scoped now.scope) (option_of (ascii "-primary_ground_net") ws))
 
   count : length now.domains ≡ s.domains.n
   unfolding model_of
@@ -71,7 +70,7 @@ module _ (long : ℕ) (mem : Bytes) (words : List ℕ) (n : ℕ) (st : Store) (l
       told_none : s.domains.n ≤ i → supply_command now ws ≡ warned now (text_of 3 (string mem x))
       unfolding supply_command text_of
       told_none h =
-          let q : on_first (named ws) supplies now.domains ≡ none = first_miss (named ws) supplies now.domains (omega (arith, count, first_is)) in
+          let q : on_first (named ws) supplies now.domains ≡ None = first_miss (named ws) supplies now.domains (omega (arith, count, first_is)) in
           rw (q, name_is)
 
       pub supply_warned : (m : Made) → s.domains.n ≤ i → m ≡ warned_made s 3 x → Did long mem st log s m (supply_command now ws)
@@ -80,7 +79,7 @@ module _ (long : ℕ) (mem : Bytes) (words : List ℕ) (n : ℕ) (st : Store) (l
           (did_warn long mem st log s v.shaped v.bounded 3 x (omega arith) (omega arith)
           (rw e (omega (arith, a.within (reach long) (none_reach long), v.line))))
 
-      module _ (z : Domain) (h : i < s.domains.n) (fp fg : Found) (ap' : Finds mem words n (option_of (ascii "-primary_power_net") ws) fp) (ag : Finds mem words n (option_of (ascii "-primary_ground_net") ws) fg) where
+      module _ (z : Domain) (h : i < s.domains.n) (fp fg : Option Span) (ap' : Finds mem words n (option_of (ascii "-primary_power_net") ws) fp) (ag : Finds mem words n (option_of (ascii "-primary_ground_net") ws) fg) where
         -- the domain with its supplies anew, as the code has it
         abbrev anew : Domain
         anew = supplied_by (get_or s.domains.all i z) (below_found s.head.scope fp) (below_found s.head.scope fg)
@@ -106,7 +105,7 @@ module _ (long : ℕ) (mem : Bytes) (words : List ℕ) (n : ℕ) (st : Store) (l
         unfolding supply_command
         told_some =
             let k : first_at (named ws) now.domains ≡ i = first_is ∙ sym f in
-            let q : on_first (named ws) supplies now.domains ≡ some (set now.domains (first_at (named ws) now.domains) (supplies (get_or now.domains (first_at (named ws) now.domains) (domain_of mem z)))) = first_hit (named ws) supplies now.domains (domain_of mem z) (omega (arith, count, k)) in
+            let q : on_first (named ws) supplies now.domains ≡ Some (set now.domains (first_at (named ws) now.domains) (supplies (get_or now.domains (first_at (named ws) now.domains) (domain_of mem z)))) = first_hit (named ws) supplies now.domains (domain_of mem z) (omega (arith, count, k)) in
             rw (q, k, at_is, anew_is)
 
         anew_ends : of_domain (reach_of long) anew ≤ length mem
@@ -116,7 +115,7 @@ module _ (long : ℕ) (mem : Bytes) (words : List ℕ) (n : ℕ) (st : Store) (l
             (omega (arith, v.line, v.bounded.scope, below_by mem words n (reach long) (none_reach long) (option_of (ascii "-primary_power_net") ws) fp s.head.scope ap'))
             (omega (arith, v.line, v.bounded.scope, below_by mem words n (reach long) (none_reach long) (option_of (ascii "-primary_ground_net") ws) fg s.head.scope ag))
 
-        pub supply_fine : (p g : MaybeBelow) (d : Domain) (u : State) (m : Made) → p ≡ below_found s.head.scope fp → g ≡ below_found s.head.scope fg → d ≡ supplied_by (get_or s.domains.all i z) p g → u ≡ domain_set s i d → m ≡ fine_made u → Did long mem st log s m (supply_command now ws)
+        pub supply_fine : (p g : Option Below) (d : Domain) (u : State) (m : Made) → p ≡ below_found s.head.scope fp → g ≡ below_found s.head.scope fg → d ≡ supplied_by (get_or s.domains.all i z) p g → u ≡ domain_set s i d → m ≡ fine_made u → Did long mem st log s m (supply_command now ws)
         supply_fine p g d u m ep eg ed eu em =
             rw (em, eu, ed, ep, eg)
             (did_state long mem st log s v.shaped v.bounded (domain_set s i anew) (supply_command now ws)

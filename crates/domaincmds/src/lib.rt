@@ -14,8 +14,8 @@ ghost use Rattle.domaincmds.specs.Domains.{DomainIs};
 use args::argument::{flag, name, option};
 use finddomain::find_domain;
 use made::{Brief, Deed};
-use store::state::{Domain, Domains, supplied};
-use store::stored::{MaybeBelow, Stored, maybe_below, narrow, or_empty};
+use store::state::{Domain, Few, supplied};
+use store::stored::{Stored, maybe_below, narrow, or_empty};
 
 // "domains .. 32 of each"
 const MOST_DOMAINS: usize = 32;
@@ -32,8 +32,8 @@ fn domain<'a>(files: &'a [u8], area: &'a [u8], words: &[u32], n: usize, scope: S
         name: narrow(named),
         elements: or_empty(elements),
         whole: whole,
-        power: MaybeBelow::Not,
-        ground_net: MaybeBelow::Not,
+        power: None,
+        ground_net: None,
         scope: scope,
     }
 }
@@ -52,8 +52,7 @@ pub fn create_power_domain<'a>(
     if MOST_DOMAINS <= b.domains {
         return Deed::Full;
     }
-    let scope = b.scope;
-    let d = domain(files, area, words, n, scope);
+    let d = domain(files, area, words, n, b.scope);
     Deed::Domain(d)
 }
 
@@ -64,7 +63,7 @@ pub fn set_domain_supply_net<'a>(
     words: &[u32],
     n: usize,
     b: Brief,
-    t: Domains,
+    t: Few<Domain>,
 ) -> Deed
     requires { Line words.now n × (t.n ≤ 32) }
     ensures { Does files.now area.now words.now n (λ (s : State). (brief_of s ≡ b) × (s.domains ≡ t)) result (λ (m : Model). supply_command m (words_from (files.now ++ area.now) words.now n 1)) }
@@ -74,11 +73,9 @@ pub fn set_domain_supply_net<'a>(
     if t.n <= i {
         return Deed::Warning(3, named);
     }
-    let scope = b.scope;
     let power = option(files, area, words, n, b"-primary_power_net");
     let ground_net = option(files, area, words, n, b"-primary_ground_net");
-    let p = maybe_below(scope, power);
-    let g = maybe_below(scope, ground_net);
-    let d = t.all[i];
-    Deed::Supplied(i, supplied(d, p, g))
+    let p = maybe_below(b.scope, power);
+    let g = maybe_below(b.scope, ground_net);
+    Deed::Supplied(i, supplied(t.all[i], p, g))
 }

@@ -1,4 +1,6 @@
 -- The glue of a domain: laws as the needs ask them. Assumes nothing.
+use Rattle.store.specs.declared.state.Few.{Few}
+use Rattle.store.specs.declared.state.Isolation.{Isolation}
 use Prim.Native.Nat.{ℕ, ◌≤◌}
 use mathlib.Core.Path.{◌≡◌, ap, ◌∙◌}
 use mathlib.Core.List.{List}
@@ -12,13 +14,12 @@ use Rattle.names.specs.declared.name.Name.{Name}
 use Rattle.model.specs.Records.{Isolation as Isolationʳ}
 use Rattle.store.specs.Strings.{string}
 use Rattle.store.specs.declared.stored.Stored.{Stored}
-use Rattle.store.specs.declared.state.Isolations.{Isolations}
 use Rattle.checks.specs.Sorted.{Sorts, Found, Known, check_text}
 use Rattle.domainglue.specs.Glue.{glue_text, OfGlue}
 use Rattle.clamps.specs.Values.{stored_name}
 use Rattle.clamps.specs.Laws.{stored_is}
 
-pub glue_sorts : (mem : Bytes) (t : Isolations) (ports : List ℕ) (n : ℕ) (found : List ℕ) → OfGlue mem t ports n → 256 ≤ length found → Sorts mem t ports n found
+pub glue_sorts : (mem : Bytes) (t : Few Isolation) (ports : List ℕ) (n : ℕ) (found : List ℕ) → OfGlue mem t ports n → 256 ≤ length found → Sorts mem t ports n found
 glue_sorts mem t ports n found g h = record { ruled = g.ruled; sized = g.sized; room = h }
 
 pub found_known : (l : List ℕ) (most : ℕ) (found found' : List ℕ) (m : ℕ) → Found l most found found' m → Known found' m

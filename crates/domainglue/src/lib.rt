@@ -2,7 +2,7 @@
 #![tactic(auto)]
 
 ghost use Rattle.std.specs.Prelude.{◌≡◌, ◌++◌, ◌≤◌, length, take};
-ghost use Rattle.out.specs.Emit.{◌▸◌, emit};
+ghost use Rattle.out.specs.Text.{Writes};
 ghost use Rattle.out.specs.Items.{each};
 ghost use Rattle.names.specs.Name.{name_of};
 ghost use Rattle.scope.specs.Parts.{parts};
@@ -17,20 +17,20 @@ use blocks::{put_down, put_initial, put_up, put_wire};
 use checks::put_checks;
 use clamps::stored;
 use names::name::Name;
-use store::state::Isolations;
+use out::emit::Text;
+use store::state::{Few, Isolation};
 use store::stored::Stored;
 
 // Writes the glue with the checks of the first m strategies in `found`.
 fn put_glue(
-    out: &mut [u8],
-    at: usize,
+    to: &mut Text,
     job: &[u8],
     files: &[u8],
     area: &[u8],
     over: &[u8],
     from: usize,
     top: &[u8],
-    t: Isolations,
+    t: Few<Isolation>,
     found: &[u32],
     m: usize,
     text: &[u8],
@@ -39,30 +39,27 @@ fn put_glue(
     domain: Name,
     power: Name,
     ground_net: Name,
-) -> usize
+)
     requires { Known found.now m × (n ≤ length ends.now) }
-    ensures { out.new ▸ result ≡ emit (out.old ▸ at) (glue_text (name_of (files.now ++ area.now) domain) (name_of (files.now ++ area.now) power) (name_of (files.now ++ area.now) ground_net) (each (check_text (parts over.now from) (strategy_at (files.now ++ area.now) t) (name_of (files.now ++ area.now) domain)) (take m found.now)) (below (parts over.now from) (paths_of text.now ends.now n))) }
+    ensures { Writes to.old (glue_text (name_of (files.now ++ area.now) domain) (name_of (files.now ++ area.now) power) (name_of (files.now ++ area.now) ground_net) (each (check_text (parts over.now from) (strategy_at (files.now ++ area.now) t) (name_of (files.now ++ area.now) domain)) (take m found.now)) (below (parts over.now from) (paths_of text.now ends.now n))) to.new }
 {
-    let a = put_wire(out, at, files, area, domain, power, ground_net);
-    let b = put_up(out, a, files, area, over, from, text, ends, n, domain);
-    let c = put_checks(
-        out, b, job, files, area, over, from, top, t, found, m, domain,
-    );
-    let d = put_down(out, c, files, area, over, from, text, ends, n, domain);
-    put_initial(out, d, files, area, over, from, text, ends, n, domain)
+    put_wire(to, files, area, domain, power, ground_net);
+    put_up(to, files, area, over, from, text, ends, n, domain);
+    put_checks(to, job, files, area, over, from, top, t, found, m, domain);
+    put_down(to, files, area, over, from, text, ends, n, domain);
+    put_initial(to, files, area, over, from, text, ends, n, domain)
 }
 
 // Writes the glue with the checks from the rows of isolated ports, which go through `found`.
 fn powered_by<'a>(
-    out: &mut [u8],
-    at: usize,
+    to: &mut Text,
     job: &[u8],
     files: &'a [u8],
     area: &'a [u8],
     over: &[u8],
     from: usize,
     top: &[u8],
-    t: Isolations,
+    t: Few<Isolation>,
     ports: &[u32],
     isolated: usize,
     text: &[u8],
@@ -72,14 +69,13 @@ fn powered_by<'a>(
     power: Name,
     ground_net: Name,
     found: &mut [u32],
-) -> usize
+)
     requires { (OfGlue (files.now ++ area.now) t ports.now isolated × (n ≤ length ends.now)) × (256 ≤ length found.old) }
-    ensures { out.new ▸ result ≡ emit (out.old ▸ at) (glue_text (string (files.now ++ area.now) domain) (name_of (files.now ++ area.now) power) (name_of (files.now ++ area.now) ground_net) (each (check_text (parts over.now from) (strategy_at (files.now ++ area.now) t) (string (files.now ++ area.now) domain)) (own_in (files.now ++ area.now) t domain ports.now isolated)) (below (parts over.now from) (paths_of text.now ends.now n))) }
+    ensures { Writes to.old (glue_text (string (files.now ++ area.now) domain) (name_of (files.now ++ area.now) power) (name_of (files.now ++ area.now) ground_net) (each (check_text (parts over.now from) (strategy_at (files.now ++ area.now) t) (string (files.now ++ area.now) domain)) (own_in (files.now ++ area.now) t domain ports.now isolated)) (below (parts over.now from) (paths_of text.now ends.now n))) to.new }
 {
     let m = checks::checks(files, area, t, ports, isolated, domain, found);
     put_glue(
-        out,
-        at,
+        to,
         job,
         files,
         area,
@@ -100,15 +96,14 @@ fn powered_by<'a>(
 
 // Writes the glue of a domain with both supplies.
 pub fn powered_glue<'a>(
-    out: &mut [u8],
-    at: usize,
+    to: &mut Text,
     job: &[u8],
     files: &'a [u8],
     area: &'a [u8],
     over: &[u8],
     from: usize,
     top: &[u8],
-    t: Isolations,
+    t: Few<Isolation>,
     ports: &[u32],
     isolated: usize,
     text: &[u8],
@@ -117,13 +112,13 @@ pub fn powered_glue<'a>(
     domain: Stored,
     power: Name,
     ground_net: Name,
-) -> usize
+)
     requires { OfGlue (files.now ++ area.now) t ports.now isolated × (n ≤ length ends.now) }
-    ensures { out.new ▸ result ≡ emit (out.old ▸ at) (glue_text (string (files.now ++ area.now) domain) (name_of (files.now ++ area.now) power) (name_of (files.now ++ area.now) ground_net) (each (check_text (parts over.now from) (strategy_at (files.now ++ area.now) t) (string (files.now ++ area.now) domain)) (own_in (files.now ++ area.now) t domain ports.now isolated)) (below (parts over.now from) (paths_of text.now ends.now n))) }
+    ensures { Writes to.old (glue_text (string (files.now ++ area.now) domain) (name_of (files.now ++ area.now) power) (name_of (files.now ++ area.now) ground_net) (each (check_text (parts over.now from) (strategy_at (files.now ++ area.now) t) (string (files.now ++ area.now) domain)) (own_in (files.now ++ area.now) t domain ports.now isolated)) (below (parts over.now from) (paths_of text.now ends.now n))) to.new }
 {
     let mut found: [u32; 256] = [0; 256];
     powered_by(
-        out, at, job, files, area, over, from, top, t, ports, isolated, text, ends, n, domain,
-        power, ground_net, &mut found,
+        to, job, files, area, over, from, top, t, ports, isolated, text, ends, n, domain, power,
+        ground_net, &mut found,
     )
 }

@@ -2,7 +2,7 @@
 #![tactic(auto)]
 
 ghost use Rattle.std.specs.Prelude.{◌≡◌, ◌++◌, map, ◌≤◌};
-ghost use Rattle.out.specs.Emit.{◌▸◌, emit};
+ghost use Rattle.out.specs.Text.{Writes};
 ghost use Rattle.out.specs.Items.{joined};
 ghost use Rattle.names.specs.Name.{name_of};
 ghost use Rattle.nametable.specs.Table.{table_names};
@@ -16,30 +16,20 @@ use names::name::Name;
 use names::put::put_dotted;
 use nametable::row;
 use nametexts::{fill1, fill2};
-use out::emit::put;
-use out::items::unless;
+use out::emit::Text;
 use pathlines::put_scope;
 
 // Writes a retained entry as a path below the scope.
-fn put_retained(
-    out: &mut [u8],
-    at: usize,
-    files: &[u8],
-    area: &[u8],
-    over: &[u8],
-    from: usize,
-    e: Name,
-) -> usize
-    ensures { out.new ▸ result ≡ emit (out.old ▸ at) (retained_path (parts over.now from) (name_of (files.now ++ area.now) e)) }
+fn put_retained(to: &mut Text, files: &[u8], area: &[u8], over: &[u8], from: usize, e: Name)
+    ensures { Writes to.old (retained_path (parts over.now from) (name_of (files.now ++ area.now) e)) to.new }
 {
-    let o = put_scope(out, at, over, from);
-    put_dotted(out, o, files, area, e)
+    put_scope(to, over, from);
+    put_dotted(to, files, area, e)
 }
 
 // Writes the retained entries of a table as paths, a text between them.
 fn put_entries(
-    out: &mut [u8],
-    at: usize,
+    to: &mut Text,
     files: &[u8],
     area: &[u8],
     over: &[u8],
@@ -47,45 +37,39 @@ fn put_entries(
     table: &[u32],
     n: usize,
     sep: &[u8],
-) -> usize
+)
     requires { n ≤ 65536 }
-    ensures { out.new ▸ result ≡ emit (out.old ▸ at) (joined sep.now (map (retained_path (parts over.now from)) (table_names (files.now ++ area.now) table.now n))) }
+    ensures { Writes to.old (joined sep.now (map (retained_path (parts over.now from)) (table_names (files.now ++ area.now) table.now n))) to.new }
 {
-    let mut o = at;
-    let mut k = 0;
-    while k < n {
-        o = unless(out, o, k, sep);
-        o = put_retained(out, o, files, area, over, from, row(table, k));
-        k += 1;
+    for k in 0..n {
+        to.unless(k, sep);
+        put_retained(to, files, area, over, from, row(table, k));
     }
-    o
 }
 
 // Writes what is exempt from being lost: the retained entries of a table.
 fn put_exempt(
-    out: &mut [u8],
-    at: usize,
+    to: &mut Text,
     files: &[u8],
     area: &[u8],
     over: &[u8],
     from: usize,
     table: &[u32],
     n: usize,
-) -> usize
+)
     requires { n ≤ 65536 }
-    ensures { out.new ▸ result ≡ emit (out.old ▸ at) (exempt (map (retained_path (parts over.now from)) (table_names (files.now ++ area.now) table.now n))) }
+    ensures { Writes to.old (exempt (map (retained_path (parts over.now from)) (table_names (files.now ++ area.now) table.now n))) to.new }
 {
     if n == 0 {
-        return at;
+        return;
     }
-    let o = put(out, at, b", retention exempt: ");
-    put_entries(out, o, files, area, over, from, table, n, b",")
+    to.put(b", retention exempt: ");
+    put_entries(to, files, area, over, from, table, n, b",")
 }
 
 // Writes a domain's elements, supplies and the number n of its paths.
 fn put_signals(
-    out: &mut [u8],
-    at: usize,
+    to: &mut Text,
     files: &[u8],
     area: &[u8],
     domain: Name,
@@ -94,36 +78,27 @@ fn put_signals(
     power: Name,
     ground_net: Name,
     n: usize,
-) -> usize
+)
     requires { m ≤ 65536 }
-    ensures { out.new ▸ result ≡ emit (out.old ▸ at) (signals_text (name_of (files.now ++ area.now) domain) (table_names (files.now ++ area.now) elements.now m) (name_of (files.now ++ area.now) power) (name_of (files.now ++ area.now) ground_net) n) }
+    ensures { Writes to.old (signals_text (name_of (files.now ++ area.now) domain) (table_names (files.now ++ area.now) elements.now m) (name_of (files.now ++ area.now) power) (name_of (files.now ++ area.now) ground_net) n) to.new }
 {
-    let a = fill1(
-        out,
-        at,
-        b"power domain {0}: elements [",
-        files,
-        area,
-        domain,
-    );
-    let b = put_names(out, a, files, area, elements, m, b", ");
-    let c = fill2(
-        out,
-        b,
+    fill1(to, b"power domain {0}: elements [", files, area, domain);
+    put_names(to, files, area, elements, m, b", ");
+    fill2(
+        to,
         b"], power {0}, ground {1}, ",
         files,
         area,
         power,
         ground_net,
     );
-    let d = out::number::decimal(out, c, n as u64);
-    put(out, d, b" corruptible signals")
+    to.decimal(n as u64);
+    to.put(b" corruptible signals")
 }
 
 // Writes the line of a domain with both supplies: m elements, n paths, k retained entries of its own.
 pub fn powered_line(
-    out: &mut [u8],
-    at: usize,
+    to: &mut Text,
     files: &[u8],
     area: &[u8],
     over: &[u8],
@@ -136,24 +111,21 @@ pub fn powered_line(
     n: usize,
     own: &[u32],
     k: usize,
-) -> usize
+)
     requires { (m ≤ 65536) × (k ≤ 65536) }
-    ensures { out.new ▸ result ≡ emit (out.old ▸ at) (powered_text (name_of (files.now ++ area.now) domain) (table_names (files.now ++ area.now) elements.now m) (name_of (files.now ++ area.now) power) (name_of (files.now ++ area.now) ground_net) n (map (retained_path (parts over.now from)) (table_names (files.now ++ area.now) own.now k))) }
+    ensures { Writes to.old (powered_text (name_of (files.now ++ area.now) domain) (table_names (files.now ++ area.now) elements.now m) (name_of (files.now ++ area.now) power) (name_of (files.now ++ area.now) ground_net) n (map (retained_path (parts over.now from)) (table_names (files.now ++ area.now) own.now k))) to.new }
 {
-    let a = put_signals(
-        out, at, files, area, domain, elements, m, power, ground_net, n,
-    );
-    let b = put_exempt(out, a, files, area, over, from, own, k);
-    put(out, b, b"\n")
+    put_signals(to, files, area, domain, elements, m, power, ground_net, n);
+    put_exempt(to, files, area, over, from, own, k);
+    to.put(b"\n")
 }
 
 // Writes the line of a domain without.
-pub fn unpowered_line(out: &mut [u8], at: usize, files: &[u8], area: &[u8], domain: Name) -> usize
-    ensures { out.new ▸ result ≡ emit (out.old ▸ at) (unpowered_text (name_of (files.now ++ area.now) domain)) }
+pub fn unpowered_line(to: &mut Text, files: &[u8], area: &[u8], domain: Name)
+    ensures { Writes to.old (unpowered_text (name_of (files.now ++ area.now) domain)) to.new }
 {
     fill1(
-        out,
-        at,
+        to,
         b"power domain {0}: no primary supplies (always on)\n",
         files,
         area,

@@ -1,5 +1,6 @@
 -- Tables of the elements and of the entries: laws as the needs ask them. Assumes nothing.
-use Prim.Native.Nat.{ℕ, ◌+◌, ◌-◌, ◌*◌, ◌≤◌, ◌<◌, ◌^◌}
+use Rattle.store.specs.declared.state.Few.{Few}
+use Prim.Native.Nat.{ℕ, ◌+◌, ◌*◌, ◌≤◌, ◌<◌, ◌^◌}
 use mathlib.Core.Path.{◌≡◌, refl, sym, ◌∙◌}
 use mathlib.Core.Bool.{Bool, true, false, cond}
 use mathlib.Core.List.{List, [], ◌∷◌, ◌++◌, map, flat_map, append_assoc, append-nil}
@@ -25,7 +26,6 @@ use Rattle.store.specs.Order.{of_retention}
 use Rattle.store.specs.declared.stored.Stored.{Stored}
 use Rattle.store.specs.declared.state.Domain.{Domain}
 use Rattle.store.specs.declared.state.Retention.{Retention}
-use Rattle.store.specs.declared.state.Retentions.{Retentions}
 use Rattle.made.specs.Made.{reach_of}
 use Rattle.setting.specs.Orders.{holds_few, holds_long, holds_at, holds_next, holds_end}
 use Rattle.domainlists.specs.Own.{flat_first, those_flat}
@@ -148,22 +148,22 @@ those_none : {A : Type 0} (p : A → Bool) → those p [] ≡ []
 unfolding those
 those_none p = refl
 
-abbrev left_of : Retentions → ℕ → List Retention
+abbrev left_of : Few Retention → ℕ → List Retention
 left_of t i = drop i (take t.n t.all)
 
-pub record All (mem : Bytes) (t : Retentions) (table₀ table : List ℕ) (n i : ℕ) : Type 0 where
+pub record All (mem : Bytes) (t : Few Retention) (table₀ table : List ℕ) (n i : ℕ) : Type 0 where
   pub gathers : Gathers mem (all_entries mem t) table₀ table n (flat_map (entries_of mem) (left_of t i))
 
-pub record Own (mem : Bytes) (t : Retentions) (domain : Stored) (table₀ table : List ℕ) (n i : ℕ) : Type 0 where
+pub record Own (mem : Bytes) (t : Few Retention) (domain : Stored) (table₀ table : List ℕ) (n i : ℕ) : Type 0 where
   pub gathers : Gathers mem (own_entries mem t domain) table₀ table n (flat_map (entries_of mem) (those (is_of mem domain) (left_of t i)))
 
-pub all_start : (mem : Bytes) (t : Retentions) (table : List ℕ) → All mem t table table 0 0
+pub all_start : (mem : Bytes) (t : Few Retention) (table : List ℕ) → All mem t table table 0 0
 all_start mem t table = record { gathers = gathers_start mem (all_entries mem t) table }
 
-pub own_start : (mem : Bytes) (t : Retentions) (domain : Stored) (table : List ℕ) → Own mem t domain table table 0 0
+pub own_start : (mem : Bytes) (t : Few Retention) (domain : Stored) (table : List ℕ) → Own mem t domain table table 0 0
 own_start mem t domain table = record { gathers = gathers_start mem (own_entries mem t domain) table }
 
-module _ (files area : Bytes) (t : Retentions) (table₀ : List ℕ) (g : OfRetentions files area t table₀) where
+module _ (files area : Bytes) (t : Few Retention) (table₀ : List ℕ) (g : OfRetentions files area t table₀) where
   abbrev mem : Bytes
   mem = files ++ area
 

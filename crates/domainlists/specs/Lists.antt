@@ -1,4 +1,5 @@
 -- The entries of stored retentions, what is asked of stored domains and retentions, and a table of names. Assumes nothing.
+use Rattle.store.specs.declared.state.Few.{Few}
 use Rattle.std.specs.Prelude.{ℕ, ◌≤◌, ◌<◌, ◌^◌, ◌≡◌, Bool, length, take}
 use mathlib.Core.List.{List, ◌++◌, flat_map}
 use Rattle.text.specs.Ascii.{Bytes}
@@ -11,7 +12,6 @@ use Rattle.store.specs.Order.{of_domain, of_retention}
 use Rattle.store.specs.declared.stored.Stored.{Stored}
 use Rattle.store.specs.declared.state.Domain.{Domain}
 use Rattle.store.specs.declared.state.Retention.{Retention}
-use Rattle.store.specs.declared.state.Retentions.{Retentions}
 use Rattle.made.specs.Made.{reach_of}
 use Rattle.setting.specs.Orders.{Holds}
 
@@ -21,14 +21,14 @@ abbrev pub entries_of : Bytes → Retention → List Bytes
 entries_of mem x = list_below mem x.scope x.elements
 
 -- of all retentions
-abbrev pub all_entries : Bytes → Retentions → List Bytes
+abbrev pub all_entries : Bytes → Few Retention → List Bytes
 all_entries mem t = flat_map (entries_of mem) (take t.n t.all)
 
 -- of those of a domain
 abbrev pub is_of : Bytes → Stored → Retention → Bool
 is_of mem domain x = same (string mem x.domain) (string mem domain)
 
-abbrev pub own_entries : Bytes → Retentions → Stored → List Bytes
+abbrev pub own_entries : Bytes → Few Retention → Stored → List Bytes
 own_entries mem t domain = flat_map (entries_of mem) (those (is_of mem domain) (take t.n t.all))
 
 -- ---- what is asked: strings that lie in the files or in the area, and room for the entries
@@ -39,7 +39,7 @@ pub record OfDomain (files area : Bytes) (d : Domain) (table : List ℕ) : Type 
   pub few : length (domain_of (files ++ area) d).elements ≤ 65
   pub room : 325 ≤ length table
 
-pub record OfRetentions (files area : Bytes) (t : Retentions) (table : List ℕ) : Type 0 where
+pub record OfRetentions (files area : Bytes) (t : Few Retention) (table : List ℕ) : Type 0 where
   pub small : length (files ++ area) < 2 ^ 32
   pub holds : Holds (of_retention (reach_of (length files))) (length (files ++ area)) t.n t.all
   pub few : length (all_entries (files ++ area) t) ≤ 1024

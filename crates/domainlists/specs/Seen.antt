@@ -20,7 +20,6 @@ use Rattle.store.specs.declared.state.Domain.{Domain}
 use Rattle.store.specs.declared.state.Retention.{Retention}
 use Rattle.store.specs.declared.state.State.{State}
 use Rattle.made.specs.Made.{reach_of}
-use Rattle.readfacts.specs.Few as few
 use Rattle.setting.specs.Orders.{Orders, holds_at, holds_long, domains_hold, retentions_hold}
 use Rattle.domainlists.specs.Lists.{entries_of, all_entries, is_of, own_entries, OfDomain, OfRetentions}
 

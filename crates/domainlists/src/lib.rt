@@ -15,7 +15,7 @@ use listnames::below;
 use names::name::alone;
 use nametable::put_row;
 use spans::span::same_spans;
-use store::state::{Domain, Retentions};
+use store::state::{Domain, Few, Retention};
 use store::stored::{Stored, span};
 
 // Puts the entries of a stored value, each below a stored scope, behind the first n names of a table.
@@ -57,19 +57,17 @@ pub fn domain_elements<'a>(files: &'a [u8], area: &'a [u8], d: Domain, table: &m
 }
 
 // Puts the entries of all retentions into a table, and returns how many they are.
-pub fn retained<'a>(files: &'a [u8], area: &'a [u8], t: Retentions, table: &mut [u32]) -> usize
+pub fn retained<'a>(files: &'a [u8], area: &'a [u8], t: Few<Retention>, table: &mut [u32]) -> usize
     requires { OfRetentions files.now area.now t table.old }
     ensures { Names (files.now ++ area.now) (all_entries (files.now ++ area.now) t) table.old table.new result }
 {
     let m = t.n;
     let mut n = 0;
-    let mut i = 0;
-    while i < m {
+    for i in 0..m {
         let x = t.all[i];
         let base = x.scope;
         let entries = x.elements;
         n = put_below(files, area, base, entries, table, n);
-        i += 1;
     }
     n
 }
@@ -85,7 +83,7 @@ fn same_strings<'a>(files: &'a [u8], area: &'a [u8], s: Stored, t: Stored) -> bo
 pub fn retained_of<'a>(
     files: &'a [u8],
     area: &'a [u8],
-    t: Retentions,
+    t: Few<Retention>,
     domain: Stored,
     table: &mut [u32],
 ) -> usize
@@ -94,18 +92,15 @@ pub fn retained_of<'a>(
 {
     let m = t.n;
     let mut n = 0;
-    let mut i = 0;
-    while i < m {
+    for i in 0..m {
         let x = t.all[i];
         let named = x.domain;
-        if same_strings(files, area, named, domain) {
-            let scope = x.scope;
-            let elements = x.elements;
-            n = put_below(files, area, scope, elements, table, n);
-            i += 1;
+        if !same_strings(files, area, named, domain) {
             continue;
         }
-        i += 1;
+        let scope = x.scope;
+        let elements = x.elements;
+        n = put_below(files, area, scope, elements, table, n);
     }
     n
 }

@@ -1,4 +1,6 @@
 -- What the report line of a domain asks of the stored retentions, and whose line it is. Assumes nothing.
+use Rattle.store.specs.declared.state.Few.{Few}
+use Rattle.store.specs.declared.state.Retention.{Retention}
 use Rattle.std.specs.Prelude.{ℕ, ◌≤◌, ◌<◌, ◌^◌, ◌≡◌, List, ◌++◌, map, length}
 use Rattle.std.proofs.Common.{ap}
 use Rattle.text.specs.Ascii.{Bytes}
@@ -9,7 +11,6 @@ use Rattle.store.specs.Strings.{string}
 use Rattle.store.specs.View.{Store, domain_of, model_of}
 use Rattle.store.specs.Order.{of_retention}
 use Rattle.store.specs.declared.state.Domain.{Domain}
-use Rattle.store.specs.declared.state.Retentions.{Retentions}
 use Rattle.store.specs.declared.state.State.{State}
 use Rattle.made.specs.Made.{reach_of}
 use Rattle.setting.specs.Orders.{Orders, Holds, retentions_hold}
@@ -17,7 +18,7 @@ use Rattle.domainlists.specs.Lists.{all_entries, own_entries}
 use Rattle.domainlists.specs.Seen.{own_entries_lem, retained_few}
 use Rattle.domainline.specs.Lines.{powered_text}
 
-pub record OfReport (files area : Bytes) (t : Retentions) : Type 0 where
+pub record OfReport (files area : Bytes) (t : Few Retention) : Type 0 where
   pub small : length (files ++ area) < 2 ^ 32
   pub holds : Holds (of_retention (reach_of (length files))) (length (files ++ area)) t.n t.all
   pub few : length (all_entries (files ++ area) t) ≤ 1024

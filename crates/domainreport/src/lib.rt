@@ -2,7 +2,7 @@
 #![tactic(auto)]
 
 ghost use Rattle.std.specs.Prelude.{◌≡◌, ◌++◌, map, ◌≤◌, length};
-ghost use Rattle.out.specs.Emit.{◌▸◌, emit};
+ghost use Rattle.out.specs.Text.{Writes};
 ghost use Rattle.names.specs.Name.{name_of};
 ghost use Rattle.nametable.specs.Table.{table_names};
 ghost use Rattle.design.specs.Paths.{retained_path};
@@ -15,7 +15,8 @@ ghost use Rattle.domainreport.specs.Reports.{OfReport};
 use clamps::stored;
 use domainlists::retained_of;
 use names::name::{Name, scoped};
-use store::state::Retentions;
+use out::emit::Text;
+use store::state::{Few, Retention};
 use store::stored::{Below, Stored, span};
 
 // A name below its scope.
@@ -29,13 +30,12 @@ pub fn below_name(files: &[u8], area: &[u8], b: Below) -> Name
 
 // Writes the line of a domain with both supplies, by names.
 fn powered_by<'a>(
-    out: &mut [u8],
-    at: usize,
+    to: &mut Text,
     files: &'a [u8],
     area: &'a [u8],
     over: &[u8],
     from: usize,
-    t: Retentions,
+    t: Few<Retention>,
     domain: Stored,
     power: Name,
     ground_net: Name,
@@ -43,14 +43,13 @@ fn powered_by<'a>(
     m: usize,
     n: usize,
     own: &mut [u32],
-) -> usize
+)
     requires { (OfReport files.now area.now t × (m ≤ 65536)) × (5120 ≤ length own.old) }
-    ensures { out.new ▸ result ≡ emit (out.old ▸ at) (powered_text (string (files.now ++ area.now) domain) (table_names (files.now ++ area.now) elements.now m) (name_of (files.now ++ area.now) power) (name_of (files.now ++ area.now) ground_net) n (map (retained_path (parts over.now from)) (own_entries (files.now ++ area.now) t domain))) }
+    ensures { Writes to.old (powered_text (string (files.now ++ area.now) domain) (table_names (files.now ++ area.now) elements.now m) (name_of (files.now ++ area.now) power) (name_of (files.now ++ area.now) ground_net) n (map (retained_path (parts over.now from)) (own_entries (files.now ++ area.now) t domain))) to.new }
 {
     let k = retained_of(files, area, t, domain, own);
     domainline::powered_line(
-        out,
-        at,
+        to,
         files,
         area,
         over,
@@ -68,27 +67,25 @@ fn powered_by<'a>(
 
 // Writes the line of a domain with both supplies.
 pub fn powered_line<'a>(
-    out: &mut [u8],
-    at: usize,
+    to: &mut Text,
     files: &'a [u8],
     area: &'a [u8],
     over: &[u8],
     from: usize,
-    t: Retentions,
+    t: Few<Retention>,
     domain: Stored,
     power: Name,
     ground_net: Name,
     elements: &[u32],
     m: usize,
     n: usize,
-) -> usize
+)
     requires { OfReport files.now area.now t × (m ≤ 65536) }
-    ensures { out.new ▸ result ≡ emit (out.old ▸ at) (powered_text (string (files.now ++ area.now) domain) (table_names (files.now ++ area.now) elements.now m) (name_of (files.now ++ area.now) power) (name_of (files.now ++ area.now) ground_net) n (map (retained_path (parts over.now from)) (own_entries (files.now ++ area.now) t domain))) }
+    ensures { Writes to.old (powered_text (string (files.now ++ area.now) domain) (table_names (files.now ++ area.now) elements.now m) (name_of (files.now ++ area.now) power) (name_of (files.now ++ area.now) ground_net) n (map (retained_path (parts over.now from)) (own_entries (files.now ++ area.now) t domain))) to.new }
 {
     if t.n == 0 {
         return domainline::powered_line(
-            out,
-            at,
+            to,
             files,
             area,
             over,
@@ -105,13 +102,13 @@ pub fn powered_line<'a>(
     }
     let mut own: [u32; 5120] = [0; 5120];
     powered_by(
-        out, at, files, area, over, from, t, domain, power, ground_net, elements, m, n, &mut own,
+        to, files, area, over, from, t, domain, power, ground_net, elements, m, n, &mut own,
     )
 }
 
 // Writes the line of a domain without.
-pub fn unpowered_line(out: &mut [u8], at: usize, files: &[u8], area: &[u8], domain: Stored) -> usize
-    ensures { out.new ▸ result ≡ emit (out.old ▸ at) (unpowered_text (string (files.now ++ area.now) domain)) }
+pub fn unpowered_line(to: &mut Text, files: &[u8], area: &[u8], domain: Stored)
+    ensures { Writes to.old (unpowered_text (string (files.now ++ area.now) domain)) to.new }
 {
-    domainline::unpowered_line(out, at, files, area, stored(domain))
+    domainline::unpowered_line(to, files, area, stored(domain))
 }

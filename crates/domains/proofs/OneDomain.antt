@@ -1,4 +1,8 @@
 -- The texts of one domain: laws as the needs ask them. Assumes nothing.
+use Rattle.store.specs.declared.state.Few.{Few}
+use Rattle.store.specs.declared.state.Isolation.{Isolation}
+use Rattle.store.specs.declared.state.Retention.{Retention}
+use Rattle.std.specs.Prelude.{Option, Some, None}
 use Prim.Native.Nat.{ℕ, ◌≤◌}
 use mathlib.Core.Path.{◌≡◌, refl, sym, ap, ◌∙◌}
 use mathlib.Core.Bool.{Bool, true, false, not}
@@ -28,11 +32,7 @@ use Rattle.store.specs.Strings.{string, below_of}
 use Rattle.store.specs.View.{isolation_of, domain_of, model_of}
 use Rattle.store.specs.Rows.{store_of}
 use Rattle.store.specs.declared.stored.Below.{Below}
-use Rattle.store.specs.declared.stored.MaybeBelow.{MaybeBelow}
-use Rattle.store.specs.declared.stored.MaybeBelow.TheVariants.{Not as Not-below, Given as Given-below}
 use Rattle.store.specs.declared.state.Domain.{Domain}
-use Rattle.store.specs.declared.state.Isolations.{Isolations}
-use Rattle.store.specs.declared.state.Retentions.{Retentions}
 use Rattle.store.specs.declared.state.State.{State}
 use Rattle.setting.specs.Stands.{Stands}
 use Rattle.isolated.specs.Table.{kept_in}
@@ -50,15 +50,21 @@ use Rattle.domains.specs.declared.Told.{Told}
 use Rattle.domains.specs.Told.{OfDomains, WalkRoom, shown_ports}
 use Rattle.domains.specs.One.{OfOne, OfTexts, Texts, Bare, Tells, SuppliedTold, OneTold}
 
+-- ---- a text over a buffer
+
+-- what was written into the text stands in the buffer
+pub over_written : (out out' : Bytes) (at o : ℕ) (z₀ z₁ : Out) (t : Bytes) → z₁ ≡ emit z₀ t → z₀ ≡ out ▸ at → out' ▸ o ≡ z₁ → out' ▸ o ≡ emit (out ▸ at) t
+over_written out out' at o z₀ z₁ t e f g = g ∙ rw (← f) e
+
 -- ---- the texts, by names
 
-pub texts_glue : (files area : Bytes) (xs : Isolations) (rs : Retentions) (ports : List ℕ) (isolated m : ℕ) (ends : List ℕ) (n : ℕ) → OfTexts files area xs rs ports isolated m ends n → OfGlue (files ++ area) xs ports isolated × (n ≤ length ends)
+pub texts_glue : (files area : Bytes) (xs : Few Isolation) (rs : Few Retention) (ports : List ℕ) (isolated m : ℕ) (ends : List ℕ) (n : ℕ) → OfTexts files area xs rs ports isolated m ends n → OfGlue (files ++ area) xs ports isolated × (n ≤ length ends)
 texts_glue files area xs rs ports isolated m ends n h = (h.glue, h.paths)
 
-pub texts_report : (files area : Bytes) (xs : Isolations) (rs : Retentions) (ports : List ℕ) (isolated m : ℕ) (ends : List ℕ) (n : ℕ) → OfTexts files area xs rs ports isolated m ends n → OfReport files area rs × (m ≤ 65536)
+pub texts_report : (files area : Bytes) (xs : Few Isolation) (rs : Few Retention) (ports : List ℕ) (isolated m : ℕ) (ends : List ℕ) (n : ℕ) → OfTexts files area xs rs ports isolated m ends n → OfReport files area rs × (m ≤ 65536)
 texts_report files area xs rs ports isolated m ends n h = (h.report, h.elements)
 
-pub texts_are : (mem : Bytes) (scope : List Bytes) (xs : Isolations) (rs : Retentions) (ports : List ℕ) (isolated : ℕ) (d : Domain) (p q : Below) (elements paths : List Bytes) (n : ℕ) (g : Out) (glue : Bytes) (o : Out) (report : Bytes) (x y : Name) (a b : ℕ)
+pub texts_are : (mem : Bytes) (scope : List Bytes) (xs : Few Isolation) (rs : Few Retention) (ports : List ℕ) (isolated : ℕ) (d : Domain) (p q : Below) (elements paths : List Bytes) (n : ℕ) (g : Out) (glue : Bytes) (o : Out) (report : Bytes) (x y : Name) (a b : ℕ)
     → name_of mem x ≡ below_of mem p → name_of mem y ≡ below_of mem q
     → glue ▸ a ≡ emit g (glue_text (string mem d.name) (name_of mem x) (name_of mem y) (each (check_text scope (strategy_at mem xs) (string mem d.name)) (own_in mem xs d.name ports isolated)) paths)
     → report ▸ b ≡ emit o (powered_text (string mem d.name) elements (name_of mem x) (name_of mem y) n (map (retained_path scope) (own_entries mem rs d.name)))
@@ -81,7 +87,7 @@ bare_line mem d g o report b e = record { over = refl; glue_is = refl; report_is
 
 -- ---- the texts by the definitions
 
-glue_told : (mem : Bytes) (xs : Isolations) (t : Setting) (d : Domain) → t.records.isolations ≡ map (isolation_of mem) (take xs.n xs.all) → (job : Bytes) (ports : List ℕ) (n : ℕ) (power ground_net : Bytes) (o : Out) (scope paths : List Bytes) → t.scope ≡ scope → paths ≡ lost_paths t (domain_of mem d)
+glue_told : (mem : Bytes) (xs : Few Isolation) (t : Setting) (d : Domain) → t.records.isolations ≡ map (isolation_of mem) (take xs.n xs.all) → (job : Bytes) (ports : List ℕ) (n : ℕ) (power ground_net : Bytes) (o : Out) (scope paths : List Bytes) → t.scope ≡ scope → paths ≡ lost_paths t (domain_of mem d)
     → emit o (glue_text (string mem d.name) power ground_net (each (check_text scope (strategy_at mem xs) (string mem d.name)) (own_in mem xs d.name ports n)) paths) ≡ emit o (powered_glue t (map (shown t.scope t.top (strategy_at mem xs)) (kept_in job mem ports n)) (domain_of mem d) power ground_net)
 unfolding domain_of
 glue_told mem xs t d are job ports n power ground_net o scope paths es ep =
@@ -197,16 +203,16 @@ module _ (job : Bytes) (nums : List ℕ) (count k : ℕ) (table : List ℕ) (fil
 -- ---- a domain
 
 module _ {A : Type 0} (mem : Bytes) (d : Domain) (z : A) (f : Bytes → Bytes → A) where
-  with_none : d.power ≡ Not-below → with_supplies (domain_of mem d) z f ≡ z
+  with_none : d.power ≡ None → with_supplies (domain_of mem d) z f ≡ z
   unfolding domain_of
   with_none e = rw e
 
-  without : (p : MaybeBelow) → d.power ≡ p → d.ground_net ≡ Not-below → with_supplies (domain_of mem d) z f ≡ z
+  without : (p : Option Below) → d.power ≡ p → d.ground_net ≡ None → with_supplies (domain_of mem d) z f ≡ z
   unfolding domain_of
-  without Not-below e n = rw e
-  without (Given-below b) e n = rw (e, n)
+  without None e n = rw e
+  without (Some b) e n = rw (e, n)
 
-  with_both : (p q : Below) → d.power ≡ Given-below p → d.ground_net ≡ Given-below q → with_supplies (domain_of mem d) z f ≡ f (below_of mem p) (below_of mem q)
+  with_both : (p q : Below) → d.power ≡ Some p → d.ground_net ≡ Some q → with_supplies (domain_of mem d) z f ≡ f (below_of mem p) (below_of mem q)
   unfolding domain_of
   with_both p q e n = rw (e, n)
 
@@ -239,14 +245,14 @@ module _ (job : Bytes) (nums : List ℕ) (count k : ℕ) (files area path : Byte
             (none_told glue at (unpowered_text (string (files ++ area) d.name)) o report r b.over b.glue_is b.report_is);
       }
 
-  pub no_power : Bare (files ++ area) d at o report r → d.power ≡ Not-below → OneTold job nums count k files area path from top s ports isolated d (glue ▸ at) glue o report r
+  pub no_power : Bare (files ++ area) d at o report r → d.power ≡ None → OneTold job nums count k files area path from top s ports isolated d (glue ▸ at) glue o report r
   no_power b e = bare_told (λ A z f. with_none (files ++ area) d z f e) b
 
-  pub no_ground : Bare (files ++ area) d at o report r → d.ground_net ≡ Not-below → OneTold job nums count k files area path from top s ports isolated d (glue ▸ at) glue o report r
+  pub no_ground : Bare (files ++ area) d at o report r → d.ground_net ≡ None → OneTold job nums count k files area path from top s ports isolated d (glue ▸ at) glue o report r
   no_ground b e = bare_told (λ A z f. without (files ++ area) d z f d.power refl e) b
 
 pub both_told : (job : Bytes) (nums : List ℕ) (count k : ℕ) (files area path : Bytes) (from : ℕ) (top : Bytes) (s : State) (ports : List ℕ) (isolated : ℕ) (d : Domain) (p q : Below) (g : Out) (glue : Bytes) (o : Out) (report : Bytes) (r : Told)
-    → SuppliedTold job nums count k files area path from top s ports isolated d p q g glue o report r → d.power ≡ Given-below p → d.ground_net ≡ Given-below q → OneTold job nums count k files area path from top s ports isolated d g glue o report r
+    → SuppliedTold job nums count k files area path from top s ports isolated d p q g glue o report r → d.power ≡ Some p → d.ground_net ≡ Some q → OneTold job nums count k files area path from top s ports isolated d g glue o report r
 both_told job nums count k files area path from top s ports isolated d p q g glue o report r x e f =
     record {
       told = λ t st.

@@ -1,4 +1,7 @@
 -- What the texts of one domain ask, and what they leave. Assumes nothing.
+use Rattle.store.specs.declared.state.Few.{Few}
+use Rattle.store.specs.declared.state.Isolation.{Isolation}
+use Rattle.store.specs.declared.state.Retention.{Retention}
 use Rattle.std.specs.Prelude.{ℕ, ◌≤◌, ◌≡◌, Bool, true, false, List, ◌++◌, map, length}
 use Rattle.text.specs.Ascii.{Bytes}
 use Rattle.out.specs.Emit.{Out, ◌▸◌, emit}
@@ -12,8 +15,6 @@ use Rattle.store.specs.View.{domain_of}
 use Rattle.store.specs.Order.{of_domain}
 use Rattle.store.specs.declared.stored.Below.{Below}
 use Rattle.store.specs.declared.state.Domain.{Domain}
-use Rattle.store.specs.declared.state.Isolations.{Isolations}
-use Rattle.store.specs.declared.state.Retentions.{Retentions}
 use Rattle.store.specs.declared.state.State.{State}
 use Rattle.made.specs.Made.{reach_of}
 use Rattle.setting.specs.Stands.{Stands}
@@ -34,7 +35,7 @@ pub record OfOne (files area : Bytes) (d : Domain) : Type 0 where
   pub few : length (domain_of (files ++ area) d).elements ≤ 65
 
 -- of the stored records, m elements and n listed paths
-pub record OfTexts (files area : Bytes) (xs : Isolations) (rs : Retentions) (ports : List ℕ) (isolated m : ℕ) (ends : List ℕ) (n : ℕ) : Type 0 where
+pub record OfTexts (files area : Bytes) (xs : Few Isolation) (rs : Few Retention) (ports : List ℕ) (isolated m : ℕ) (ends : List ℕ) (n : ℕ) : Type 0 where
   pub glue : OfGlue (files ++ area) xs ports isolated
   pub report : OfReport files area rs
   pub elements : m ≤ 65536
@@ -42,7 +43,7 @@ pub record OfTexts (files area : Bytes) (xs : Isolations) (rs : Retentions) (por
 
 -- ---- what is left, by stored names: the texts with both supplies, the line without
 
-pub record Texts (mem : Bytes) (scope : List Bytes) (xs : Isolations) (rs : Retentions) (ports : List ℕ) (isolated : ℕ) (d : Domain) (p g : Below) (elements paths : List Bytes) (n : ℕ) (o : Out) (glue : Bytes) (o' : Out) (report : Bytes) (r : Told) : Type 0 where
+pub record Texts (mem : Bytes) (scope : List Bytes) (xs : Few Isolation) (rs : Few Retention) (ports : List ℕ) (isolated : ℕ) (d : Domain) (p g : Below) (elements paths : List Bytes) (n : ℕ) (o : Out) (glue : Bytes) (o' : Out) (report : Bytes) (r : Told) : Type 0 where
   pub over : r.over ≡ false
   pub glue_is : glue ▸ r.glue ≡ emit o (glue_text (string mem d.name) (below_of mem p) (below_of mem g) (each (check_text scope (strategy_at mem xs) (string mem d.name)) (own_in mem xs d.name ports isolated)) paths)
   pub report_is : report ▸ r.report ≡ emit o' (powered_text (string mem d.name) elements (below_of mem p) (below_of mem g) n (map (retained_path scope) (own_entries mem rs d.name)))

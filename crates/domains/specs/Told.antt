@@ -1,4 +1,6 @@
 -- What the texts of all domains ask, and what they leave by the definitions. Assumes nothing.
+use Rattle.store.specs.declared.state.Few.{Few}
+use Rattle.store.specs.declared.state.Isolation.{Isolation}
 use Rattle.std.specs.Prelude.{ℕ, ◌+◌, ◌≤◌, ◌<◌, ◌^◌, ◌≡◌, true, false, List, ◌++◌, map, length}
 use Rattle.text.specs.Ascii.{Bytes}
 use Rattle.text.specs.Scan.{all}
@@ -15,7 +17,6 @@ use Rattle.modtable.specs.Table.{Tabled}
 use Rattle.corrupt.specs.Corrupt.{Short}
 use Rattle.scope.specs.Parts.{parts}
 use Rattle.store.specs.declared.state.State.{State}
-use Rattle.store.specs.declared.state.Isolations.{Isolations}
 use Rattle.setting.specs.Orders.{Orders}
 use Rattle.setting.specs.Stands.{Stands}
 use Rattle.texts.specs.Setting.{Setting}
@@ -50,7 +51,7 @@ pub record WalkRoom (tail text : Bytes) (ends : List ℕ) : Type 0 where
   pub ends_long : most_paths + flag_count ≤ length ends
 
 -- the isolated ports as the definitions have them
-abbrev pub shown_ports : Setting → Bytes → Bytes → Isolations → List ℕ → ℕ → List Isolated
+abbrev pub shown_ports : Setting → Bytes → Bytes → Few Isolation → List ℕ → ℕ → List Isolated
 shown_ports t job mem xs ports n = map (shown t.scope t.top (strategy_at mem xs)) (kept_in job mem ports n)
 
 -- ---- what is left: the glue and the lines of all domains, or a walk past its limits

@@ -14,8 +14,9 @@ use domainglue::powered_glue;
 use domainpaths::lost;
 use domainreport::{below_name, powered_line, unpowered_line};
 use modtable::part::low;
-use store::state::{Domain, Isolations, Retentions, State};
-use store::stored::{Below, MaybeBelow};
+use out::emit::Text;
+use store::state::{Domain, Few, Isolation, Retention, State};
+use store::stored::Below;
 
 // Where glue and report end; or a limit is passed.
 #[derive(Clone, Copy)]
@@ -33,8 +34,8 @@ fn texts<'a>(
     path: &[u8],
     from: usize,
     top: &[u8],
-    xs: Isolations,
-    rs: Retentions,
+    xs: Few<Isolation>,
+    rs: Few<Retention>,
     ports: &[u32],
     isolated: usize,
     d: Domain,
@@ -55,13 +56,17 @@ fn texts<'a>(
     let power = below_name(files, area, p);
     let ground_net = below_name(files, area, g);
     let name = d.name;
-    let a = powered_glue(
-        glue, at.glue, job, files, area, path, from, top, xs, ports, isolated, text, ends, n, name,
-        power, ground_net,
+    let mut u = Text::over(glue, at.glue);
+    powered_glue(
+        &mut u, job, files, area, path, from, top, xs, ports, isolated, text, ends, n, name, power,
+        ground_net,
     );
-    let b = powered_line(
-        report, at.report, files, area, path, from, rs, name, power, ground_net, elements, m, n,
+    let a = u.end();
+    let mut v = Text::over(report, at.report);
+    powered_line(
+        &mut v, files, area, path, from, rs, name, power, ground_net, elements, m, n,
     );
+    let b = v.end();
     Told {
         over: false,
         glue: a,
@@ -189,7 +194,9 @@ fn bare(files: &[u8], area: &[u8], d: Domain, report: &mut [u8], at: Told) -> To
     ensures { Bare (files.now ++ area.now) d at.glue (report.old ▸ at.report) report.new result }
 {
     let name = d.name;
-    let b = unpowered_line(report, at.report, files, area, name);
+    let mut v = Text::over(report, at.report);
+    unpowered_line(&mut v, files, area, name);
+    let b = v.end();
     Told {
         over: false,
         glue: at.glue,
@@ -227,11 +234,11 @@ fn domain<'a>(
     ensures { OneTold job.now nums.now count k files.now area.now path.now from top.now s ports.now isolated d (glue.old ▸ at.glue) glue.new (report.old ▸ at.report) report.new result }
 {
     let power = d.power;
-    let MaybeBelow::Given(p) = power else {
+    let Some(p) = power else {
         return bare(files, area, d, report, at);
     };
     let ground_net = d.ground_net;
-    let MaybeBelow::Given(g) = ground_net else {
+    let Some(g) = ground_net else {
         return bare(files, area, d, report, at);
     };
     supplied(
@@ -271,8 +278,7 @@ pub fn domains<'a>(
     let t = s.domains;
     let m = t.n;
     let mut o = at;
-    let mut i = 0;
-    while i < m {
+    for i in 0..m {
         let d = t.all[i];
         o = domain(
             job, nums, count, k, table, files, area, path, from, prefix, top, s, retained, kept,
@@ -281,7 +287,6 @@ pub fn domains<'a>(
         if o.over {
             return o;
         }
-        i += 1;
     }
     o
 }

@@ -1,4 +1,6 @@
 -- The warnings about elements: laws as the needs ask them. Assumes nothing.
+use Rattle.store.specs.declared.state.Few.{Few}
+use Rattle.std.specs.Prelude.{Option, Some, None}
 use Prim.Native.Nat.{ℕ, zero, suc, ◌+◌, ◌-◌, ◌*◌, ◌≤◌, ◌<◌, ◌^◌}
 use mathlib.Core.Path.{◌≡◌, refl, sym, ap, ◌∙◌}
 use mathlib.Core.Bool.{Bool, true, false, cond, not}
@@ -7,7 +9,7 @@ use native.Mathlib.Omega.{arith}
 use lib.ListN.{length, take, drop, get_or, length-append}
 use borrow.Author.Rules.{rules}
 use Rattle.text.specs.Ascii.{Bytes}
-use Rattle.out.specs.Emit.{Out, emit, emit_append}
+use Rattle.out.specs.Emit.{Out, ◌▸◌, emit, emit_append}
 use Rattle.out.specs.Fill.{turns, arg, pick, writes, format2, emit_fill}
 use Rattle.out.specs.Items.{each}
 use Rattle.joblines.specs.Job.{Module}
@@ -27,10 +29,7 @@ use Rattle.store.specs.Order.{of_domain}
 use Rattle.store.specs.Tables.{within_get}
 use Rattle.store.specs.declared.stored.Stored.{Stored}
 use Rattle.store.specs.declared.stored.Below.{Below}
-use Rattle.store.specs.declared.stored.MaybeBelow.{MaybeBelow}
-use Rattle.store.specs.declared.stored.MaybeBelow.TheVariants.{Not as Not-below, Given as Given-below}
 use Rattle.store.specs.declared.state.Domain.{Domain}
-use Rattle.store.specs.declared.state.Domains.{Domains}
 use Rattle.made.specs.Made.{reach_of}
 use Rattle.setting.specs.Orders.{holds_few, holds_long, holds_at, holds_next, holds_end}
 use Rattle.domainlists.specs.Lists.{OfDomain, Names}
@@ -56,6 +55,12 @@ missing_one : (d : List Module) (base : Module) (name e : Bytes) (b : Bool) → 
 unfolding those
 missing_one d base name e true h = rw h
 missing_one d base name e false h = rw h
+
+-- ---- a text over a buffer
+
+-- what was written into the text stands in the buffer
+pub over_written : (out out' : Bytes) (at o : ℕ) (z₀ z₁ : Out) (t : Bytes) → z₁ ≡ emit z₀ t → z₀ ≡ out ▸ at → out' ▸ o ≡ z₁ → out' ▸ o ≡ emit (out ▸ at) t
+over_written out out' at o z₀ z₁ t e f g = g ∙ rw (← f) e
 
 module _ (job : Bytes) (nums : List ℕ) (count k : ℕ) (e : Bytes) (m : ℕ) (seen : ModuleSeen job nums count (module_at (modules job nums count) (module_row job nums k) (filled_parts e)) m) where
   leads : (m ≡ 0 → ⊥) → is_there (modules job nums count) (module_row job nums k) e ≡ true
@@ -146,19 +151,19 @@ pub ruleset founds = (rules, few_elements)
 -- ---- a domain
 
 module _ (mem : Bytes) (d : List Module) (base : Module) (x : Domain) where
-  pub no_power : (o : Out) (n : ℕ) → x.power ≡ Not-below → Told 65 o n (remarks d base (domain_of mem x)) o n
+  pub no_power : (o : Out) (n : ℕ) → x.power ≡ None → Told 65 o n (remarks d base (domain_of mem x)) o n
   unfolding domain_of
   no_power o n e = rw e (record { text = sym (no_line o); count = omega arith; few = omega arith })
 
-  no_ground_by : (p : MaybeBelow) (o : Out) (n : ℕ) → x.power ≡ p → x.ground_net ≡ Not-below → Told 65 o n (remarks d base (domain_of mem x)) o n
+  no_ground_by : (p : Option Below) (o : Out) (n : ℕ) → x.power ≡ p → x.ground_net ≡ None → Told 65 o n (remarks d base (domain_of mem x)) o n
   unfolding domain_of
-  no_ground_by Not-below o n q e = rw q (record { text = sym (no_line o); count = omega arith; few = omega arith })
-  no_ground_by (Given-below b) o n q e = rw (q, e) (record { text = sym (no_line o); count = omega arith; few = omega arith })
+  no_ground_by None o n q e = rw q (record { text = sym (no_line o); count = omega arith; few = omega arith })
+  no_ground_by (Some b) o n q e = rw (q, e) (record { text = sym (no_line o); count = omega arith; few = omega arith })
 
-  pub no_ground : (o : Out) (n : ℕ) → x.ground_net ≡ Not-below → Told 65 o n (remarks d base (domain_of mem x)) o n
+  pub no_ground : (o : Out) (n : ℕ) → x.ground_net ≡ None → Told 65 o n (remarks d base (domain_of mem x)) o n
   no_ground o n e = no_ground_by x.power o n refl e
 
-  pub with_both : (p g : Below) (o : Out) (n : ℕ) (o' : Out) (n' : ℕ) → Told 65 o n (missing d base (string mem x.name) (domain_of mem x).elements) o' n' → x.power ≡ Given-below p → x.ground_net ≡ Given-below g → Told 65 o n (remarks d base (domain_of mem x)) o' n'
+  pub with_both : (p g : Below) (o : Out) (n : ℕ) (o' : Out) (n' : ℕ) → Told 65 o n (missing d base (string mem x.name) (domain_of mem x).elements) o' n' → x.power ≡ Some p → x.ground_net ≡ Some g → Told 65 o n (remarks d base (domain_of mem x)) o' n'
   unfolding domain_of
   with_both p g o n o' n' t e f = rw (e, f) t
 
@@ -167,10 +172,10 @@ module _ (mem : Bytes) (d : List Module) (base : Module) (x : Domain) where
 abbrev remarked : Bytes → List Module → Module → Domain → List Bytes
 remarked mem d base x = remarks d base (domain_of mem x)
 
-pub record Domained (mem : Bytes) (d : List Module) (base : Module) (t : Domains) (w : Out) (total : ℕ) (o : Out) (n i : ℕ) : Type 0 where
+pub record Domained (mem : Bytes) (d : List Module) (base : Module) (t : Few Domain) (w : Out) (total : ℕ) (o : Out) (n i : ℕ) : Type 0 where
   pub left : Left w total (flat_map (remarked mem d base) (drop i (take t.n t.all))) o n
 
-pub domained_start : (mem : Bytes) (d : List Module) (base : Module) (t : Domains) (o : Out) (n : ℕ) → Domained mem d base t (emit o (each warning_line (flat_map (remarked mem d base) (take t.n t.all)))) (n + length (flat_map (remarked mem d base) (take t.n t.all))) o n 0
+pub domained_start : (mem : Bytes) (d : List Module) (base : Module) (t : Few Domain) (o : Out) (n : ℕ) → Domained mem d base t (emit o (each warning_line (flat_map (remarked mem d base) (take t.n t.all)))) (n + length (flat_map (remarked mem d base) (take t.n t.all))) o n 0
 domained_start mem d base t o n = record { left = record { text = refl; count = refl } }
 
 flat_first : (mem : Bytes) (d : List Module) (base : Module) (x : Domain) (l : List Domain) → flat_map (remarked mem d base) (x ∷ l) ≡ remarked mem d base x ++ flat_map (remarked mem d base) l
@@ -181,7 +186,7 @@ flat_none : (mem : Bytes) (d : List Module) (base : Module) → flat_map (remark
 unfolding flat_map
 flat_none mem d base = refl
 
-module _ (files area : Bytes) (t : Domains) (g : OfDomains files area t) where
+module _ (files area : Bytes) (t : Few Domain) (g : OfDomains files area t) where
   abbrev of : Domain → ℕ
   of = of_domain (reach_of (length files))
 

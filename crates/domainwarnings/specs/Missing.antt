@@ -1,4 +1,5 @@
 -- The warnings about elements of domains, by the design and the scope's module alone. Assumes nothing.
+use Rattle.store.specs.declared.state.Few.{Few}
 use Rattle.std.specs.Prelude.{ℕ, ◌+◌, ◌≤◌, ◌<◌, ◌^◌, ◌≡◌, refl, Bool, true, false, not, length, take}
 use Rattle.std.proofs.Common.{ap}
 use mathlib.Core.List.{List, [], ◌∷◌, ◌++◌, map, flat_map}
@@ -17,7 +18,6 @@ use Rattle.texts.specs.Texts.{warning_line}
 use Rattle.store.specs.View.{domain_of, Store, model_of}
 use Rattle.store.specs.Order.{Within, of_domain}
 use Rattle.store.specs.declared.state.Domain.{Domain}
-use Rattle.store.specs.declared.state.Domains.{Domains}
 use Rattle.store.specs.declared.state.State.{State}
 use Rattle.made.specs.Made.{reach_of}
 use Rattle.setting.specs.Orders.{Holds, Orders, domains_hold}
@@ -50,7 +50,7 @@ pub record OfElements (files area : Bytes) (d : Domain) : Type 0 where
   pub strings : of_domain (reach_of (length files)) d ≤ length (files ++ area)
   pub few : length (domain_of (files ++ area) d).elements ≤ 65
 
-pub record OfDomains (files area : Bytes) (t : Domains) : Type 0 where
+pub record OfDomains (files area : Bytes) (t : Few Domain) : Type 0 where
   pub small : length (files ++ area) < 2 ^ 32
   pub holds : Holds (of_domain (reach_of (length files))) (length (files ++ area)) t.n t.all
   pub few : Within (λ (d : Domain). length (domain_of (files ++ area) d).elements) 65 (take t.n t.all)

@@ -16,8 +16,9 @@ use clamps::stored;
 use domainlists::domain_elements;
 use names::name::Name;
 use nametable::row;
-use store::state::{Domain, Domains};
-use store::stored::{MaybeBelow, Stored};
+use out::emit::Text;
+use store::state::{Domain, Few};
+use store::stored::Stored;
 
 // Where the report ends, and how many warnings there are.
 #[derive(Clone, Copy)]
@@ -46,15 +47,16 @@ fn warn_missing(
     if m != 0 {
         return at;
     }
-    let o = nametexts::fill2(
-        out,
-        at.at,
+    let mut text = Text::over(out, at.at);
+    nametexts::fill2(
+        &mut text,
         b"warning: power domain '{0}': element '{1}' not found\n",
         files,
         area,
         stored(domain),
         e,
     );
+    let o = text.end();
     Warned {
         at: o,
         count: at.count + 1,
@@ -79,8 +81,7 @@ fn missing_among(
     ensures { Told 65 (out.old ▸ at.at) at.count (missing (modules job.now nums.now count) (module_row job.now nums.now k) (string (files.now ++ area.now) domain) (table_names (files.now ++ area.now) elements.now n)) (out.new ▸ result.at) result.count }
 {
     let mut o = at;
-    let mut i = 0;
-    while i < n {
+    for i in 0..n {
         o = warn_missing(
             out,
             o,
@@ -93,7 +94,6 @@ fn missing_among(
             domain,
             row(elements, i),
         );
-        i += 1;
     }
     o
 }
@@ -154,11 +154,11 @@ fn of_domain<'a>(
     ensures { Told 65 (out.old ▸ at.at) at.count (remarks (modules job.now nums.now count) (module_row job.now nums.now k) (domain_of (files.now ++ area.now) d)) (out.new ▸ result.at) result.count }
 {
     let power = d.power;
-    let MaybeBelow::Given(_) = power else {
+    let Some(_) = power else {
         return at;
     };
     let ground_net = d.ground_net;
-    let MaybeBelow::Given(_) = ground_net else {
+    let Some(_) = ground_net else {
         return at;
     };
     not_found(out, at, job, nums, count, k, files, area, d)
@@ -174,18 +174,16 @@ pub fn domain_warnings<'a>(
     k: usize,
     files: &'a [u8],
     area: &'a [u8],
-    t: Domains,
+    t: Few<Domain>,
 ) -> Warned
     requires { ((count ≤ 128) × (k < count)) × (OfDomains files.now area.now t × (at.count ≤ 2 ^ 60)) }
     ensures { Told 2080 (out.old ▸ at.at) at.count (flat_map (λ d. remarks (modules job.now nums.now count) (module_row job.now nums.now k) (domain_of (files.now ++ area.now) d)) (take t.n t.all)) (out.new ▸ result.at) result.count }
 {
     let m = t.n;
     let mut o = at;
-    let mut i = 0;
-    while i < m {
+    for i in 0..m {
         let d = t.all[i];
         o = of_domain(out, o, job, nums, count, k, files, area, d);
-        i += 1;
     }
     o
 }

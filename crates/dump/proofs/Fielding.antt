@@ -1,4 +1,5 @@
 -- Laws: a flag, and a value that may not be given. Assumes nothing.
+use Rattle.std.specs.Prelude.{Option, Some, None}
 use mathlib.Core.Path.{◌≡◌}
 use mathlib.Core.Bool.{Bool, true, false}
 use borrow.Author.Rules.{rules}
@@ -6,10 +7,6 @@ use Rattle.text.specs.Ascii.{ascii}
 use Rattle.out.specs.Emit.{Out, emit}
 use Rattle.store.specs.declared.stored.Stored.{Stored}
 use Rattle.store.specs.declared.stored.Below.{Below}
-use Rattle.store.specs.declared.stored.Maybe.{Maybe}
-use Rattle.store.specs.declared.stored.Maybe.TheVariants.{Not, Given}
-use Rattle.store.specs.declared.stored.MaybeBelow.{MaybeBelow}
-use Rattle.store.specs.declared.stored.MaybeBelow.TheVariants.{Not as Not-below, Given as Given-below}
 use Rattle.dump.specs.Fields.{flag_text, stored_text, below_text, maybe_text, maybe_below_text}
 
 module _ (o o' : Out) where
@@ -21,19 +18,19 @@ module _ (o o' : Out) where
   unfolding flag_text
   flag_clear b e h = rw e h
 
-  pub maybe_not : (m : Maybe) → m ≡ Not → o' ≡ emit o (ascii "- ") → o' ≡ emit o (maybe_text m)
+  pub maybe_not : (m : Option Stored) → m ≡ None → o' ≡ emit o (ascii "- ") → o' ≡ emit o (maybe_text m)
   unfolding maybe_text
   maybe_not m e h = rw e h
 
-  pub maybe_given : (m : Maybe) (s : Stored) → m ≡ Given s → o' ≡ emit o (stored_text s) → o' ≡ emit o (maybe_text m)
+  pub maybe_given : (m : Option Stored) (s : Stored) → m ≡ Some s → o' ≡ emit o (stored_text s) → o' ≡ emit o (maybe_text m)
   unfolding maybe_text
   maybe_given m s e h = rw e h
 
-  pub below_not : (m : MaybeBelow) → m ≡ Not-below → o' ≡ emit o (ascii "- ") → o' ≡ emit o (maybe_below_text m)
+  pub below_not : (m : Option Below) → m ≡ None → o' ≡ emit o (ascii "- ") → o' ≡ emit o (maybe_below_text m)
   unfolding maybe_below_text
   below_not m e h = rw e h
 
-  pub below_given : (m : MaybeBelow) (b : Below) → m ≡ Given-below b → o' ≡ emit o (below_text b) → o' ≡ emit o (maybe_below_text m)
+  pub below_given : (m : Option Below) (b : Below) → m ≡ Some b → o' ≡ emit o (below_text b) → o' ≡ emit o (maybe_below_text m)
   unfolding maybe_below_text
   below_given m b e h = rw e h
 

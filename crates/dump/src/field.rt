@@ -1,62 +1,59 @@
 // The fields of records.
 ghost use Rattle.std.specs.Prelude.{◌≡◌};
-ghost use Rattle.out.specs.Emit.{◌▸◌, emit};
+ghost use Rattle.out.specs.Text.{Writes};
 ghost use Rattle.dump.specs.Fields.{number_text, flag_text, stored_text, below_text, maybe_text, maybe_below_text};
 
-use out::emit::put;
-use out::number::decimal;
-use store::stored::{Below, Maybe, MaybeBelow, Stored};
+use out::emit::Text;
+use store::stored::{Below, Stored};
 
 // A number and a space behind it.
-pub fn number(out: &mut [u8], at: usize, n: u64) -> usize
-    ensures { out.new ▸ result ≡ emit (out.old ▸ at) (number_text n) }
+pub fn number(to: &mut Text, n: u64)
+    ensures { Writes to.old (number_text n) to.new }
 {
-    let o = decimal(out, at, n);
-    put(out, o, b" ")
+    to.decimal(n);
+    to.put(b" ")
 }
 
-pub fn flag(out: &mut [u8], at: usize, b: bool) -> usize
-    ensures { out.new ▸ result ≡ emit (out.old ▸ at) (flag_text b) }
+pub fn flag(to: &mut Text, b: bool)
+    ensures { Writes to.old (flag_text b) to.new }
 {
     if b {
-        return put(out, at, b"1 ");
+        return to.put(b"1 ");
     }
-    put(out, at, b"0 ")
+    to.put(b"0 ")
 }
 
 // Where a string lies, and its length.
-pub fn stored(out: &mut [u8], at: usize, s: Stored) -> usize
-    ensures { out.new ▸ result ≡ emit (out.old ▸ at) (stored_text s) }
+pub fn stored(to: &mut Text, s: Stored)
+    ensures { Writes to.old (stored_text s) to.new }
 {
-    let o = number(out, at, s.at as u64);
-    number(out, o, s.len as u64)
+    number(to, s.at as u64);
+    number(to, s.len as u64)
 }
 
 // The scope, then the word below it.
-pub fn below(out: &mut [u8], at: usize, b: Below) -> usize
-    ensures { out.new ▸ result ≡ emit (out.old ▸ at) (below_text b) }
+pub fn below(to: &mut Text, b: Below)
+    ensures { Writes to.old (below_text b) to.new }
 {
-    let scope = b.scope;
-    let word = b.word;
-    let o = stored(out, at, scope);
-    stored(out, o, word)
+    stored(to, b.scope);
+    stored(to, b.word)
 }
 
 // A value that may not be given.
-pub fn maybe(out: &mut [u8], at: usize, m: Maybe) -> usize
-    ensures { out.new ▸ result ≡ emit (out.old ▸ at) (maybe_text m) }
+pub fn maybe(to: &mut Text, m: Option<Stored>)
+    ensures { Writes to.old (maybe_text m) to.new }
 {
     match m {
-        Maybe::Not => put(out, at, b"- "),
-        Maybe::Given(s) => stored(out, at, s),
+        None => to.put(b"- "),
+        Some(s) => stored(to, s),
     }
 }
 
-pub fn maybe_below(out: &mut [u8], at: usize, m: MaybeBelow) -> usize
-    ensures { out.new ▸ result ≡ emit (out.old ▸ at) (maybe_below_text m) }
+pub fn maybe_below(to: &mut Text, m: Option<Below>)
+    ensures { Writes to.old (maybe_below_text m) to.new }
 {
     match m {
-        MaybeBelow::Not => put(out, at, b"- "),
-        MaybeBelow::Given(b) => below(out, at, b),
+        None => to.put(b"- "),
+        Some(b) => below(to, b),
     }
 }

@@ -1,119 +1,170 @@
 // The records, field by field.
 ghost use Rattle.std.specs.Prelude.{◌≡◌};
-ghost use Rattle.out.specs.Emit.{◌▸◌, emit};
+ghost use Rattle.text.specs.Ascii.{Bytes};
+ghost use Rattle.out.specs.Text.{Writes};
+ghost use Rattle.dump.specs.Fields.{below_text};
 ghost use Rattle.dump.specs.Records.{domain_text, port_text, switch_text, isolation_text, retention_text, shifter_text, port_state_text, table_text};
 
 use super::field::{below, flag, maybe, maybe_below, number, stored};
+use out::emit::Text;
 use store::state::{Domain, Isolation, Port, PortState, Retention, Shifter, Switch, Table};
+use store::stored::Below;
 
-pub fn domain(out: &mut [u8], at: usize, x: Domain) -> usize
-    ensures { out.new ▸ result ≡ emit (out.old ▸ at) (domain_text x) }
-{
-    let name = x.name;
-    let elements = x.elements;
-    let power = x.power;
-    let ground_net = x.ground_net;
-    let scope = x.scope;
-    let o1 = stored(out, at, name);
-    let o2 = stored(out, o1, elements);
-    let o3 = flag(out, o2, x.whole);
-    let o4 = maybe_below(out, o3, power);
-    let o5 = maybe_below(out, o4, ground_net);
-    stored(out, o5, scope)
+// A record that is written as a text of its own.
+pub trait Dumped {
+    ghost text: { Self → Bytes };
+
+    fn dump(&self, to: &mut Text)
+        ensures { Writes to.old (text self.now) to.new };
 }
 
-pub fn port(out: &mut [u8], at: usize, x: Port) -> usize
-    ensures { out.new ▸ result ≡ emit (out.old ▸ at) (port_text x) }
+pub fn domain(to: &mut Text, x: Domain)
+    ensures { Writes to.old (domain_text x) to.new }
 {
-    let name = x.name;
-    let direction = x.direction;
-    let o1 = below(out, at, name);
-    maybe(out, o1, direction)
+    stored(to, x.name);
+    stored(to, x.elements);
+    flag(to, x.whole);
+    maybe_below(to, x.power);
+    maybe_below(to, x.ground_net);
+    stored(to, x.scope)
 }
 
-pub fn switch(out: &mut [u8], at: usize, x: Switch) -> usize
-    ensures { out.new ▸ result ≡ emit (out.old ▸ at) (switch_text x) }
+pub fn port(to: &mut Text, x: Port)
+    ensures { Writes to.old (port_text x) to.new }
 {
-    let name = x.name;
-    let domain = x.domain;
-    let scope = x.scope;
-    let input = x.input;
-    let output = x.output;
-    let controls = x.controls;
-    let o1 = stored(out, at, name);
-    let o2 = maybe(out, o1, domain);
-    let o3 = stored(out, o2, scope);
-    let o4 = stored(out, o3, input);
-    let o5 = stored(out, o4, output);
-    let o6 = stored(out, o5, controls);
-    let o7 = number(out, o6, x.first as u64);
-    let o8 = number(out, o7, x.ons as u64);
-    number(out, o8, x.offs as u64)
+    below(to, x.name);
+    maybe(to, x.direction)
 }
 
-pub fn isolation(out: &mut [u8], at: usize, x: Isolation) -> usize
-    ensures { out.new ▸ result ≡ emit (out.old ▸ at) (isolation_text x) }
+pub fn switch(to: &mut Text, x: Switch)
+    ensures { Writes to.old (switch_text x) to.new }
 {
-    let name = x.name;
-    let domain = x.domain;
-    let applies = x.applies;
-    let scope = x.scope;
-    let elements = x.elements;
-    let clamp = x.clamp;
-    let signal = x.signal;
-    let sense = x.sense;
-    let power = x.power;
-    let ground_net = x.ground_net;
-    let o1 = stored(out, at, name);
-    let o2 = stored(out, o1, domain);
-    let o3 = maybe(out, o2, applies);
-    let o4 = stored(out, o3, scope);
-    let o5 = stored(out, o4, elements);
-    let o6 = maybe(out, o5, clamp);
-    let o7 = maybe(out, o6, signal);
-    let o8 = maybe(out, o7, sense);
-    let o9 = maybe(out, o8, power);
-    maybe(out, o9, ground_net)
+    stored(to, x.name);
+    maybe(to, x.domain);
+    stored(to, x.scope);
+    stored(to, x.input);
+    stored(to, x.output);
+    stored(to, x.controls);
+    number(to, x.first as u64);
+    number(to, x.ons as u64);
+    number(to, x.offs as u64)
 }
 
-pub fn retention(out: &mut [u8], at: usize, x: Retention) -> usize
-    ensures { out.new ▸ result ≡ emit (out.old ▸ at) (retention_text x) }
+pub fn isolation(to: &mut Text, x: Isolation)
+    ensures { Writes to.old (isolation_text x) to.new }
 {
-    let name = x.name;
-    let domain = x.domain;
-    let scope = x.scope;
-    let elements = x.elements;
-    let o1 = stored(out, at, name);
-    let o2 = stored(out, o1, domain);
-    let o3 = stored(out, o2, scope);
-    stored(out, o3, elements)
+    stored(to, x.name);
+    stored(to, x.domain);
+    maybe(to, x.applies);
+    stored(to, x.scope);
+    stored(to, x.elements);
+    maybe(to, x.clamp);
+    maybe(to, x.signal);
+    maybe(to, x.sense);
+    maybe(to, x.power);
+    maybe(to, x.ground_net)
 }
 
-pub fn shifter(out: &mut [u8], at: usize, x: Shifter) -> usize
-    ensures { out.new ▸ result ≡ emit (out.old ▸ at) (shifter_text x) }
+pub fn retention(to: &mut Text, x: Retention)
+    ensures { Writes to.old (retention_text x) to.new }
 {
-    let name = x.name;
-    let domain = x.domain;
-    let o1 = stored(out, at, name);
-    stored(out, o1, domain)
+    stored(to, x.name);
+    stored(to, x.domain);
+    stored(to, x.scope);
+    stored(to, x.elements)
 }
 
-pub fn port_state(out: &mut [u8], at: usize, x: PortState) -> usize
-    ensures { out.new ▸ result ≡ emit (out.old ▸ at) (port_state_text x) }
+pub fn shifter(to: &mut Text, x: Shifter)
+    ensures { Writes to.old (shifter_text x) to.new }
 {
-    let name = x.name;
-    let o1 = below(out, at, name);
-    let o2 = number(out, o1, x.first as u64);
-    number(out, o2, x.count as u64)
+    stored(to, x.name);
+    stored(to, x.domain)
 }
 
-pub fn table(out: &mut [u8], at: usize, x: Table) -> usize
-    ensures { out.new ▸ result ≡ emit (out.old ▸ at) (table_text x) }
+pub fn port_state(to: &mut Text, x: PortState)
+    ensures { Writes to.old (port_state_text x) to.new }
 {
-    let name = x.name;
-    let scope = x.scope;
-    let supplies = x.supplies;
-    let o1 = stored(out, at, name);
-    let o2 = stored(out, o1, scope);
-    stored(out, o2, supplies)
+    below(to, x.name);
+    number(to, x.first as u64);
+    number(to, x.count as u64)
+}
+
+pub fn table(to: &mut Text, x: Table)
+    ensures { Writes to.old (table_text x) to.new }
+{
+    stored(to, x.name);
+    stored(to, x.scope);
+    stored(to, x.supplies)
+}
+
+impl Dumped for Below {
+    ghost text = { below_text };
+
+    fn dump(&self, to: &mut Text) {
+        below(to, *self)
+    }
+}
+
+impl Dumped for Domain {
+    ghost text = { domain_text };
+
+    fn dump(&self, to: &mut Text) {
+        domain(to, *self)
+    }
+}
+
+impl Dumped for Port {
+    ghost text = { port_text };
+
+    fn dump(&self, to: &mut Text) {
+        port(to, *self)
+    }
+}
+
+impl Dumped for Switch {
+    ghost text = { switch_text };
+
+    fn dump(&self, to: &mut Text) {
+        switch(to, *self)
+    }
+}
+
+impl Dumped for Isolation {
+    ghost text = { isolation_text };
+
+    fn dump(&self, to: &mut Text) {
+        isolation(to, *self)
+    }
+}
+
+impl Dumped for Retention {
+    ghost text = { retention_text };
+
+    fn dump(&self, to: &mut Text) {
+        retention(to, *self)
+    }
+}
+
+impl Dumped for Shifter {
+    ghost text = { shifter_text };
+
+    fn dump(&self, to: &mut Text) {
+        shifter(to, *self)
+    }
+}
+
+impl Dumped for PortState {
+    ghost text = { port_state_text };
+
+    fn dump(&self, to: &mut Text) {
+        port_state(to, *self)
+    }
+}
+
+impl Dumped for Table {
+    ghost text = { table_text };
+
+    fn dump(&self, to: &mut Text) {
+        table(to, *self)
+    }
 }

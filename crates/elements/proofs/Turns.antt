@@ -6,7 +6,7 @@ use native.Mathlib.Numerals.{add-one}
 use native.Mathlib.Omega.{arith}
 use mathlib.Core.Bool.{Bool, true, false, cond}
 use mathlib.Core.List.{List, [], ◌∷◌}
-use mathlib.Core.Option.{Option, none, some, map}
+use Rattle.std.specs.Prelude.{Option, None, Some, option_map}
 use lib.ListN.{length, set}
 use lib.Dec.{eqb}
 use borrow.Author.Rules.{rules}
@@ -14,16 +14,13 @@ use Rattle.text.specs.Ascii.{Bytes, byte}
 use Rattle.text.specs.Compare.{same}
 use Rattle.text.specs.Sames.{same_of, same_turned}
 use Rattle.text.specs.Scan.{split_at, onto}
-use Rattle.fields.specs.declared.Dims.{Dims}
 use Rattle.joblines.specs.Job.{Inst, Module}
 use Rattle.jobindex.specs.Index.{num, module_row}
-use Rattle.jobindex.specs.declared.Span.{Span}
 use Rattle.design.specs.Lists.{first, on_some, those}
 use Rattle.design.specs.Lookup.{module_named, instance_named, module_at}
 use Rattle.design.specs.Paths.{filled_parts}
-use Rattle.lines.specs.Cursors.{spanned, inst_is, InstSeen, Stepped}
+use Rattle.lines.specs.Cursors.{spanned, inst_is, InstSeen}
 use Rattle.lines.specs.declared.InstAt.{InstAt}
-use Rattle.lines.specs.declared.InstAt.TheVariants as inst
 use Rattle.memo.specs.Known.{slots, Begins, Leads, Known, Recalls, Asked, asked_row, asked_slot, asked_fits, recalls_row, recalls_asks, recalls_room, begins_row, begins_first, begins_here, leads_here, known_put}
 use Rattle.lookup.specs.Rows.{modules, row_is, ModuleSeen, insts_from, insts_end, at_none, at_more, below}
 use Rattle.spans.specs.Span.{◌⋯◌, bytes}
@@ -31,13 +28,10 @@ use Rattle.names.specs.Name.{named, name_of, step_of}
 use Rattle.names.specs.Parts.{parts, first_part, others, behind, unslashed, part_of, part_same, part_other, first_on, unslashed_parts, unslashed_first}
 use Rattle.names.specs.Frame.{alone_is}
 use Rattle.names.specs.declared.name.Name.{Name}
-use Rattle.names.specs.declared.name.Step.{Step}
-use Rattle.names.specs.declared.name.Step.TheVariants as step
 use Rattle.names.specs.declared.part.Part.{Part}
 use Rattle.names.specs.declared.part.Part.TheVariants as part
 use Rattle.elements.specs.Down.{filled, type_below, DownIs, DownSeen, StepSeen}
 use Rattle.elements.specs.declared.Down.{Down}
-use Rattle.elements.specs.declared.Down.TheVariants as down
 
 -- ---- how long the parts are
 
@@ -65,8 +59,8 @@ parts_shorter s t w e =
 
 -- ---- the slot of the first part
 
-pub slot_less : (mem : Bytes) (x : Name) (r : Step) → name_of mem x ≡ step_of mem r → (b : ℕ) (u : Name) → r ≡ step.Byte b u → length (name_of mem u) < length (name_of mem x)
-slot_less mem x r e b u h = let z : name_of mem x ≡ b ∷ name_of mem u = e ∙ rw h in rw z (omega arith)
+pub slot_less : (mem : Bytes) (x : Name) (b : ℕ) (u : Name) → name_of mem x ≡ step_of mem (Some (b, u)) → length (name_of mem u) < length (name_of mem x)
+slot_less mem x b u e = rw e (omega arith)
 
 pub ruleset slotted = (rules, slot_less)
 
@@ -75,16 +69,15 @@ pub ruleset slotted = (rules, slot_less)
 pub begin_first : (job : Bytes) (index memo : List ℕ) (k h : ℕ) → Asked job index memo k h → (s : Bytes) (p : ℕ) → p ≡ insts_from index k → Begins job index k (first_part (parts s)) p
 begin_first job index memo k h a s p e = begins_first job index k (first_part (parts s)) p a.row e
 
-first_same : (s w : Bytes) (qs : List Bytes) → some qs ≡ behind w (parts s) → w ≡ first_part (parts s)
+first_same : (s w : Bytes) (qs : List Bytes) → Some qs ≡ behind w (parts s) → w ≡ first_part (parts s)
 first_same s w qs e = sym (ap first_part (part_same s w qs e))
 
 module _ (job : Bytes) (index memo : List ℕ) (k h : ℕ) (asked : Asked job index memo k h) (a : ℕ) (ea : a ≡ num memo (2 * h)) (row : a ≡ k + 1) (p : ℕ) (ep : p ≡ num memo (2 * h + 1))
-    (end : ℕ) (ee : end ≡ insts_end index k) (r : InstAt) (seen : InstSeen job p end r) (d : Dims) (n t : Span) (next : ℕ) (g : r ≡ inst.Inst d n t next)
-    (w : Bytes) (ew : w ≡ spanned job n) (mem s : Bytes) (q : Part) (eq : part_of mem q ≡ behind w (parts s)) where
-  begin_by : (qs : List Bytes) → some qs ≡ behind w (parts s) → Begins job index k (first_part (parts s)) p
+    (end : ℕ) (ee : end ≡ insts_end index k) (i : InstAt) (seen : InstSeen job p end (Some i)) (w : Bytes) (ew : w ≡ spanned job i.name) (mem s : Bytes) (q : Part) (eq : part_of mem q ≡ behind w (parts s)) where
+  begin_by : (qs : List Bytes) → Some qs ≡ behind w (parts s) → Begins job index k (first_part (parts s)) p
   begin_by qs e =
       let l : Leads job index k p = rw (← ep) at (asked.known.leads h k asked.slot (sym ea ∙ row)) in
-      begins_here job index k p r (rw ee at seen) d n t next g (first_part (parts s)) (sym ew ∙ first_same s w qs e) asked.row l
+      begins_here job index k p (Some i) (rw ee at seen) i.dims i.name i.kind i.next refl (first_part (parts s)) (sym ew ∙ first_same s w qs e) asked.row l
 
   pub begin_same : (x : Name) → q ≡ part.Same x → Begins job index k (first_part (parts s)) p
   begin_same x f = begin_by (parts (name_of mem x)) (rw f at eq)
@@ -97,60 +90,55 @@ pub ruleset lookups = (rules, asked_row, asked_slot, asked_fits, begin_first, be
 -- ---- one instance down by the first part of s
 
 module _ (job : Bytes) (index : List ℕ) (k : ℕ) (mem s : Bytes) (end : ℕ) (ee : end ≡ insts_end index k) where
-  module _ (at : ℕ) (inv : Begins job index k (first_part (parts s)) at) (r : InstAt) (seen : InstSeen job at end r) where
-    pub down_none : r ≡ inst.End → DownSeen job mem index k s down.None
+  module _ (at : ℕ) (inv : Begins job index k (first_part (parts s)) at) where
+    pub down_none : InstSeen job at end None → DownSeen job mem index k s None
     unfolding first
-    down_none g =
-        let e : instance_named (module_row job index k) (first_part (parts s)) ≡ none = inv.keeps ∙ rw (← ee, ← seen.says, g) in
+    down_none seen =
+        let e : instance_named (module_row job index k) (first_part (parts s)) ≡ None = inv.keeps ∙ rw (← ee, ← seen.says) in
         record { is = rw e; place = tt }
 
-    module _ (d : Dims) (n t : Span) (next : ℕ) (g : r ≡ inst.Inst d n t next) where
-      on : Stepped job at end next
-      on = rw g at seen.goes
+    module _ (i : InstAt) (seen : InstSeen job at end (Some i)) where
+      pub down_less : end - i.next < end - at
+      down_less = omega (arith, seen.goes.further, seen.goes.within)
 
-      pub down_less : end - next < end - at
-      down_less = omega (arith, on.further, on.within)
-
-      module _ (w : Bytes) (ew : w ≡ spanned job n) (q : Part) (eq : part_of mem q ≡ behind w (parts s)) where
-        found : (qs : List Bytes) → some qs ≡ behind w (parts s) → (parts s ≡ w ∷ qs) × ((type_below (module_row job index k) s ≡ some (spanned job t)) × Leads job index k at)
+      module _ (w : Bytes) (ew : w ≡ spanned job i.name) (q : Part) (eq : part_of mem q ≡ behind w (parts s)) where
+        found : (qs : List Bytes) → Some qs ≡ behind w (parts s) → (parts s ≡ w ∷ qs) × ((type_below (module_row job index k) s ≡ Some (spanned job i.kind)) × Leads job index k at)
         unfolding first
         found qs e =
             let p : parts s ≡ w ∷ qs = part_same s w qs e in
-            let f : spanned job n ≡ first_part (parts s) = sym (ap first_part p ∙ ew) in
-            let i : instance_named (module_row job index k) (first_part (parts s)) ≡ some (inst_is job end d n t next) = inv.keeps ∙ rw (← ee, ← seen.says, g, same_of (spanned job n) (first_part (parts s)) f) in
-            (p, (rw i, leads_here job index k at r (rw ee at seen) d n t next g (first_part (parts s)) f inv))
+            let f : spanned job i.name ≡ first_part (parts s) = sym (ap first_part p ∙ ew) in
+            let o : instance_named (module_row job index k) (first_part (parts s)) ≡ Some (inst_is job end i.dims i.name i.kind i.next) = inv.keeps ∙ rw (← ee, ← seen.says, same_of (spanned job i.name) (first_part (parts s)) f) in
+            (p, (rw o, leads_here job index k at (Some i) (rw ee at seen) i.dims i.name i.kind i.next refl (first_part (parts s)) f inv))
 
-        pub down_same : (x : Name) → q ≡ part.Same x → DownSeen job mem index k s (down.Inst at t x)
+        pub down_same : (x : Name) → q ≡ part.Same x → DownSeen job mem index k s (Some (record { at = at; kind = i.kind; rest = x }))
         down_same x h =
             let f = found (parts (name_of mem x)) (rw h at eq) in
             record { is = (f.1.0, record { says = ap (λ (ps : List Bytes). filled (others ps)) (sym f.0); shorter = λ z. parts_shorter s (name_of mem x) w f.0 }); place = f.1.1 }
 
-        pub down_last : (x : Name) → x ≡ named (0 ⋯ 0) false (0 ⋯ 0) 0 → q ≡ part.Last → DownSeen job mem index k s (down.Inst at t x)
+        pub down_last : (x : Name) → x ≡ named (0 ⋯ 0) false (0 ⋯ 0) 0 → q ≡ part.Last → DownSeen job mem index k s (Some (record { at = at; kind = i.kind; rest = x }))
         unfolding bytes those split_at same
         down_last x ex h =
             let f = found [] (rw h at eq) in
             let z : name_of mem x ≡ [] = rw (ex, alone_is mem (0 ⋯ 0) 0) in
             record { is = (f.1.0, record { says = rw z (ap (λ (ps : List Bytes). filled (others ps)) (sym f.0)); shorter = λ y. rw z y }); place = f.1.1 }
 
-        pub down_other : q ≡ part.Other → Begins job index k (first_part (parts s)) next
+        pub down_other : q ≡ part.Other → Begins job index k (first_part (parts s)) i.next
         unfolding first
         down_other h =
             let o : same (first_part (parts s)) w ≡ false = part_other s w (rw h at eq) in
-            let f : same (spanned job n) (first_part (parts s)) ≡ false = same_turned (spanned job n) (first_part (parts s)) ∙ rw (← ew) o in
-            record { row = inv.row; keeps = inv.keeps ∙ rw (← ee, ← seen.says, g, f) }
+            let f : same (spanned job i.name) (first_part (parts s)) ≡ false = same_turned (spanned job i.name) (first_part (parts s)) ∙ rw (← ew) o in
+            record { row = inv.row; keeps = inv.keeps ∙ rw (← ee, ← seen.says, f) }
 
 pub ruleset downs = (rules, begins_row, down_none, down_less, down_same, down_last, down_other)
 
 -- ---- the same with a memo
 
-module _ (job : Bytes) (index memo : List ℕ) (k : ℕ) (r : Recalls job index memo k) (mem s : Bytes) (d : Down) (seen : DownSeen job mem index k s d) where
-  pub step_kept : StepSeen job mem index k s d memo
-  step_kept = record { down = seen; known = r.known }
+module _ (job : Bytes) (index memo : List ℕ) (k : ℕ) (r : Recalls job index memo k) (mem s : Bytes) where
+  pub step_kept : (d : Option Down) → DownSeen job mem index k s d → StepSeen job mem index k s d memo
+  step_kept d seen = record { down = seen; known = r.known }
 
-  pub step_put : (at : ℕ) (t : Span) (x : Name) → d ≡ down.Inst at t x → (h : ℕ) → h < slots → (memo' : List ℕ) → memo' ≡ set (set memo (2 * h) (k + 1)) (2 * h + 1) at → StepSeen job mem index k s (down.Inst at t x) memo'
-  step_put at t x g h few memo' e =
-      let l : Leads job index k at = rw g at seen.place in
-      record { down = rw g at seen; known = rw e (known_put job index memo r.known h k at few l) }
+  pub step_put : (d : Down) → DownSeen job mem index k s (Some d) → (h : ℕ) → h < slots → (memo' : List ℕ) → memo' ≡ set (set memo (2 * h) (k + 1)) (2 * h + 1) d.at → StepSeen job mem index k s (Some d) memo'
+  step_put d seen h few memo' e = record { down = seen; known = rw e (known_put job index memo r.known h k d.at few seen.place) }
 
 pub ruleset steps = (rules, recalls_row, recalls_asks, recalls_room, begins_first, step_kept, step_put)
 
@@ -188,48 +176,41 @@ module _ (job : Bytes) (index : List ℕ) (count : ℕ) where
   going_recalls target m s memo inv = record { row = omega (arith, inv.few, inv.within); known = inv.known }
 
   -- t is s without the slashes at its start
-  module _ (target : Option Module) (m : ℕ) (mem s : Bytes) (memo : List ℕ) (inv : Going job index count target m s memo) (t : Bytes) (et : t ≡ unslashed s) (r : Step) (er : t ≡ step_of mem r) where
+  module _ (target : Option Module) (m : ℕ) (mem s : Bytes) (memo : List ℕ) (inv : Going job index count target m s memo) (t : Bytes) (et : t ≡ unslashed s) where
     keeps_on : target ≡ module_at (modules job index count) (module_row job index m) (filled (parts t))
     keeps_on = inv.keeps ∙ rw (et, filled_unslashed s)
 
-    pub going_end : r ≡ step.End → ModuleSeen job index count target (m + 1)
+    pub going_end : t ≡ step_of mem None → ModuleSeen job index count target (m + 1)
     unfolding row_is those split_at same
-    going_end g =
-        let z : t ≡ [] = er ∙ rw g in
-        let e : target ≡ some (module_row job index m) = keeps_on ∙ rw z (at_none (modules job index count) (module_row job index m)) in
+    going_end z =
+        let e : target ≡ Some (module_row job index m) = keeps_on ∙ rw z (at_none (modules job index count) (module_row job index m)) in
         record { says = rw (add-one, e); within = omega (arith, inv.within) }
 
-    module _ (b : ℕ) (u : Name) (g : r ≡ step.Byte b u) (d : Down) (memo' : List ℕ) (step : StepSeen job mem index m t d memo') where
-      seen : DownSeen job mem index m t d
-      seen = step.down
-
-      begins : t ≡ b ∷ name_of mem u
-      begins = er ∙ rw g
-
+    module _ (b : ℕ) (u : Name) (begins : t ≡ step_of mem (Some (b, u))) (memo' : List ℕ) where
       abbrev after : Module → Option Module
       after m' = module_at (modules job index count) m' (filled (others (parts t)))
 
-      one_down : target ≡ on_some (type_below (module_row job index m) t) none (λ n. on_some (module_named (modules job index count) n) none after)
+      one_down : target ≡ on_some (type_below (module_row job index m) t) None (λ n. on_some (module_named (modules job index count) n) None after)
       one_down =
           let f = filled_first t b (name_of mem u) begins (unslashed_first s b (name_of mem u) (sym et ∙ begins)) in
-          let a : module_at (modules job index count) (module_row job index m) (filled (parts t)) ≡ on_some (below (modules job index count) (module_row job index m) (first_part (parts t))) none after = rw f (at_more (modules job index count) (module_row job index m) (first_part (parts t)) (filled (others (parts t)))) in
+          let a : module_at (modules job index count) (module_row job index m) (filled (parts t)) ≡ on_some (below (modules job index count) (module_row job index m) (first_part (parts t))) None after = rw f (at_more (modules job index count) (module_row job index m) (first_part (parts t)) (filled (others (parts t)))) in
           keeps_on ∙ (a ∙ go (instance_named (module_row job index m) (first_part (parts t))))
         where
-          go : (o : Option Inst) → on_some (on_some o none λ i. module_named (modules job index count) i.type) none after ≡ on_some (map (λ (i : Inst). i.type) o) none (λ n. on_some (module_named (modules job index count) n) none after)
-          go none = refl
-          go (some i) = refl
+          go : (o : Option Inst) → on_some (on_some o None λ i. module_named (modules job index count) i.type) None after ≡ on_some (option_map (λ (i : Inst). i.type) o) None (λ n. on_some (module_named (modules job index count) n) None after)
+          go None = refl
+          go (Some i) = refl
 
-      pub going_none : d ≡ down.None → ModuleSeen job index count target 0
+      pub going_none : StepSeen job mem index m t None memo' → ModuleSeen job index count target 0
       unfolding row_is
-      going_none h =
-          let n : type_below (module_row job index m) t ≡ none = rw h at seen.is in
+      going_none step =
+          let n : type_below (module_row job index m) t ≡ None = step.down.is in
           record { says = sym (one_down ∙ rw n); within = omega arith }
 
-      module _ (at : ℕ) (w : Span) (x : Name) (h : d ≡ down.Inst at w x) (p : Bytes) (ep : p ≡ spanned job w) (row : ℕ) (named : ModuleSeen job index count (module_named (modules job index count) p) row) where
-        here : DownIs job mem (module_row job index m) t (down.Inst at w x)
-        here = rw h at seen.is
+      module _ (d : Down) (step : StepSeen job mem index m t (Some d) memo') (p : Bytes) (ep : p ≡ spanned job d.kind) (row : ℕ) (named : ModuleSeen job index count (module_named (modules job index count) p) row) where
+        here : DownIs job mem (module_row job index m) t (Some d)
+        here = step.down.is
 
-        on_row : target ≡ on_some (row_is job index row) none after
+        on_row : target ≡ on_some (row_is job index row) None after
         on_row = one_down ∙ rw (here.0, ← ep, named.says)
 
         pub going_unlisted : row ≡ 0 → ModuleSeen job index count target 0
@@ -237,13 +218,13 @@ module _ (job : Bytes) (index : List ℕ) (count : ℕ) where
         going_unlisted z = record { says = sym (on_row ∙ rw z); within = omega arith }
 
         module _ (z : row ≡ 0 → ⊥) where
-          pub going_on : Going job index count target (row - 1) (name_of mem x) memo'
+          pub going_on : Going job index count target (row - 1) (name_of mem d.rest) memo'
           unfolding row_is
           going_on =
-              let e : row_is job index row ≡ some (module_row job index (row - 1)) = let q : row ≡ suc (row - 1) = omega arith in ap (row_is job index) q in
+              let e : row_is job index row ≡ Some (module_row job index (row - 1)) = let q : row ≡ suc (row - 1) = omega arith in ap (row_is job index) q in
               record { keeps = on_row ∙ rw (e, here.1.says); few = inv.few; within = omega (arith, named.within); known = step.known }
 
-        pub going_less : length (name_of mem x) < length s
+        pub going_less : length (name_of mem d.rest) < length s
         going_less =
             let l : 0 < length t = rw begins (omega arith) in
             omega (arith, unslashed_le s, ap length et, here.1.shorter l)

@@ -13,39 +13,37 @@ ghost use Rattle.memo.specs.Known.{slots, Known, Recalls, Asked, Begins};
 ghost use Rattle.elements.specs.Down.{DownSeen, StepSeen};
 
 use jobindex::Span;
-use lines::InstAt;
-use names::name::{Name, Step};
+use names::name::Name;
 use names::part::Part;
 use spans::span::minus;
 
 // An instance: where the lines begin whose first instance it is, its module's name, and what is left of the element behind its name.
 #[derive(Clone, Copy)]
-pub enum Down {
-    None,
-    Inst { at: usize, kind: Span, rest: Name },
+pub struct Down {
+    pub at: usize,
+    pub kind: Span,
+    pub rest: Name,
 }
 
 // The slot of the memo for the first part of an element in module k.
+#[tactic(auto, using(crate::proofs::Turns::slotted))]
 fn slot(files: &[u8], area: &[u8], k: usize, e: Name) -> usize
     ensures { result < slots }
 {
     let mut x = e;
     let mut h = k;
-    loop {
-        match names::name::next(files, area, x) {
-            Step::End => return h % 128,
-            Step::Byte(b, u) => {
-                if b == b'/' {
-                    return h % 128;
-                }
-                h = h % 16777216 * 31 + b as usize;
-                x = u;
-            }
+    while let Some((b, u)) = names::name::next(files, area, x) {
+        if b == b'/' {
+            break;
         }
+        h = h % 16777216 * 31 + b as usize;
+        x = u;
     }
+    h % 128
 }
 
 // Where to begin to look for the first part of an element in module k: at an instance of that name, where the memo has it.
+#[tactic(auto, using(crate::proofs::Turns::lookups))]
 fn begin(
     job: &[u8],
     index: &[u32],
@@ -64,17 +62,10 @@ fn begin(
         return from;
     }
     let at = memo::place_in(memo, h);
-    let r = lines::next_inst(job, at, lookup::insts_end(index, k));
-    let InstAt::Inst {
-        dims: _,
-        name,
-        kind: _,
-        next: _,
-    } = r
-    else {
+    let Some(inst) = lines::next_inst(job, at, lookup::insts_end(index, k)) else {
         return from;
     };
-    match names::part::next_part(files, area, e, lines::part_of(job, name)) {
+    match names::part::next_part(files, area, e, lines::part_of(job, inst.name)) {
         Part::Same(_) => at,
         Part::Last => at,
         Part::Other => from,
@@ -82,6 +73,7 @@ fn begin(
 }
 
 // The first instance of module k whose name is the first part of an element, dimensions not looked at; none of that name is before `from`.
+#[tactic(auto, using(crate::proofs::Turns::downs))]
 fn instance_at(
     job: &[u8],
     index: &[u32],
@@ -90,42 +82,29 @@ fn instance_at(
     area: &[u8],
     e: Name,
     from: usize,
-) -> Down
+) -> Option<Down>
     requires { Begins job.now index.now k (first_part (parts (name_of (files.now ++ area.now) e))) from }
     ensures { DownSeen job.now (files.now ++ area.now) index.now k (name_of (files.now ++ area.now) e) result }
 {
     let end = lookup::insts_end(index, k);
     let mut at = from;
-    loop {
-        let r = lines::next_inst(job, at, end);
-        let InstAt::Inst {
-            dims: _,
-            name,
-            kind,
-            next,
-        } = r
-        else {
-            return Down::None;
-        };
-        let w = lines::part_of(job, name);
-        match names::part::next_part(files, area, e, w) {
-            Part::Same(rest) => return Down::Inst { at, kind, rest },
+    while let Some(inst) = lines::next_inst(job, at, end) {
+        let kind = inst.kind;
+        match names::part::next_part(files, area, e, lines::part_of(job, inst.name)) {
+            Part::Same(rest) => return Some(Down { at, kind, rest }),
             Part::Last => {
                 let none = spans::span::Span { at: 0, len: 0 };
-                return Down::Inst {
-                    at,
-                    kind,
-                    rest: names::name::alone(none, 0),
-                };
+                let rest = names::name::alone(none, 0);
+                return Some(Down { at, kind, rest });
             }
-            Part::Other => {
-                at = next;
-            }
+            Part::Other => at = inst.next,
         }
     }
+    None
 }
 
 // The same with a memo, which then has the instance. A module of few lines is looked through without it.
+#[tactic(auto, using(crate::proofs::Turns::steps))]
 fn step_down(
     job: &[u8],
     index: &[u32],
@@ -134,7 +113,7 @@ fn step_down(
     area: &[u8],
     e: Name,
     memo: &mut [usize],
-) -> Down
+) -> Option<Down>
     requires { Recalls job.now index.now memo.old k }
     ensures { StepSeen job.now (files.now ++ area.now) index.now k (name_of (files.now ++ area.now) e) result memo.new }
 {
@@ -144,20 +123,13 @@ fn step_down(
     }
     let h = slot(files, area, k, e);
     let from = begin(job, index, k, files, area, e, memo, h);
-    let d = instance_at(job, index, k, files, area, e, from);
-    let Down::Inst {
-        at,
-        kind: _,
-        rest: _,
-    } = d
-    else {
-        return d;
-    };
-    memo::put(memo, h, k, at);
-    d
+    let down = instance_at(job, index, k, files, area, e, from)?;
+    memo::put(memo, h, k, down.at);
+    Some(down)
 }
 
 // The module that an element leads to from module k, with a memo.
+#[tactic(auto, using(crate::proofs::Turns::goings))]
 fn module_by(
     job: &[u8],
     index: &[u32],
@@ -175,25 +147,24 @@ fn module_by(
     let mut x = e;
     loop {
         let y = names::part::past_slashes(files, area, x);
-        let s = names::name::next(files, area, y);
-        let Step::Byte(_, _) = s else {
+        let Some((_, _)) = names::name::next(files, area, y) else {
             return m + 1;
         };
-        let d = step_down(job, index, m, files, area, y, memo);
-        let Down::Inst { at: _, kind, rest } = d else {
+        let Some(down) = step_down(job, index, m, files, area, y, memo) else {
             return 0;
         };
-        let t = lines::part_of(job, kind);
+        let t = lines::part_of(job, down.kind);
         let row = lookup::module_named(job, index, count, t);
         if row == 0 {
             return 0;
         }
         m = row - 1;
-        x = rest;
+        x = down.rest;
     }
 }
 
 // The module that an element leads to from module k: one more than the number of its row, 0 where there is none.
+#[tactic(auto, using(crate::proofs::Turns::goings))]
 pub fn element_module(
     job: &[u8],
     index: &[u32],
@@ -206,6 +177,6 @@ pub fn element_module(
     requires { (count ≤ 128) × (k < count) }
     ensures { ModuleSeen job.now index.now count (module_at (modules job.now index.now count) (module_row job.now index.now k) (filled_parts (name_of (files.now ++ area.now) e))) result }
 {
-    let mut memo: [usize; 256] = [0; 256];
+    let mut memo = [0usize; 256];
     module_by(job, index, count, k, files, area, e, &mut memo)
 }

@@ -1,4 +1,9 @@
 -- A command by its number: what it does, by what its name stands for. Assumes nothing.
+use Rattle.store.specs.declared.state.Few.{Few}
+use Rattle.store.specs.declared.stored.Below.{Below}
+use Rattle.store.specs.declared.state.Domain.{Domain}
+use Rattle.store.specs.declared.state.Isolation.{Isolation}
+use Rattle.store.specs.declared.state.Table.{Table}
 use Rattle.std.specs.Prelude.{ℕ, zero, suc, ◌+◌, ◌-◌, ◌≤◌, ◌<◌, ◌≡◌, refl, List, [], ◌++◌, length}
 use Rattle.std.proofs.Common.{arith, ap, ◌∙◌}
 use Rattle.text.specs.Ascii.{Bytes}
@@ -9,10 +14,6 @@ use Rattle.model.specs.Numbers.{named_by}
 use Rattle.model.specs.Records.{Model}
 use Rattle.model.specs.Commands.{carried_out, unsupported}
 use Rattle.store.specs.declared.state.State.{State}
-use Rattle.store.specs.declared.state.Domains.{Domains}
-use Rattle.store.specs.declared.state.Nets.{Nets}
-use Rattle.store.specs.declared.state.Isolations.{Isolations}
-use Rattle.store.specs.declared.state.Tables.{Tables}
 use Rattle.made.specs.declared.Brief.{Brief}
 use Rattle.made.specs.declared.Deed.{Deed}
 use Rattle.made.specs.declared.Deed.TheVariants as deed
@@ -38,7 +39,7 @@ pub record Enters (n c : ℕ) : Type 0 where
   pub no_port_state : c ≡ 27 → ⊥
 
 -- what is asked: the words can be stored, and the tables that are looked through have room
-pub record Entering (words : List ℕ) (n c : ℕ) (ds : Domains) (ns : Nets) (is : Isolations) (ts : Tables) : Type 0 where
+pub record Entering (words : List ℕ) (n c : ℕ) (ds : Few Domain) (ns : Few Below) (is : Few Isolation) (ts : Few Table) : Type 0 where
   pub line : Line words n
   pub enters : Enters n c
   pub domains : ds.n ≤ 32
@@ -47,7 +48,7 @@ pub record Entering (words : List ℕ) (n c : ℕ) (ds : Domains) (ns : Nets) (i
   pub tables : ts.n ≤ 32
 
 -- what a command is told of the state
-pub record Told (b : Brief) (ds : Domains) (ns : Nets) (is : Isolations) (ts : Tables) (s : State) : Type 0 where
+pub record Told (b : Brief) (ds : Few Domain) (ns : Few Below) (is : Few Isolation) (ts : Few Table) (s : State) : Type 0 where
   pub brief : brief_of s ≡ b
   pub domains : s.domains ≡ ds
   pub nets : s.nets ≡ ns

@@ -17,7 +17,8 @@ use plaincmds::{
     not_simulated, set, set_design_top, set_level_shifter, set_retention, unsupported,
 };
 use portcmds::{connect_supply_net, create_supply_port};
-use store::state::{Domains, Isolations, Nets, Tables};
+use store::state::{Domain, Few, Isolation, Table};
+use store::stored::Below;
 use tablecmds::{add_pst_state, create_pst};
 
 // What the command does to the records; its words begin with its name.
@@ -27,10 +28,10 @@ pub fn enter<'a>(
     words: &[u32],
     n: usize,
     b: Brief,
-    domains: Domains,
-    nets: Nets,
-    isolations: Isolations,
-    tables: Tables,
+    domains: Few<Domain>,
+    nets: Few<Below>,
+    isolations: Few<Isolation>,
+    tables: Few<Table>,
     c: usize,
 ) -> Deed
     requires { Entering words.now n c domains nets isolations tables }

@@ -1,4 +1,5 @@
 -- The first byte of an entry and what is left of it: laws as the needs ask them. Assumes nothing.
+use Rattle.std.specs.Prelude.{Option, Some, None}
 use Prim.Native.Nat.{ℕ, ◌+◌, ◌≤◌, ◌<◌}
 use mathlib.Core.Path.{◌≡◌, refl, ap, ◌∙◌}
 use mathlib.Core.Bool.{Bool, true, false, cond, not, ◌&&◌}
@@ -11,8 +12,6 @@ use borrow.Author.Tests.{eq-eqb, ne_eqb, not-true, not-false}
 use Rattle.text.specs.Ascii.{Bytes, byte}
 use Rattle.spans.specs.Span.{bytes, got_of}
 use Rattle.spans.specs.declared.span.Span.{Span}
-use Rattle.spans.specs.declared.span.Got.{Got}
-use Rattle.spans.specs.declared.span.Got.TheVariants.{Yes, No}
 use Rattle.tcl.specs.Rewrite.{rewrite}
 use Rattle.tcl.specs.Join.{joint_by, joint, joined_by, join}
 use Rattle.tcl.specs.Substitution.{escape, unescape}
@@ -64,20 +63,20 @@ unfolding joint_by
 by_crlf a b c h g f z = rw (eq-eqb a (byte "\\") h, ne_eqb b (byte "\n") g, eq-eqb b (byte "\r") f, eq-eqb c (byte "\n") z)
 
 -- w is what is left, and each `first` tells a byte of it
-module _ (mem w : Bytes) (p : Got) (e : w ≡ got_of mem p) where
-  pub joins_none : p ≡ No → join w ≡ []
+module _ (mem w : Bytes) (p : Option (ℕ × Span)) (e : w ≡ got_of mem p) where
+  pub joins_none : p ≡ None → join w ≡ []
   unfolding rewrite
   joins_none h = rw (e, h)
 
-  module _ (a : ℕ) (t : Span) (h : p ≡ Yes a t) where
+  module _ (a : ℕ) (t : Span) (h : p ≡ Some (a, t)) where
     pub joins_plain : (a ≡ byte "\\" → ⊥) → join w ≡ a ∷ join (bytes mem t)
     joins_plain g = rw (e, h) (join_none a (bytes mem t) (by_first a (get_or (bytes mem t) 0 0) (get_or (bytes mem t) 1 0) g))
 
-    module _ (q : Got) (f : bytes mem t ≡ got_of mem q) (g : a ≡ byte "\\") where
-      pub joins_last : q ≡ No → join w ≡ a ∷ join (bytes mem t)
+    module _ (q : Option (ℕ × Span)) (f : bytes mem t ≡ got_of mem q) (g : a ≡ byte "\\") where
+      pub joins_last : q ≡ None → join w ≡ a ∷ join (bytes mem t)
       joins_last k = rw (e, h, f, k) (join_none a [] (by_last a g))
 
-      module _ (b : ℕ) (u : Span) (k : q ≡ Yes b u) where
+      module _ (b : ℕ) (u : Span) (k : q ≡ Some (b, u)) where
         pub joins_lf : b ≡ byte "\n" → join w ≡ byte " " ∷ join (bytes mem u)
         joins_lf z = rw (e, h, f, k) (join_one a b (bytes mem u) (by_lf a b (get_or (bytes mem u) 0 0) g z))
 
@@ -85,13 +84,13 @@ module _ (mem w : Bytes) (p : Got) (e : w ≡ got_of mem p) where
           pub joins_other : (b ≡ byte "\r" → ⊥) → join w ≡ a ∷ join (bytes mem t)
           joins_other y = rw (e, h, f, k) (join_none a (b ∷ bytes mem u) (by_second a b (get_or (bytes mem u) 0 0) g z y))
 
-          module _ (o : Got) (d : bytes mem u ≡ got_of mem o) (y : b ≡ byte "\r") where
-            pub joins_cr : o ≡ No → join w ≡ a ∷ join (bytes mem t)
+          module _ (o : Option (ℕ × Span)) (d : bytes mem u ≡ got_of mem o) (y : b ≡ byte "\r") where
+            pub joins_cr : o ≡ None → join w ≡ a ∷ join (bytes mem t)
             joins_cr x =
                 let n : (0 ≡ byte "\n") → ⊥ = λ l. absurd (omega arith) in
                 rw (e, h, f, k, d, x) (join_none a (b ∷ []) (by_third a b 0 g z n))
 
-            module _ (c : ℕ) (v : Span) (x : o ≡ Yes c v) where
+            module _ (c : ℕ) (v : Span) (x : o ≡ Some (c, v)) where
               pub joins_crlf : c ≡ byte "\n" → join w ≡ byte " " ∷ join (bytes mem v)
               joins_crlf l = rw (e, h, f, k, d, x) (join_two a b c (bytes mem v) (by_crlf a b c g z y l))
 
@@ -139,11 +138,11 @@ module _ (quoted : Bool) (w : Bytes) where
     entry_next : (c : ℕ) (x : Bytes) → quoted ≡ true → b ≡ byte "\\" → join u ≡ c ∷ join x → entry_bytes quoted w ≡ c ∷ entry_bytes quoted x
     entry_next c x z h g = rw (z, e, g) (keep_next b c (join x) h)
 
-module _ (mem : Bytes) (quoted : Bool) (w : Bytes) (p : Got) (f : join w ≡ join_got mem p) where
-  pub got_none : p ≡ No → entry_bytes quoted w ≡ []
+module _ (mem : Bytes) (quoted : Bool) (w : Bytes) (p : Option (ℕ × Span)) (f : join w ≡ join_got mem p) where
+  pub got_none : p ≡ None → entry_bytes quoted w ≡ []
   got_none h = entry_none quoted w (rw h at f)
 
-  module _ (b : ℕ) (t : Span) (h : p ≡ Yes b t) where
+  module _ (b : ℕ) (t : Span) (h : p ≡ Some (b, t)) where
     head : join w ≡ b ∷ join (bytes mem t)
     head = rw h at f
 
@@ -153,11 +152,11 @@ module _ (mem : Bytes) (quoted : Bool) (w : Bytes) (p : Got) (f : join w ≡ joi
     pub got_plain : not quoted ≡ false → (b ≡ byte "\\" → ⊥) → entry_bytes quoted w ≡ b ∷ entry_bytes quoted (bytes mem t)
     got_plain z g = entry_plain quoted w b (bytes mem t) head (not-false quoted z) g
 
-    module _ (q : Got) (k : join (bytes mem t) ≡ join_got mem q) (z : not quoted ≡ false) where
-      pub got_last : q ≡ No → entry_bytes quoted w ≡ b ∷ entry_bytes quoted (bytes mem t)
+    module _ (q : Option (ℕ × Span)) (k : join (bytes mem t) ≡ join_got mem q) (z : not quoted ≡ false) where
+      pub got_last : q ≡ None → entry_bytes quoted w ≡ b ∷ entry_bytes quoted (bytes mem t)
       got_last g = entry_last quoted w b (bytes mem t) head (not-false quoted z) (rw g at k)
 
-      pub got_next : (c : ℕ) (u : Span) → q ≡ Yes c u → b ≡ byte "\\" → entry_bytes quoted w ≡ c ∷ entry_bytes quoted (bytes mem u)
+      pub got_next : (c : ℕ) (u : Span) → q ≡ Some (c, u) → b ≡ byte "\\" → entry_bytes quoted w ≡ c ∷ entry_bytes quoted (bytes mem u)
       got_next c u g l = entry_next quoted w b (bytes mem t) head c (bytes mem u) (not-false quoted z) l (rw g at k)
 
 pub ruleset gots = (rules, got_none, got_raw, got_plain, got_last, got_next)

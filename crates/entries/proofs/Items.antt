@@ -1,9 +1,10 @@
 -- The next entry of a value, and all of them: laws as the needs ask them. Assumes nothing.
+use Rattle.std.specs.Prelude.{Option, Some}
 use Prim.Native.Nat.{ℕ, zero, suc, ◌+◌, ◌-◌, ◌≤◌, ◌<◌, ◌^◌, min}
 use mathlib.Core.Path.{◌≡◌, refl, sym, ap, ◌∙◌}
 use mathlib.Core.Bool.{Bool, true, false, cond, ◌&&◌, ◌||◌}
 use mathlib.Core.List.{List, [], ◌∷◌, ◌++◌}
-use mathlib.Core.Option.{none}
+use Rattle.std.specs.Prelude.{None}
 use native.Mathlib.Omega.{arith}
 use native.Mathlib.Nat.{add-zero}
 use lib.Dec.{eqb}
@@ -11,7 +12,7 @@ use lib.ListN.{length, take, drop, get_or}
 use borrow.Author.Rules.{rules}
 use borrow.Author.Tests.{eq-eqb, ne_eqb, eqb-true}
 use Rattle.text.specs.Ascii.{Bytes, byte}
-use Rattle.text.specs.Classes.{is_space, ends_plain, within}
+use Rattle.text.specs.Classes.{is_space, ends_plain}
 use Rattle.text.specs.Scan.{before, Ends}
 use Rattle.text.specs.Sames.{no_true}
 use Rattle.spans.specs.Span.{◌⋯◌, bytes}
@@ -28,12 +29,11 @@ use Rattle.entries.specs.Loops.{list_short, one_more, entry_less}
 use Rattle.entries.specs.Raw.{raw, state_of, join_here, join_end}
 use Rattle.entries.specs.View.{Begins, Finds}
 use Rattle.entries.specs.declared.item.Item.{Item}
-use Rattle.entries.specs.declared.item.Item.TheVariants.{Entry, None}
 use Rattle.entries.proofs.Closes.{brace_runs, quote_runs, bracket_runs, comment_span, plain_span, front_is, back_is, behind_is, with_first, with_both}
 
 -- ---- without variables nothing is replaced
 
-unknown : (n : Bytes) → known [] n ≡ none
+unknown : (n : Bytes) → known [] n ≡ None
 unfolding known lookup
 unknown [] = refl
 unknown (x ∷ n) = refl
@@ -58,11 +58,11 @@ words_step s f b t k e g = rw (e, g, words_skip (size_of k t) (first_after k f) 
 -- a word is read the same before and behind a command's first word
 same_kind : (b : ℕ) (f : Bool) → eqb b (byte "#") && f ≡ false → kind_of f b ≡ kind_of false b
 unfolding kind_of
-same_kind b f k = rw (k, none (eqb b (byte "#")))
+same_kind b f k = rw (k, never (eqb b (byte "#")))
   where
-    none : (t : Bool) → t && false ≡ false
-    none true = refl
-    none false = refl
+    never : (t : Bool) → t && false ≡ false
+    never true = refl
+    never false = refl
 
 same_after : (b : ℕ) (f : Bool) → ends_plain b ≡ false → first_after (kind_of false b) f ≡ first_after (kind_of false b) false
 unfolding first_after
@@ -107,7 +107,7 @@ module _ (v : Bytes) (i b : ℕ) (w : Begins v i b) where
       ap (values []) p ∙ ap (λ (t : Bytes). t ∷ entries_left false (drop next v)) (sym y)
 
   module _ (e : ℕ) where
-    pub item_brace : Ends (i + 1 + raw (span (state_of (byte "{")) 1 (join (drop (i + 1) v))) (drop (i + 1) v)) (length v) e → b ≡ byte "{" → Finds v (entries_left false (drop i v)) (Entry ((i + 1) ⋯ (e - (i + 1))) false (e + 1))
+    pub item_brace : Ends (i + 1 + raw (span (state_of (byte "{")) 1 (join (drop (i + 1) v))) (drop (i + 1) v)) (length v) e → b ≡ byte "{" → Finds v (entries_left false (drop i v)) (Some (record { entry = ((i + 1) ⋯ (e - (i + 1))); quoted = false; next = (e + 1) }))
     unfolding state_of words_of size_of first_after bytes
     item_brace d z = record {
       is =
@@ -118,7 +118,7 @@ module _ (v : Bytes) (i b : ℕ) (w : Begins v i b) where
       next = omega (arith, d.within);
     }
 
-    pub item_quote : Ends (i + 1 + raw (span (state_of (byte "\"")) 1 (join (drop (i + 1) v))) (drop (i + 1) v)) (length v) e → (b ≡ byte "{" → ⊥) → b ≡ byte "\"" → Finds v (entries_left false (drop i v)) (Entry ((i + 1) ⋯ (e - (i + 1))) true (e + 1))
+    pub item_quote : Ends (i + 1 + raw (span (state_of (byte "\"")) 1 (join (drop (i + 1) v))) (drop (i + 1) v)) (length v) e → (b ≡ byte "{" → ⊥) → b ≡ byte "\"" → Finds v (entries_left false (drop i v)) (Some (record { entry = ((i + 1) ⋯ (e - (i + 1))); quoted = true; next = (e + 1) }))
     unfolding state_of words_of size_of first_after bytes
     item_quote d y z = record {
       is =
@@ -130,7 +130,7 @@ module _ (v : Bytes) (i b : ℕ) (w : Begins v i b) where
       next = omega (arith, d.within);
     }
 
-    pub item_bracket : (z : ℕ) → z ≡ min (e + 1) (length v) → Ends (i + 1 + raw (span (state_of (byte "[")) 1 (join (drop (i + 1) v))) (drop (i + 1) v)) (length v) e → (b ≡ byte "{" → ⊥) → (b ≡ byte "\"" → ⊥) → b ≡ byte "[" → Finds v (entries_left false (drop i v)) (Entry (i ⋯ (z - i)) false (e + 1))
+    pub item_bracket : (z : ℕ) → z ≡ min (e + 1) (length v) → Ends (i + 1 + raw (span (state_of (byte "[")) 1 (join (drop (i + 1) v))) (drop (i + 1) v)) (length v) e → (b ≡ byte "{" → ⊥) → (b ≡ byte "\"" → ⊥) → b ≡ byte "[" → Finds v (entries_left false (drop i v)) (Some (record { entry = (i ⋯ (z - i)); quoted = false; next = (e + 1) }))
     unfolding state_of words_of size_of first_after bytes
     item_bracket z u d x y g = record {
       is =
@@ -142,7 +142,7 @@ module _ (v : Bytes) (i b : ℕ) (w : Begins v i b) where
       next = omega (arith, d.within);
     }
 
-    pub item_plain : Ends (i + 1 + raw (span (state_of (byte " ")) 1 (join (drop (i + 1) v))) (drop (i + 1) v)) (length v) e → (b ≡ byte "{" → ⊥) → (b ≡ byte "\"" → ⊥) → (b ≡ byte "[" → ⊥) → Finds v (entries_left false (drop i v)) (Entry (i ⋯ (e - i)) false e)
+    pub item_plain : Ends (i + 1 + raw (span (state_of (byte " ")) 1 (join (drop (i + 1) v))) (drop (i + 1) v)) (length v) e → (b ≡ byte "{" → ⊥) → (b ≡ byte "\"" → ⊥) → (b ≡ byte "[" → ⊥) → Finds v (entries_left false (drop i v)) (Some (record { entry = (i ⋯ (e - i)); quoted = false; next = e }))
     unfolding words_of size_of first_after bytes before
     item_plain d x y g =
         let p : b ∷ take (before ends_plain (join (drop (i + 1) v))) (join (drop (i + 1) v)) ≡ take (before ends_plain (b ∷ join (drop (i + 1) v))) (b ∷ join (drop (i + 1) v)) = rw w.word in
@@ -206,12 +206,16 @@ module _ (v : Bytes) (t : List Bytes) (i : ℕ) (f : Bool) (inv : Left v t i f) 
             }
 
         -- a word is the same behind a first word
-        pub left_item : (r : Item) → Finds v (entries_left false (drop i v)) r → eqb b (byte "#") && f ≡ false → Finds v t r
+        pub left_item : (r : Option Item) → Finds v (entries_left false (drop i v)) r → eqb b (byte "#") && f ≡ false → Finds v t r
         left_item r d x = record { is = inv.keeps ∙ ap (values []) (words_same (join (drop i v)) f b (join (drop (i + 1 + n) v)) (join_here v i n b e g h) (left_begins v i n b e g h z s o y).word x) ∙ d.is; within = d.within; next = d.next }
 
 pub ruleset lefts = (rules, left_end, left_ends, left_blank, left_comment, left_item)
 
 -- ---- all of them, counted
+
+-- fewer are left behind the first
+pub item_less : (v : Bytes) (at : ℕ) (f : Bool) (r : Option Item) (h : Finds v (entries_left f (drop at v)) r) (x : Item) → r ≡ Some x → length (entries_left false (drop x.next v)) < length (entries_left f (drop at v))
+item_less v at f r h x g = entry_less v at f r h x.entry x.quoted x.next g
 
 pub record Counts (v : Bytes) (n at : ℕ) (f : Bool) : Type 0 where
   pub keeps : n + length (entries_left f (drop at v)) ≡ length (list v)
@@ -219,18 +223,18 @@ pub record Counts (v : Bytes) (n at : ℕ) (f : Bool) : Type 0 where
 pub count_start : (v : Bytes) → Counts v 0 0 true
 count_start v = record { keeps = rw (list_is v) (omega arith) }
 
-module _ (v : Bytes) (n at : ℕ) (f : Bool) (inv : Counts v n at f) (r : Item) (h : Finds v (entries_left f (drop at v)) r) where
+module _ (v : Bytes) (n at : ℕ) (f : Bool) (inv : Counts v n at f) (r : Option Item) (h : Finds v (entries_left f (drop at v)) r) where
   pub count_end : r ≡ None → n ≡ length (list v)
   count_end g = omega (arith, inv.keeps, rw g at (ap length h.is))
 
-  module _ (s : Span) (q : Bool) (e : ℕ) (g : r ≡ Entry s q e) where
-    pub count_step : Counts v (n + 1) e false
-    count_step = record { keeps = omega (arith, inv.keeps, one_more v at f r h s q e g) }
+  module _ (x : Item) (g : r ≡ Some x) where
+    pub count_step : Counts v (n + 1) x.next false
+    count_step = record { keeps = omega (arith, inv.keeps, one_more v at f r h x.entry x.quoted x.next g) }
 
     pub count_fits : length v < 2 ^ 64 → n + 1 < 2 ^ 64
-    count_fits l = omega (arith, l, inv.keeps, one_more v at f r h s q e g, list_short v)
+    count_fits l = omega (arith, l, inv.keeps, one_more v at f r h x.entry x.quoted x.next g, list_short v)
 
-pub ruleset counts = (rules, entry_less, count_start, count_end, count_step, count_fits)
+pub ruleset counts = (rules, item_less, count_start, count_end, count_step, count_fits)
 
 -- ---- entry k
 
@@ -240,7 +244,7 @@ pub record Skips (v : Bytes) (t : List Bytes) (left at : ℕ) (f : Bool) : Type 
 pub skip_start : (v : Bytes) (k : ℕ) → Skips v (drop k (list v)) k 0 true
 skip_start v k = record { keeps = rw (list_is v) }
 
-module _ (v : Bytes) (t : List Bytes) (left at : ℕ) (f : Bool) (inv : Skips v t left at f) (r : Item) (h : Finds v (entries_left f (drop at v)) r) where
+module _ (v : Bytes) (t : List Bytes) (left at : ℕ) (f : Bool) (inv : Skips v t left at f) (r : Option Item) (h : Finds v (entries_left f (drop at v)) r) where
   pub skip_end : r ≡ None → Finds v t None
   skip_end g = record { is = inv.keeps ∙ rw (h.is, g) (nothing left); within = omega arith; next = omega arith }
     where
@@ -248,13 +252,13 @@ module _ (v : Bytes) (t : List Bytes) (left at : ℕ) (f : Bool) (inv : Skips v 
       nothing zero = refl
       nothing (suc n) = refl
 
-  module _ (s : Span) (q : Bool) (e : ℕ) (g : r ≡ Entry s q e) where
-    pub skip_here : left ≡ 0 → Finds v t (Entry s q e)
+  module _ (x : Item) (g : r ≡ Some x) where
+    pub skip_here : left ≡ 0 → Finds v t (Some x)
     skip_here z = record { is = inv.keeps ∙ rw (z, h.is, g); within = rw g at h.within; next = rw g at h.next }
 
-    pub skip_step : (left ≡ 0 → ⊥) → Skips v t (left - 1) e false
+    pub skip_step : (left ≡ 0 → ⊥) → Skips v t (left - 1) x.next false
     skip_step z =
         let l : left ≡ suc (left - 1) = omega arith in
         record { keeps = inv.keeps ∙ ap (λ (n : ℕ). drop n (entries_left f (drop at v))) l ∙ rw (h.is, g) }
 
-pub ruleset skips = (rules, entry_less, skip_start, skip_end, skip_here, skip_step)
+pub ruleset skips = (rules, item_less, skip_start, skip_end, skip_here, skip_step)

@@ -1,4 +1,5 @@
 -- Laws for all who keep entries: an entry of a stored value is a stored string, and is read the same when the area grows. Assumes nothing.
+use Rattle.std.specs.Prelude.{Some}
 use Rattle.std.specs.Prelude.{ℕ, ◌+◌, ◌≤◌, ◌≡◌, Bool, List, take}
 use Rattle.std.proofs.Common.{ap, arith}
 use Rattle.text.specs.Ascii.{Bytes}
@@ -7,10 +8,9 @@ use Rattle.spans.specs.Frame.{inner, bytes_same, size_in}
 use Rattle.spans.specs.declared.span.Span.{Span}
 use Rattle.entries.specs.Entry.{entry_bytes}
 use Rattle.entries.specs.View.{Finds}
-use Rattle.entries.specs.declared.item.Item.TheVariants.{Entry}
 
 -- an entry that lies within the value, which is the string w: the same bytes stand in the list that the value lies in
-module _ (mem : Bytes) (w : Span) (t : List Bytes) (s : Span) (q : Bool) (n : ℕ) (f : Finds (bytes mem w) t (Entry s q n)) where
+module _ (mem : Bytes) (w : Span) (t : List Bytes) (s : Span) (q : Bool) (n : ℕ) (f : Finds (bytes mem w) t (Some (record { entry = s; quoted = q; next = n }))) where
   pub entry_in : s.at + s.len ≤ w.len
   entry_in = omega (arith, f.within, size_in mem w)
 

@@ -1,4 +1,5 @@
 -- Laws for all who read the entries of a value in a loop: what an answer says, that fewer are left, and that they are few. Assumes nothing.
+use Rattle.std.specs.Prelude.{Option, Some, None}
 use Rattle.std.specs.Prelude.{ℕ, zero, suc, ◌+◌, ◌≤◌, ◌<◌, ◌≡◌, Bool, true, false, List, [], ◌∷◌, length, drop}
 use Rattle.std.proofs.Common.{ap, ◌∙◌, arith, length-append}
 use Rattle.std.proofs.lemmas.List.{length-map}
@@ -14,7 +15,6 @@ use Rattle.entries.specs.Entry.{entry_bytes, first_after, words_left, entries_le
 use Rattle.entries.specs.Together.{list_is}
 use Rattle.entries.specs.View.{Finds}
 use Rattle.entries.specs.declared.item.Item.{Item}
-use Rattle.entries.specs.declared.item.Item.TheVariants.{Entry, None}
 
 one_word : (k : Kind) (s : Bytes) → length (words_of k s) ≤ 1
 unfolding words_of
@@ -40,14 +40,14 @@ pub list_short : (v : Bytes) → length (list v) ≤ length v
 list_short v = rw (list_is v) (omega (arith, length-map (words_left 0 true (join v)) (value []), few 0 true (join v), join_short v))
 
 -- an answer read: the entry and what is left, one less; or nothing
-module _ (v : Bytes) (t : List Bytes) (r : Item) (h : Finds v t r) where
+module _ (v : Bytes) (t : List Bytes) (r : Option Item) (h : Finds v t r) where
   pub entries_none : r ≡ None → t ≡ []
   entries_none g = h.is ∙ rw g
 
-  pub entries_first : (s : Span) (q : Bool) (e : ℕ) → r ≡ Entry s q e → t ≡ entry_bytes q (bytes v s) ∷ entries_left false (drop e v)
+  pub entries_first : (s : Span) (q : Bool) (e : ℕ) → r ≡ Some (record { entry = s; quoted = q; next = e }) → t ≡ entry_bytes q (bytes v s) ∷ entries_left false (drop e v)
   entries_first s q e g = h.is ∙ rw g
 
-module _ (v : Bytes) (at : ℕ) (f : Bool) (r : Item) (h : Finds v (entries_left f (drop at v)) r) (s : Span) (q : Bool) (e : ℕ) (g : r ≡ Entry s q e) where
+module _ (v : Bytes) (at : ℕ) (f : Bool) (r : Option Item) (h : Finds v (entries_left f (drop at v)) r) (s : Span) (q : Bool) (e : ℕ) (g : r ≡ Some (record { entry = s; quoted = q; next = e })) where
   pub one_more : length (entries_left f (drop at v)) ≡ 1 + length (entries_left false (drop e v))
   one_more = ap length h.is ∙ rw g (omega arith)
 

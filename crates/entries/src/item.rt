@@ -11,40 +11,58 @@ use text::class::is_space;
 
 // An entry: where it lies in the value, whether it is quoted, and where to read on (not before a command's first word any more).
 #[derive(Clone, Copy)]
-pub enum Item {
-    Entry(Span, bool, usize),
-    None,
+pub struct Item {
+    pub entry: Span,
+    pub quoted: bool,
+    pub next: usize,
 }
 
 // The entry that begins at i with the byte b.
-fn entry_at(v: &[u8], i: usize, b: u8) -> Item
+fn entry_at(v: &[u8], i: usize, b: u8) -> Option<Item>
     requires { Begins v.now i b }
     ensures { Finds v.now (entries_left false (drop i v.now)) result }
 {
     let a = i + 1;
     if b == b'{' {
         let e = scan(v, a, b'{');
-        return Item::Entry(Span { at: a, len: e - a }, false, e + 1);
+        return Some(Item {
+            entry: Span { at: a, len: e - a },
+            quoted: false,
+            next: e + 1,
+        });
     }
     if b == b'"' {
         let e = scan(v, a, b'"');
-        return Item::Entry(Span { at: a, len: e - a }, true, e + 1);
+        return Some(Item {
+            entry: Span { at: a, len: e - a },
+            quoted: true,
+            next: e + 1,
+        });
     }
     if b == b'[' {
         let e = scan(v, a, b'[');
         let z = least(e + 1, v.len());
-        return Item::Entry(Span { at: i, len: z - i }, false, e + 1);
+        return Some(Item {
+            entry: Span { at: i, len: z - i },
+            quoted: false,
+            next: e + 1,
+        });
     }
     let e = scan(v, a, b' ');
-    Item::Entry(Span { at: i, len: e - i }, false, e)
+    Some(Item {
+        entry: Span { at: i, len: e - i },
+        quoted: false,
+        next: e,
+    })
 }
 
 // The first entry from `at` on; `first`: no word of the command stands before it.
-pub fn next_entry(v: &[u8], at: usize, first: bool) -> Item
+pub fn next_entry(v: &[u8], at: usize, first: bool) -> Option<Item>
     ensures { Finds v.now (entries_left first (drop at v.now)) result }
 {
     let mut i = at;
     let mut f = first;
+    // Counted by hand: the place moves on by a whole piece, so an iterator is no plainer.
     while i < v.len() {
         let n = joint(v, i);
         let b = joined_by(n, v[i]);
@@ -63,7 +81,7 @@ pub fn next_entry(v: &[u8], at: usize, first: bool) -> Item
         }
         return entry_at(v, i, b);
     }
-    Item::None
+    None
 }
 
 // How many entries the value has.
@@ -73,36 +91,28 @@ pub fn count(v: &[u8]) -> usize
     let mut n = 0;
     let mut at = 0;
     let mut f = true;
-    loop {
-        match next_entry(v, at, f) {
-            Item::None => return n,
-            Item::Entry(_, _, e) => {
-                n += 1;
-                at = e;
-                f = false;
-            }
-        }
+    while let Some(item) = next_entry(v, at, f) {
+        n += 1;
+        at = item.next;
+        f = false;
     }
+    n
 }
 
 // Entry k of the value, from 0, with what is left behind it.
-pub fn entry(v: &[u8], k: usize) -> Item
+pub fn entry(v: &[u8], k: usize) -> Option<Item>
     ensures { Finds v.now (drop k (list v.now)) result }
 {
     let mut left = k;
     let mut at = 0;
     let mut f = true;
-    loop {
-        match next_entry(v, at, f) {
-            Item::None => return Item::None,
-            Item::Entry(s, q, e) => {
-                if left == 0 {
-                    return Item::Entry(s, q, e);
-                }
-                left -= 1;
-                at = e;
-                f = false;
-            }
+    while let Some(item) = next_entry(v, at, f) {
+        if left == 0 {
+            return Some(item);
         }
+        left -= 1;
+        at = item.next;
+        f = false;
     }
+    None
 }

@@ -46,6 +46,7 @@ pub fn scan(v: &[u8], at: usize, k: u8) -> usize
 {
     let mut i = at;
     let mut d: usize = 1;
+    // Counted by hand: the place moves on by a whole piece, so an iterator is no plainer.
     while i < v.len() {
         let n = joint(v, i);
         d = state(k, d, joined_by(n, v[i]));

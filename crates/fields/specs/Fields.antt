@@ -1,8 +1,7 @@
 -- The fields of a job's lines: NAME, PATH, D, DIR, KIND, style, NET (document 01, "The job comes in").
 -- Assumes nothing.
 use Prim.Native.String.{String}
-use Rattle.std.specs.Prelude.{Bool, true, false, cond, not, ◌&&◌, ◌||◌, List, [], ◌∷◌, length, leb}
-use Rattle.std.proofs.Math.Option.{Option, none, some}
+use Rattle.std.specs.Prelude.{Bool, true, false, cond, not, ◌&&◌, ◌||◌, List, [], ◌∷◌, length, leb, Option, None, Some}
 use Rattle.text.specs.Ascii.{Bytes, ascii, byte}
 use Rattle.text.specs.Classes.{opens_name, in_name}
 use Rattle.text.specs.Compare.{same}
@@ -23,8 +22,8 @@ is_path p = all is_part (split_at (byte "/") p)
 
 -- what a word stands for, by a table of words; nothing where it is none of them
 abbrev pub among : {A : Type 0} → List (String × A) → Bytes → Option A
-among [] w = none
-among (r ∷ rs) w = cond (same w (ascii r.0)) (some r.1) (among rs w)
+among [] w = None
+among (r ∷ rs) w = cond (same w (ascii r.0)) (Some r.1) (among rs w)
 
 -- "D is 1 for unpacked dimensions, else 0."
 unfoldable pub dims_of : Bytes → Option Bool

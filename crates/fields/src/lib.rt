@@ -3,10 +3,10 @@
 
 ghost use Rattle.std.specs.Prelude.{◌≡◌};
 ghost use Rattle.fields.specs.Fields.{is_name, is_part, is_path, dims_of, dir_of, kind_of, style_of, is_net};
-ghost use Rattle.fields.specs.Meant.{dims_meant, dir_meant, kind_meant, style_meant, is_some, body_of};
+ghost use Rattle.fields.specs.Meant.{dims_meant, dir_meant, kind_meant, style_meant, style_number, is_some, body_of};
 
 // D: whether there are unpacked dimensions.
-#[derive(Clone, Copy)]
+#[derive(PartialEq, Eq, Clone, Copy, Debug)]
 pub enum Dims {
     Zero,
     One,
@@ -14,7 +14,7 @@ pub enum Dims {
 }
 
 // DIR, of a port line.
-#[derive(Clone, Copy)]
+#[derive(PartialEq, Eq, Clone, Copy, Debug)]
 pub enum Dir {
     In,
     Out,
@@ -25,7 +25,7 @@ pub enum Dir {
 }
 
 // KIND, of a declaration line.
-#[derive(Clone, Copy)]
+#[derive(PartialEq, Eq, Clone, Copy, Debug)]
 pub enum Kind {
     Net,
     Data,
@@ -35,6 +35,14 @@ pub enum Kind {
     Inout,
     Ref,
     Bad,
+}
+
+// The style of a module.
+#[derive(PartialEq, Eq, Clone, Copy, Debug)]
+pub enum Style {
+    Ansi,
+    Nonansi,
+    Empty,
 }
 
 // Whether w is a NAME: 1 to 64 letters, digits, `_`, `$`, not beginning with a digit or `$`.
@@ -50,12 +58,10 @@ pub fn is_name(w: &[u8]) -> bool
     if !text::class::opens_name(w[0]) {
         return false;
     }
-    let mut i = 1;
-    while i < w.len() {
+    for i in 1..w.len() {
         if !text::class::in_name(w[i]) {
             return false;
         }
-        i += 1;
     }
     true
 }
@@ -201,20 +207,34 @@ pub fn known_kind(k: Kind) -> bool
     }
 }
 
-// The number of the style that w is; 3 where it is none.
-pub fn style_number(w: &[u8]) -> u32
+// The style that w is.
+#[tactic(auto, using(text::specs::Cases::cases), unfolding(crate::specs::Fields::style_of))]
+pub fn read_style(w: &[u8]) -> Option<Style>
     ensures { style_meant result ≡ style_of w.now }
 {
     if text::compare::same(w, b"ansi") {
-        return 0;
+        return Some(Style::Ansi);
     }
     if text::compare::same(w, b"nonansi") {
-        return 1;
+        return Some(Style::Nonansi);
     }
     if text::compare::same(w, b"empty") {
-        return 2;
+        return Some(Style::Empty);
     }
-    3
+    None
+}
+
+// A style as the number that a module's row has.
+impl From<Style> for u32 {
+    ghost from_gives = { λ s n. n ≡ style_number s };
+
+    fn from(s: Style) -> u32 {
+        match s {
+            Style::Ansi => 0,
+            Style::Nonansi => 1,
+            Style::Empty => 2,
+        }
+    }
 }
 
 // Whether w is a NET: a NAME, or `-` for what is not a plain identifier.

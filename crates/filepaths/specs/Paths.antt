@@ -1,7 +1,6 @@
 -- The file that a path names, by its number. Assumes nothing.
-use Rattle.std.specs.Prelude.{ℕ, suc, ◌≤◌, ◌<◌, ◌≡◌, refl, Bool, true, false, cond, List, [], ◌∷◌, length, drop}
+use Rattle.std.specs.Prelude.{ℕ, suc, ◌≤◌, ◌<◌, ◌≡◌, refl, Bool, true, false, cond, List, [], ◌∷◌, length, drop, Option, None, Some}
 use Rattle.std.proofs.Common.{arith, ◌∙◌, drop_of_length-le}
-use Rattle.std.proofs.Math.Option.{Option, none, some}
 use Rattle.text.specs.Ascii.{Bytes}
 use Rattle.text.specs.Compare.{same}
 use Rattle.text.specs.Sames.{same_eq}
@@ -28,15 +27,15 @@ place_le (f ∷ fs) p = go (same f.path p) (place_le fs p)
 
 -- what stands there is the file that is named
 abbrev pub body_of : List File → Option Bytes
-body_of [] = none
-body_of (f ∷ fs) = some f.body
+body_of [] = None
+body_of (f ∷ fs) = Some f.body
 
 named_is : (fs : List File) (p : Bytes) → file_named fs p ≡ body_of (drop (place_of fs p) fs)
 unfolding place_of file_named
 named_is [] p = refl
 named_is (f ∷ fs) p = go (same f.path p) (named_is fs p)
   where
-    go : (t : Bool) → file_named fs p ≡ body_of (drop (place_of fs p) fs) → cond t (some f.body) (file_named fs p) ≡ body_of (drop (cond t 0 (suc (place_of fs p))) (f ∷ fs))
+    go : (t : Bool) → file_named fs p ≡ body_of (drop (place_of fs p) fs) → cond t (Some f.body) (file_named fs p) ≡ body_of (drop (cond t 0 (suc (place_of fs p))) (f ∷ fs))
     go true e = refl
     go false e = e
 
@@ -56,13 +55,13 @@ path_is (f ∷ fs) p = go (same f.path p) refl (path_is fs p)
 
 module _ (job : Bytes) (index : List ℕ) (n r : ℕ) (p : Bytes) (e : r ≡ place_of (rows (file_at job index) n) p) where
   -- there is none
-  pub none_named : r ≡ n → file_named (rows (file_at job index) n) p ≡ none
+  pub none_named : r ≡ n → file_named (rows (file_at job index) n) p ≡ None
   none_named h =
       let l : length (rows (file_at job index) n) ≡ n = rows_length (file_at job index) n in
       named_is (rows (file_at job index) n) p ∙ rw (← e, drop_of_length-le (rows (file_at job index) n) {i = r} (omega arith))
 
   -- it is file r, and has the path
-  pub one_named : r < n → file_named (rows (file_at job index) n) p ≡ some (body_at job index r)
+  pub one_named : r < n → file_named (rows (file_at job index) n) p ≡ Some (body_at job index r)
   one_named h = named_is (rows (file_at job index) n) p ∙ rw (← e, rows_here (file_at job index) n r h)
 
   pub one_path : r < n → path_at job index r ≡ p

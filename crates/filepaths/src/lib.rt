@@ -16,12 +16,11 @@ use text::compare::starts_with;
 use text::part::{part, peek, rest};
 
 // How many bytes stand before the last `/`; none where there is none.
+#[tactic(auto, using(crate::proofs::Finds::clears))]
 fn directory(path: &[u8]) -> usize
     ensures { result ≡ up_size path.now }
 {
-    let mut i = path.len();
-    while 0 < i {
-        i -= 1;
+    for i in (0..path.len()).rev() {
         if path[i] == b'/' {
             return i;
         }
@@ -30,6 +29,7 @@ fn directory(path: &[u8]) -> usize
 }
 
 // Whether a path is a name below a directory.
+#[tactic(auto, using(crate::proofs::Finds::joins))]
 fn is_joined<'a>(files: &'a [u8], area: &'a [u8], path: &[u8], directory: &[u8], name: Span) -> bool
     ensures { result ≡ same path.now (below directory.now (bytes (files.now ++ area.now) name)) }
 {
@@ -47,6 +47,7 @@ fn is_joined<'a>(files: &'a [u8], area: &'a [u8], path: &[u8], directory: &[u8],
 }
 
 // The first of n files with the path of a name joined to the directory of file `loader`; n where there is none.
+#[tactic(auto, using(crate::proofs::Finds::finds))]
 pub fn find_file<'a>(
     job: &[u8],
     nums: &[u32],
@@ -61,12 +62,10 @@ pub fn find_file<'a>(
 {
     let by = path_at(job, nums, loader);
     let d = part(by, 0, directory(by));
-    let mut k = 0;
-    while k < n {
+    for k in 0..n {
         if is_joined(files, area, path_at(job, nums, k), d, name) {
             return k;
         }
-        k += 1;
     }
     n
 }

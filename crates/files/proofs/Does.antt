@@ -1,4 +1,5 @@
 -- Laws: a command from what its parts come to: a load, a line of the log, another scope, a deed. Assumes nothing.
+use Rattle.std.specs.Prelude.{Option, Some, None}
 use Prim.Native.Nat.{ℕ, ◌+◌, ◌-◌, ◌≤◌, ◌<◌}
 use native.Mathlib.Omega.{arith}
 use mathlib.Core.Path.{◌≡◌, refl, sym, ap, ◌∙◌}
@@ -28,8 +29,6 @@ use Rattle.store.specs.declared.state.State.{State}
 use Rattle.made.specs.declared.Deed.{Deed}
 use Rattle.made.specs.declared.Brief.{Brief}
 use Rattle.made.specs.Made.{brief_of, done_by, Fits}
-use Rattle.lists.specs.declared.Count.{Count}
-use Rattle.lists.specs.declared.Count.TheVariants.{Of, Over}
 use Rattle.scopes.specs.declared.go.Out.{Out}
 use Rattle.scopes.specs.declared.go.Place.{Place}
 use Rattle.scopes.specs.declared.go.Went.{Went}
@@ -246,15 +245,15 @@ module _ (job files area nums words : List ℕ) (count n k left : ℕ) (s : Stat
   pub lists : Lists files (take s.fill.end area) words n s.count.entries
   lists = record { whole = record { line = words_inside job files area nums words count n k left s v; small = words_small job files area nums words count n k left s v }; named = v.named; few = v.held.entries }
 
-  module _ (c : ℕ) (ec : command_named (bytes (mem_of files area s) (pair_at words 0)) ≡ named_by c) (r : Count)
+  module _ (c : ℕ) (ec : command_named (bytes (mem_of files area s) (pair_at words 0)) ≡ named_by c) (r : Option ℕ)
       (er : r ≡ counted_in s.count.commands s.count.entries (entries_of (lists_by (named_by c) (line_at files area words n s).name (line_at files area words n s).rest))) where
     abbrev ls : List ℕ
     ls = entries_of (lists_by (named_by c) (line_at files area words n s).name (line_at files area words n s).rest)
 
-    pub past : r ≡ Over → (log : List ℕ) → Ran files area area nums nums log log s (record { tag = 10; state = s }) (command_reads job files area nums count words n k left s)
+    pub past : r ≡ None → (log : List ℕ) → Ran files area area nums nums log log s (record { tag = 10; state = s }) (command_reads job files area nums count words n k left s)
     past q log = command_over job files area nums words count n k left s v c ec (record { tag = 10; state = s }) (out_past s ls r er q) log (λ z. absurd (omega (arith, z)))
 
-    module _ (t : ℕ) (q : r ≡ Of t) (no : c ≡ 2 → ⊥) where
+    module _ (t : ℕ) (q : r ≡ Some t) (no : c ≡ 2 → ⊥) where
       pub asks : c ≤ 30 → Asks files area nums words n c (with_entries s t)
       asks h =
           record {

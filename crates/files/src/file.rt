@@ -5,14 +5,9 @@ ghost use Rattle.loads.specs.Steps.{command_reads, file_reads, Opening};
 ghost use Rattle.files.specs.Loads.{Loads};
 
 use cmdnames::number;
-use commands::next::{Next, next_command};
-use deeds::{
-    add_domain, add_isolation, add_net, add_port, add_port_state, add_retention, add_shifter,
-    add_switch, add_table, add_variable, refused, rows_with, set_domain, set_isolation,
-    warnings_with, with_top,
-};
+use commands::next::{Words, next_command};
+use deeds::{add, add_variable, refused, replace, rows_with, warnings_with, with_top};
 use held::begun;
-use lists::Count;
 use loads::{back, before_load};
 use made::{Deed, brief_of};
 use plain::{act, counted, puts};
@@ -20,6 +15,7 @@ use scopes::go::{Out, Place, set_scope};
 use spans::span::pair;
 use store::state::{Head, State};
 use store::stored::Stored;
+use substitution::put::Full;
 use text::part::place;
 
 // The head with another scope.
@@ -112,12 +108,20 @@ pub fn read_file(
         let o = u.fill.end;
         let limit = o + (16384 - u.count.substituted);
         match next_command(files, base, len, at, &vars, nv, area, o, limit, &mut words) {
-            Next::None => return Out { tag: 0, state: u },
-            Next::Full => {
+            Ok(None) => return Out { tag: 0, state: u },
+            Err(Full) => {
                 let v = begun(u, o);
                 return Out { tag: 10, state: v };
             }
-            Next::Words(n, next, e) => {
+            Ok(
+                Some(
+                    Words {
+                        count: n,
+                        next: next,
+                        end: e,
+                    },
+                ),
+            ) => {
                 let commands = u.count.commands + 1;
                 let substituted = u.count.substituted + (e - o);
                 u.count.commands = commands;
@@ -134,7 +138,7 @@ pub fn read_file(
                     continue;
                 }
                 let before = u.count.entries;
-                let Count::Of(t) = counted(files, &area[..e], &words, n, commands, before, c) else {
+                let Some(t) = counted(files, &area[..e], &words, n, commands, before, c) else {
                     return Out { tag: 10, state: u };
                 };
                 u.count.entries = t;
@@ -190,21 +194,21 @@ pub fn read_file(
                 match d {
                     Deed::Variable(a, b) => u.variables = add_variable(u.variables, a, b),
                     Deed::Top(t) => u.head = with_top(u.head, t),
-                    Deed::Domain(x) => u.domains = add_domain(u.domains, x),
-                    Deed::Supplied(i, x) => u.domains = set_domain(u.domains, i, x),
-                    Deed::Net(x) => u.nets = add_net(u.nets, x),
-                    Deed::Port(x) => u.ports = add_port(u.ports, x),
-                    Deed::Isolation(x) => u.isolations = add_isolation(u.isolations, x),
-                    Deed::Controlled(i, x) => u.isolations = set_isolation(u.isolations, i, x),
-                    Deed::Retention(x) => u.retentions = add_retention(u.retentions, x),
-                    Deed::Shifter(x) => u.shifters = add_shifter(u.shifters, x),
-                    Deed::Table(x) => u.tables = add_table(u.tables, x),
+                    Deed::Domain(x) => u.domains = add(u.domains, x),
+                    Deed::Supplied(i, x) => u.domains = replace(u.domains, i, x),
+                    Deed::Net(x) => u.nets = add(u.nets, x),
+                    Deed::Port(x) => u.ports = add(u.ports, x),
+                    Deed::Isolation(x) => u.isolations = add(u.isolations, x),
+                    Deed::Controlled(i, x) => u.isolations = replace(u.isolations, i, x),
+                    Deed::Retention(x) => u.retentions = add(u.retentions, x),
+                    Deed::Shifter(x) => u.shifters = add(u.shifters, x),
+                    Deed::Table(x) => u.tables = add(u.tables, x),
                     Deed::Switch(x, e) => {
-                        u.switches = add_switch(u.switches, x);
+                        u.switches = add(u.switches, x);
                         u.fill.words = e;
                     }
                     Deed::PortState(x, e) => {
-                        u.portstates = add_port_state(u.portstates, x);
+                        u.portstates = add(u.portstates, x);
                         u.fill.words = e;
                     }
                     _ => {}

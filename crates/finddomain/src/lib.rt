@@ -6,23 +6,16 @@ ghost use Rattle.store.specs.First.{first_at};
 ghost use Rattle.finddomain.specs.Named.{is_named};
 
 use spans::span::same_spans;
-use store::state::Domains;
+use store::state::{Domain, Few};
 use store::stored::{Stored, span};
 
 // The first domain of the name; the number of domains where there is none.
-pub fn find_domain<'a>(files: &'a [u8], area: &'a [u8], t: Domains, name: Stored) -> usize
+pub fn find_domain<'a>(files: &'a [u8], area: &'a [u8], t: Few<Domain>, name: Stored) -> usize
     requires { t.n ≤ 32 }
     ensures { result ≡ first_at (is_named (files.now ++ area.now) name) (take t.n t.all) }
 {
-    let n = t.n;
-    let mut i = 0;
-    while i < n {
-        let d = t.all[i];
-        let named = d.name;
-        if same_spans(files, area, span(named), span(name)) {
-            return i;
-        }
-        i += 1;
-    }
-    n
+    t.all[..t.n]
+        .iter()
+        .position(|d| same_spans(files, area, span(d.name), span(name)))
+        .unwrap_or(t.n)
 }

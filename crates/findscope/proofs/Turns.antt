@@ -1,12 +1,13 @@
 -- The way written name by name; the scope by the override, by a type, by the design top.
 -- Assumes nothing.
+use Rattle.std.specs.Prelude.{None}
 use mathlib.Core.Path.{◌≡◌, refl, ap, ◌∙◌, sym}
 use Prim.Native.Nat.{ℕ, suc, ◌+◌, ◌-◌, ◌<◌, ◌≤◌}
 use native.Mathlib.Numerals.{add-one}
 use native.Mathlib.Omega.{arith}
 use mathlib.Core.Bool.{Bool, true, false, not}
 use mathlib.Core.List.{List, [], ◌∷◌, ◌++◌}
-use mathlib.Core.Option.{Option, some}
+use Rattle.std.specs.Prelude.{Option, Some}
 use lib.ListN.{length, take, drop, get_or, drop_of_length-le, length-take, length-drop, length-append, length-map}
 use lib.Seq.{drop-cons, take_at, drop_at}
 use borrow.Author.Rules.{rules}
@@ -36,8 +37,6 @@ use Rattle.search.specs.declared.Found.{Found}
 use Rattle.search.specs.Found.{way_from, way, Searched}
 use Rattle.store.specs.Strings.{span_of, maybe_of}
 use Rattle.store.specs.declared.stored.Stored.{Stored}
-use Rattle.store.specs.declared.stored.Maybe.{Maybe}
-use Rattle.store.specs.declared.stored.Maybe.TheVariants.{Not, Given}
 use Rattle.texts.specs.Scope.{Scope, at, along, existing, found_at, path_to, by_design_top, without_top, override_parts, scope_along, scope_of}
 use Rattle.scope.specs.Parts.{parts, no_parts}
 use Rattle.findscope.specs.declared.ScopeAt.{ScopeAt}
@@ -45,34 +44,33 @@ use Rattle.findscope.specs.Scopes.{path_text, scope_is, refused_by, topmost, Tel
 use Rattle.findscope.specs.Ways.{AllNames, search_named, joined_parts, joined_short}
 
 -- ---- the way, written name by name: what is left, written from here, is the answer w
-pub record Writes (job : Bytes) (f : Found) (sep : Bytes) (w : Out) (out : Bytes) (o i : ℕ) : Type 0 where
-  pub keeps : emit (out ▸ o) (rest sep i (way_from job i f)) ≡ w
+pub record Writes (job : Bytes) (f : Found) (sep : Bytes) (w t : Out) (i : ℕ) : Type 0 where
+  pub keeps : emit t (rest sep i (way_from job i f)) ≡ w
   pub many : length f.names ≡ 33
 
 module _ (job : Bytes) (f : Found) (sep : Bytes) where
-  pub writes_start : (out : Bytes) → length f.names ≡ 33 → Writes job f sep (emit (out ▸ 0) (joined sep (way_from job 0 f))) out 0 0
+  pub writes_start : (t : Out) → length f.names ≡ 33 → Writes job f sep (emit t (joined sep (way_from job 0 f))) t 0
   unfolding rest
-  writes_start out h = record { keeps = refl; many = h }
+  writes_start t h = record { keeps = refl; many = h }
 
-  module _ (w : Out) (out : Bytes) (o i : ℕ) (inv : Writes job f sep w out o i) where
-    writes_over : way_from job i f ≡ [] → out ▸ o ≡ w
-    writes_over e = join_done (out ▸ o) w sep i (rw e at inv.keeps)
+  module _ (w t : Out) (i : ℕ) (inv : Writes job f sep w t i) where
+    writes_over : way_from job i f ≡ [] → t ≡ w
+    writes_over e = join_done t w sep i (rw e at inv.keeps)
 
-    pub writes_end : f.count ≤ i → out ▸ o ≡ w
+    pub writes_end : f.count ≤ i → t ≡ w
     writes_end h = let z : f.count - i ≡ 0 = omega arith in writes_over (rw z)
 
-    pub writes_full : i < f.count → 33 ≤ i → out ▸ o ≡ w
+    pub writes_full : i < f.count → 33 ≤ i → t ≡ w
     writes_full g h =
         let z : f.count - i ≡ suc (f.count - (i + 1)) = omega arith in
         writes_over (rw (drop_of_length-le f.names {i = i} (omega (arith, inv.many)), z))
 
-    pub writes_next : i < f.count → i < 33 → (d : Span) (x out₁ out₂ : Bytes) (o₁ o₂ : ℕ) → x ≡ spanned job (get_or f.names i d) → out₁ ▸ o₁ ≡ emit (out ▸ o) (unless i sep) → out₂ ▸ o₂ ≡ emit (out₁ ▸ o₁) x
-        → Writes job f sep w out₂ o₂ (i + 1)
-    writes_next h g d x out₁ out₂ o₁ o₂ ex e₁ e₂ =
+    pub writes_next : i < f.count → i < 33 → (d : Span) (x : Bytes) (t₁ t₂ : Out) → x ≡ spanned job (get_or f.names i d) → t₁ ≡ emit t (unless i sep) → t₂ ≡ emit t₁ x → Writes job f sep w t₂ (i + 1)
+    writes_next h g d x t₁ t₂ ex e₁ e₂ =
         let z : f.count - i ≡ suc (f.count - (i + 1)) = omega arith in
         let n : way_from job i f ≡ x ∷ way_from job (i + 1) f = rw (z, drop-cons f.names i d (omega (arith, inv.many)), ← ex, ← add-one i) in
         record {
-          keeps = join_next (out ▸ o) (out₁ ▸ o₁) (out₂ ▸ o₂) w sep i 0 x (way_from job (i + 1) f) e₁ e₂ (rw n at inv.keeps);
+          keeps = join_next t t₁ t₂ w sep i 0 x (way_from job (i + 1) f) e₁ e₂ (rw n at inv.keeps);
           many = inv.many;
         }
 
@@ -192,7 +190,7 @@ module _ (job : Bytes) (index : List ℕ) (head : Header) (ok : Taken job index 
   -- ---- by a design top
   module _ (kind top : Bytes) (et : top ≡ spanned job head.top) (b : Bool) (eb : b ≡ same kind top) where
     abbrev designed : Scope
-    designed = scope_along d m (by_design_top d m (spanned job head.top) (some kind))
+    designed = scope_along d m (by_design_top d m (spanned job head.top) (Some kind))
 
     pub design_top : (r : ScopeAt) → r ≡ topmost head.topmodule → b ≡ true → Told job index head designed r
     design_top r e h way = let z : same kind (spanned job head.top) ≡ true = rw (← et) (sym eb ∙ h) in rw z (top_told r e way)
@@ -215,16 +213,16 @@ module _ (job : Bytes) (index : List ℕ) (head : Header) (ok : Taken job index 
           go [] e = same_refl []
           go (b ∷ p) e = absurd (omega arith)
 
-      module _ (mem : Bytes) (t : Maybe) where
-        pub scope_top : t ≡ Not → (r : ScopeAt) → r ≡ topmost head.topmodule → Told job index head (scope_of (job_of job index head) m (maybe_of mem t)) r
+      module _ (mem : Bytes) (t : Option Stored) where
+        pub scope_top : t ≡ None → (r : ScopeAt) → r ≡ topmost head.topmodule → Told job index head (scope_of (job_of job index head) m (maybe_of mem t)) r
         unfolding scope_of
         scope_top g r e way = rw (no_override, g) (top_told r e way)
 
-      module _ (files area : Bytes) (t : Maybe) (whole : Whole (length files) t) (s : Stored) (g : t ≡ Given s) (v : FileSpan) (ev : v ≡ span_of s) (p : Bytes) (ep : Held (length files) v → p ≡ bytes (files ++ area) v) where
+      module _ (files area : Bytes) (t : Option Stored) (whole : Whole (length files) t) (s : Stored) (g : t ≡ Some s) (v : FileSpan) (ev : v ≡ span_of s) (p : Bytes) (ep : Held (length files) v → p ≡ bytes (files ++ area) v) where
         value_is : p ≡ bytes (files ++ area) (span_of s)
         value_is = let k : Held (length files) (span_of s) = rw g at whole in rw ev at (ep (rw ev k))
 
-        pub scope_type : (w w' : Bytes) (r : ScopeAt) → Tells job index head w w' (scope_along d m (by_design_top d m (spanned job head.top) (some p))) r
+        pub scope_type : (w w' : Bytes) (r : ScopeAt) → Tells job index head w w' (scope_along d m (by_design_top d m (spanned job head.top) (Some p))) r
             → Tells job index head w w' (scope_of (job_of job index head) m (maybe_of (files ++ area) t)) r
         unfolding scope_of
         scope_type w w' r k = rw (no_override, g, ← value_is) k

@@ -1,5 +1,7 @@
 -- What a scope that was found stands for: a refusal; or its path, which is the override or what was written to the lent way, and its module.
 -- Assumes nothing.
+use Rattle.std.specs.Prelude.{Option, Some, None}
+use Rattle.store.specs.declared.stored.Stored.{Stored}
 use Rattle.std.specs.Prelude.{ℕ, ◌≤◌, ◌<◌, ◌≡◌, true, cond, List, eqb, length, take, drop}
 use Rattle.text.specs.Ascii.{Bytes}
 use Rattle.spans.specs.Reach.{Held}
@@ -8,8 +10,6 @@ use Rattle.jobindex.specs.Index.{module_row, job_of, Indexed}
 use Rattle.jobindex.specs.declared.Header.{Header}
 use Rattle.lines.specs.Cursors.{spanned}
 use Rattle.store.specs.Strings.{span_of}
-use Rattle.store.specs.declared.stored.Maybe.{Maybe}
-use Rattle.store.specs.declared.stored.Maybe.TheVariants.{Not, Given}
 use Rattle.texts.specs.Scope.{Scope, at, no_scope}
 use Rattle.scope.specs.Parts.{parts}
 use Rattle.findscope.specs.declared.ScopeAt.{ScopeAt}
@@ -43,9 +43,9 @@ pub record Taken (job : Bytes) (index : List ℕ) (head : Header) : Type 0 where
   pub few : head.modules ≤ 128
 
 -- the design top lies whole in the files or in the area
-abbrev pub Whole : ℕ → Maybe → Type 0
-Whole long Not = Unit {0}
-Whole long (Given s) = Held long (span_of s)
+abbrev pub Whole : ℕ → Option Stored → Type 0
+Whole long None = Unit {0}
+Whole long (Some s) = Held long (span_of s)
 
 -- the longest way: 33 NAMEs of 64 bytes, a dot between two
 abbrev pub most_way : ℕ

@@ -1,9 +1,8 @@
 -- Laws: the names on the way that a type search finds are NAMEs, so that the way can be written as text with dots and read again as its parts.
 -- Assumes nothing.
-use Rattle.std.specs.Prelude.{ℕ, zero, suc, ◌+◌, ◌*◌, ◌≤◌, ◌<◌, ◌≡◌, Bool, true, false, cond, length}
+use Rattle.std.specs.Prelude.{ℕ, zero, suc, ◌+◌, ◌*◌, ◌≤◌, ◌<◌, ◌≡◌, Bool, true, false, cond, length, Option, None, Some, option_map}
 use Rattle.std.proofs.Math.Path.{refl}
 use Rattle.std.proofs.Common.{ap, subst, ◌∙◌, arith, length-append, take_at, drop_at, ne_eqb}
-use Rattle.std.proofs.Math.Option.{Option, none, some, map}
 use mathlib.Core.List.{List, [], ◌∷◌, ◌++◌}
 use mathlib.Core.List.Memᴰ.{head as here}
 use mathlib.Core.List.Memᴰ.{tail as there}
@@ -40,35 +39,35 @@ names_more : (n : Bytes) (ns : List Bytes) → is_name n ≡ true → AllNames n
 unfolding all
 names_more n ns h g = rw (h, g)
 
-module _ (d : List Module) (kind : Bytes) (down : Module → Search) (h : (m : Module) → Mem m d → (ns : List Bytes) → (down m).found ≡ some ns → AllNames ns) where
-  below_named : (n : Bytes) → is_name n ≡ true → (m : Option Module) → ((x : Module) → m ≡ some x → Mem x d) → (ns : List Bytes) → (on_some m nothing (λ x. under n (down x))).found ≡ some ns → AllNames ns
-  below_named n g none f ns e = absurd (no_some e)
-  below_named n g (some x) f ns e = go (down x).found refl e
+module _ (d : List Module) (kind : Bytes) (down : Module → Search) (h : (m : Module) → Mem m d → (ns : List Bytes) → (down m).found ≡ Some ns → AllNames ns) where
+  below_named : (n : Bytes) → is_name n ≡ true → (m : Option Module) → ((x : Module) → m ≡ Some x → Mem x d) → (ns : List Bytes) → (on_some m nothing (λ x. under n (down x))).found ≡ Some ns → AllNames ns
+  below_named n g None f ns e = absurd (no_some e)
+  below_named n g (Some x) f ns e = go (down x).found refl e
     where
-      go : (o : Option (List Bytes)) → (down x).found ≡ o → map (λ (l : List Bytes). n ∷ l) o ≡ some ns → AllNames ns
-      go none q k = absurd (no_some k)
-      go (some ms) q k = let z : n ∷ ms ≡ ns = cc in subst AllNames z (names_more n ms g (h x (f x refl) ms q))
+      go : (o : Option (List Bytes)) → (down x).found ≡ o → option_map (λ (l : List Bytes). n ∷ l) o ≡ Some ns → AllNames ns
+      go None q k = absurd (no_some k)
+      go (Some ms) q k = let z : n ∷ ms ≡ ns = cc in subst AllNames z (names_more n ms g (h x (f x refl) ms q))
 
-  one_named : (i : Inst) → is_name i.name ≡ true → (ns : List Bytes) → (at_instance d kind down i).found ≡ some ns → AllNames ns
+  one_named : (i : Inst) → is_name i.name ≡ true → (ns : List Bytes) → (at_instance d kind down i).found ≡ Some ns → AllNames ns
   one_named i g ns e = go (same i.type kind) e
     where
-      go : (b : Bool) → (cond b (record { found = some (i.name ∷ []); calls = 0 }) (on_some (module_named d i.type) nothing λ m. under i.name (down m))).found ≡ some ns → AllNames ns
+      go : (b : Bool) → (cond b (record { found = Some (i.name ∷ []); calls = 0 }) (on_some (module_named d i.type) nothing λ m. under i.name (down m))).found ≡ Some ns → AllNames ns
       go true k = let z : i.name ∷ [] ≡ ns = cc in subst AllNames z (names_more i.name [] g names_none)
       go false k = below_named i.name g (module_named d i.type) (λ x q. first_mem (λ (m : Module). same m.name i.type) d q) ns k
 
-  among_named : (is : List Inst) → ((i : Inst) → Mem i is → is_name i.name ≡ true) → (ns : List Bytes) → (among_instances d kind down is).found ≡ some ns → AllNames ns
+  among_named : (is : List Inst) → ((i : Inst) → Mem i is → is_name i.name ≡ true) → (ns : List Bytes) → (among_instances d kind down is).found ≡ Some ns → AllNames ns
   unfolding among_instances
   among_named [] g ns e = absurd (no_some e)
   among_named (i ∷ is) g ns e = go (at_instance d kind down i).found refl e (λ k. among_named is (λ x m. g x (there m)) ns k)
     where
       go : (o : Option (List Bytes)) → (at_instance d kind down i).found ≡ o
-          → (on_some o (record { found = (among_instances d kind down is).found; calls = (at_instance d kind down i).calls + (among_instances d kind down is).calls }) (λ ms. at_instance d kind down i)).found ≡ some ns
-          → ((among_instances d kind down is).found ≡ some ns → AllNames ns) → AllNames ns
-      go none q k ih = ih k
-      go (some ms) q k ih = one_named i (g i (here refl)) ns k
+          → (on_some o (record { found = (among_instances d kind down is).found; calls = (at_instance d kind down i).calls + (among_instances d kind down is).calls }) (λ ms. at_instance d kind down i)).found ≡ Some ns
+          → ((among_instances d kind down is).found ≡ Some ns → AllNames ns) → AllNames ns
+      go None q k ih = ih k
+      go (Some ms) q k ih = one_named i (g i (here refl)) ns k
 
 -- the names on the way that a search finds
-pub search_named : (d : List Module) → AllNamed d → (kind : Bytes) (left : ℕ) (m : Module) → Named m → (ns : List Bytes) → (search_from d kind left m).found ≡ some ns → AllNames ns
+pub search_named : (d : List Module) → AllNamed d → (kind : Bytes) (left : ℕ) (m : Module) → Named m → (ns : List Bytes) → (search_from d kind left m).found ≡ Some ns → AllNames ns
 unfolding search_from
 search_named d a kind zero m n ns e = absurd (no_some e)
 search_named d a kind (suc left) m n ns e = among_named d kind (search_from d kind left) (λ x at. search_named d a kind left x (a x at)) m.insts n.insts ns e

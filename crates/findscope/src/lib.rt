@@ -1,9 +1,10 @@
 // The scope of the power intent over the job and its index (checks 7 and 8): the override, or the way to an instance of the design top.
 #![tactic(auto)]
 
-ghost use Rattle.std.specs.Prelude.{◌≡◌, ◌++◌, ◌≤◌, ◌<◌, length};
-ghost use Rattle.std.proofs.Math.Option.{some};
+ghost use Rattle.std.specs.Prelude.{◌≡◌, ◌++◌, ◌≤◌, ◌<◌, length, Some};
+ghost use Rattle.text.specs.Ascii.{ascii};
 ghost use Rattle.out.specs.Emit.{◌▸◌, emit};
+ghost use Rattle.out.specs.Text.{Writes};
 ghost use Rattle.out.specs.Items.{joined};
 ghost use Rattle.jobindex.specs.Index.{module_row, job_of};
 ghost use Rattle.lines.specs.Cursors.{spanned};
@@ -15,8 +16,9 @@ ghost use Rattle.texts.specs.Scope.Path.{along};
 ghost use Rattle.findscope.specs.Scopes.{path_text, refused_by, topmost, Tells, Told, Taken, Whole, most_way};
 
 use jobindex::Header;
+use out::emit::Text;
 use search::Found;
-use store::stored::Maybe;
+use store::stored::Stored;
 
 // The scope: a refusal by its number, or 0, the row of its module, and its path. The parts of the path stand in the first `len` bytes of the lent way,
 // or in the override, from `from` on.
@@ -56,28 +58,34 @@ fn top(row: usize) -> ScopeAt
 }
 
 // Writes the instance names of a way, joined by `sep`.
-fn put_way(out: &mut [u8], job: &[u8], f: Found, sep: &[u8]) -> usize
+#[tactic(auto, using(crate::proofs::Turns::writing))]
+fn put_way(to: &mut Text, job: &[u8], f: Found, sep: &[u8])
     requires { length f.names ≡ 33 }
-    ensures { out.new ▸ result ≡ emit (out.old ▸ 0) (joined sep.now (way_from job.now 0 f)) }
+    ensures { Writes to.old (joined sep.now (way_from job.now 0 f)) to.new }
 {
-    let names = f.count;
-    let mut o = 0;
-    let mut i = 0;
-    loop {
-        if names <= i {
-            return o;
-        }
+    let n = f.count;
+    for i in 0..n {
         if 33 <= i {
-            return o;
+            return;
         }
         let name = f.names[i];
-        o = out::items::unless(out, o, i, sep);
-        o = out::emit::put(out, o, lines::part_of(job, name));
-        i += 1;
+        to.unless(i, sep);
+        to.put(lines::part_of(job, name));
     }
 }
 
+// Writes the instance names of a way to the lent one, joined by dots, and returns where they end.
+fn write_way(way: &mut [u8], job: &[u8], f: Found) -> usize
+    requires { length f.names ≡ 33 }
+    ensures { way.new ▸ result ≡ emit (way.old ▸ 0) (joined (ascii ".") (way_from job.now 0 f)) }
+{
+    let mut to = Text::over(way, 0);
+    put_way(&mut to, job, f, b".");
+    to.end()
+}
+
 // By the override.
+#[tactic(auto, using(crate::proofs::Turns::overriding))]
 fn by_override(job: &[u8], index: &[u32], head: Header) -> ScopeAt
     requires { Taken job.now index.now head }
     ensures { Told job.now index.now head (scope_along (modules job.now index.now head.modules) (module_row job.now index.now head.topmodule) (along (without_top (spanned job.now head.top) (override_parts (spanned job.now head.over))))) result }
@@ -98,6 +106,7 @@ fn by_override(job: &[u8], index: &[u32], head: Header) -> ScopeAt
 }
 
 // By the type of an instance.
+#[tactic(auto, using(crate::proofs::Turns::typing))]
 fn by_type(job: &[u8], index: &[u32], head: Header, kind: &[u8], way: &mut [u8]) -> ScopeAt
     requires { Taken job.now index.now head × (most_way ≤ length way.old) }
     ensures { Tells job.now index.now head way.old way.new (scope_along (modules job.now index.now head.modules) (module_row job.now index.now head.topmodule) (path_to (modules job.now index.now head.modules) (module_row job.now index.now head.topmodule) kind.now)) result }
@@ -115,7 +124,7 @@ fn by_type(job: &[u8], index: &[u32], head: Header, kind: &[u8], way: &mut [u8])
     if row == 0 {
         return refused(12);
     }
-    let n = put_way(way, job, f, b".");
+    let n = write_way(way, job, f);
     ScopeAt {
         number: 0,
         row: row - 1,
@@ -126,9 +135,10 @@ fn by_type(job: &[u8], index: &[u32], head: Header, kind: &[u8], way: &mut [u8])
 }
 
 // By a design top.
+#[tactic(auto, using(crate::proofs::Turns::designing))]
 fn by_design_top(job: &[u8], index: &[u32], head: Header, kind: &[u8], way: &mut [u8]) -> ScopeAt
     requires { Taken job.now index.now head × (most_way ≤ length way.old) }
-    ensures { Tells job.now index.now head way.old way.new (scope_along (modules job.now index.now head.modules) (module_row job.now index.now head.topmodule) (by_design_top (modules job.now index.now head.modules) (module_row job.now index.now head.topmodule) (spanned job.now head.top) (some kind.now))) result }
+    ensures { Tells job.now index.now head way.old way.new (scope_along (modules job.now index.now head.modules) (module_row job.now index.now head.topmodule) (by_design_top (modules job.now index.now head.modules) (module_row job.now index.now head.topmodule) (spanned job.now head.top) (Some kind.now))) result }
 {
     if text::compare::same(kind, lines::part_of(job, head.top)) {
         return top(head.topmodule);
@@ -137,13 +147,14 @@ fn by_design_top(job: &[u8], index: &[u32], head: Header, kind: &[u8], way: &mut
 }
 
 // The scope of a job whose commands set this design top. `way` is lent for the path to an instance of it.
+#[tactic(auto, using(crate::proofs::Turns::scoping))]
 pub fn find_scope<'a>(
     job: &[u8],
     index: &[u32],
     head: Header,
     files: &'a [u8],
     area: &'a [u8],
-    t: Maybe,
+    t: Option<Stored>,
     way: &mut [u8],
 ) -> ScopeAt
     requires { Taken job.now index.now head × (Whole (length files.now) t × (most_way ≤ length way.old)) }
@@ -154,8 +165,8 @@ pub fn find_scope<'a>(
         return by_override(job, index, head);
     }
     match t {
-        Maybe::Not => top(head.topmodule),
-        Maybe::Given(s) => by_design_top(
+        None => top(head.topmodule),
+        Some(s) => by_design_top(
             job,
             index,
             head,
@@ -166,6 +177,7 @@ pub fn find_scope<'a>(
 }
 
 // The text that the parts of the scope's path stand in.
+#[tactic(auto, using(crate::proofs::Turns::path_texts))]
 pub fn path_text<'a>(job: &'a [u8], head: Header, way: &'a [u8], r: ScopeAt) -> &'a [u8]
     ensures { result.now ≡ path_text job.now head way.now r }
 {

@@ -1,4 +1,5 @@
 -- The scope's path and names below it, as their writers ask: o' is what the last call left. Assumes nothing.
+use Rattle.std.specs.Prelude.{Option, Some, None}
 use Prim.Native.Nat.{ℕ, ◌+◌, ◌-◌, ◌≤◌, ◌<◌}
 use mathlib.Core.Path.{◌≡◌, refl, sym, ap, ◌∙◌}
 use mathlib.Core.Bool.{Bool, true, false, cond, ◌&&◌, not}
@@ -21,10 +22,8 @@ use Rattle.texts.specs.Setting.{slashed}
 use Rattle.texts.specs.Supplies.{unrooted}
 use Rattle.scope.specs.Parts.{parts, PartSeen}
 use Rattle.scope.specs.declared.PartAt.{PartAt}
-use Rattle.scope.specs.declared.PartAt.TheVariants as part
 use Rattle.refs.specs.Text.{dot_of, as_dots}
 use Rattle.refs.specs.Laws.{dots_step, dots_none}
-use Rattle.refs.specs.declared.Step.TheVariants.{End}
 use Rattle.format.specs.Args.{led, behind_top, rooted}
 use Rattle.refs.specs.Heads.{is_there}
 
@@ -58,37 +57,37 @@ pub ruleset slices = (rules, slice_next, slice_done)
 pub record Leads (f : ℕ → Bytes) (sep : ℕ) (d : Bool) (over : Bytes) (w o : Out) (i : ℕ) : Type 0 where
   pub keeps : emit o (flat f (led sep d (parts over i))) ≡ w
 
-module _ (over : Bytes) (i : ℕ) (r : PartAt) (seen : PartSeen over i r) where
-  no_part : r ≡ part.End → parts over i ≡ []
+module _ (over : Bytes) (i : ℕ) (r : Option PartAt) (seen : PartSeen over i r) where
+  no_part : r ≡ None → parts over i ≡ []
   no_part h = rw h at (sym seen.says)
 
-  module _ (a l next : ℕ) (h : r ≡ part.Part a l next) where
-    one_part : parts over i ≡ take l (drop a over) ∷ parts over next
+  module _ (x : PartAt) (h : r ≡ Some x) where
+    one_part : parts over i ≡ take x.len (drop x.at over) ∷ parts over x.next
     one_part = rw h at (sym seen.says)
 
-    ahead : (i < next) × (next ≤ length over)
+    ahead : (i < x.next) × (x.next ≤ length over)
     ahead = rw h at seen.goes
 
-    pub part_less : length over - next < length over - i
+    pub part_less : length over - x.next < length over - i
     part_less = omega (arith, ahead.0, ahead.1)
 
   module _ (f : ℕ → Bytes) (sep : ℕ) (d : Bool) (w o : Out) (inv : Leads f sep d over w o i) where
-    pub lead_end : r ≡ part.End → o ≡ w
+    pub lead_end : r ≡ None → o ≡ w
     unfolding flat emit each
     lead_end h = rw (no_part h) at inv.keeps
 
-    pub lead_step : (a l next : ℕ) (p : Bytes) (o₁ o₂ : Out) → r ≡ part.Part a l next → o₂ ≡ emit o₁ (flat f (as_dots d p)) → o₁ ≡ emit o (f sep) → p ≡ take l (drop a over) → Leads f sep d over w o₂ next
-    lead_step a l next p o₁ o₂ h g e k =
-        let q : led sep d (parts over i) ≡ (sep ∷ as_dots d p) ++ led sep d (parts over next) = rw (k, one_part a l next h) (led_cons sep d (take l (drop a over)) (parts over next)) in
+    pub lead_step : (x : PartAt) (p : Bytes) (o₁ o₂ : Out) → r ≡ Some x → o₂ ≡ emit o₁ (flat f (as_dots d p)) → o₁ ≡ emit o (f sep) → p ≡ take x.len (drop x.at over) → Leads f sep d over w o₂ x.next
+    lead_step x p o₁ o₂ h g e k =
+        let q : led sep d (parts over i) ≡ (sep ∷ as_dots d p) ++ led sep d (parts over x.next) = rw (k, one_part x h) (led_cons sep d (take x.len (drop x.at over)) (parts over x.next)) in
         let z : o₂ ≡ emit o (flat f (sep ∷ as_dots d p)) = flat_first f o o₁ o₂ sep (as_dots d p) g e in
-        record { keeps = rw z (sym (ap (emit o) (flat_append f (sep ∷ as_dots d p) (led sep d (parts over next))) ∙ emit_append o (flat f (sep ∷ as_dots d p)) (flat f (led sep d (parts over next)))) ∙ (rw q at inv.keeps)) }
+        record { keeps = rw z (sym (ap (emit o) (flat_append f (sep ∷ as_dots d p) (led sep d (parts over x.next))) ∙ emit_append o (flat f (sep ∷ as_dots d p)) (flat f (led sep d (parts over x.next)))) ∙ (rw q at inv.keeps)) }
 
   -- whether there is one
-  pub there_none : r ≡ part.End → false ≡ is_there (parts over i)
+  pub there_none : r ≡ None → false ≡ is_there (parts over i)
   there_none h = rw (no_part h)
 
-  pub there_one : (a l next : ℕ) → r ≡ part.Part a l next → true ≡ is_there (parts over i)
-  there_one a l next h = rw (one_part a l next h)
+  pub there_one : (x : PartAt) → r ≡ Some x → true ≡ is_there (parts over i)
+  there_one x h = rw (one_part x h)
 
 flat_each : (g : Bytes → Bytes) (ns : List Bytes) → flat_map g ns ≡ each g ns
 unfolding flat_map each
@@ -97,14 +96,14 @@ flat_each g (n ∷ ns) = rw (flat_each g ns)
 
 -- ---- the parts with dots between them
 
-module _ (f : ℕ → Bytes) (over : Bytes) (i : ℕ) (r : PartAt) (seen : PartSeen over i r) (o : Out) where
-  pub path_end : r ≡ part.End → o ≡ emit o (flat f (scope_path (parts over i)))
+module _ (f : ℕ → Bytes) (over : Bytes) (i : ℕ) (r : Option PartAt) (seen : PartSeen over i r) (o : Out) where
+  pub path_end : r ≡ None → o ≡ emit o (flat f (scope_path (parts over i)))
   unfolding flat emit
   path_end h = rw (no_part over i r seen h)
 
-  pub path_more : (a l next : ℕ) (p : Bytes) (o₁ o₂ : Out) → r ≡ part.Part a l next → o₂ ≡ emit o₁ (flat f (led (byte ".") false (parts over next))) → o₁ ≡ emit o (flat f (as_dots false p)) → p ≡ take l (drop a over) → o₂ ≡ emit o (flat f (scope_path (parts over i)))
-  path_more a l next p o₁ o₂ h g e k =
-      rw (one_part over i r seen a l next h, ← k, flat_each (λ (m : Bytes). byte "." ∷ m) (parts over next)) (flat_two f o o₁ o₂ p (led (byte ".") false (parts over next)) g e)
+  pub path_more : (x : PartAt) (p : Bytes) (o₁ o₂ : Out) → r ≡ Some x → o₂ ≡ emit o₁ (flat f (led (byte ".") false (parts over x.next))) → o₁ ≡ emit o (flat f (as_dots false p)) → p ≡ take x.len (drop x.at over) → o₂ ≡ emit o (flat f (scope_path (parts over i)))
+  path_more x p o₁ o₂ h g e k =
+      rw (one_part over i r seen x h, ← k, flat_each (λ (m : Bytes). byte "." ∷ m) (parts over x.next)) (flat_two f o o₁ o₂ p (led (byte ".") false (parts over x.next)) g e)
 
 pub ruleset leads = (rules, part_less, lead_end, lead_step, there_none, there_one, path_end, path_more)
 

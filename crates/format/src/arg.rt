@@ -1,13 +1,13 @@
 // The arguments of a template.
 ghost use Rattle.std.specs.Prelude.{◌≡◌, ◌++◌};
-ghost use Rattle.out.specs.Emit.{◌▸◌, emit};
+ghost use Rattle.out.specs.Text.{Writes};
 ghost use Rattle.out.specs.Bytewise.{flat as Bytewise·flat, becomes as Bytewise·becomes};
 ghost use Rattle.scope.specs.Parts.{parts};
 ghost use Rattle.format.specs.Args.{literal, arg_of, wrapped_arg, name_arg, hier_arg, fixed_arg};
 
 use super::path::{put_dots, put_hier, put_slashed, put_slice};
 use names::name::Name;
-use out::bytewise::flat;
+use out::emit::Text;
 use refs::{Ref, of_job, whole};
 
 // A text: as it is where `wrap` is 0; below the scope with dots where it is 1; as a path from the top on with slashes where it is 2, with dots where it is
@@ -42,10 +42,7 @@ pub fn hier(n: Name) -> Arg
 pub fn wrapped(wrap: u8, r: Ref) -> Arg
     ensures { result ≡ wrapped_arg wrap r }
 {
-    Arg {
-        wrap: wrap,
-        text: r,
-    }
+    Arg { wrap, text: r }
 }
 
 // The top, or a literal.
@@ -53,37 +50,28 @@ pub fn fixed(wrap: u8) -> Arg
     ensures { result ≡ fixed_arg wrap }
 {
     Arg {
-        wrap: wrap,
+        wrap,
         text: of_job(0, 0),
     }
 }
 
 // Writes the literal of a number.
-fn put_literal(out: &mut [u8], at: usize, m: u8, k: u8) -> usize
-    ensures { out.new ▸ result ≡ emit (out.old ▸ at) (Bytewise·flat (Bytewise·becomes m) (literal k)) }
+fn put_literal(to: &mut Text, m: u8, k: u8)
+    ensures { Writes to.old (Bytewise·flat (Bytewise·becomes m) (literal k)) to.new }
 {
-    if k == 5 {
-        return flat(out, at, m, b"1'b0");
+    match k {
+        5 => to.flat(m, b"1'b0"),
+        6 => to.flat(m, b"1'b1"),
+        7 => to.flat(m, b"0"),
+        8 => to.flat(m, b"1"),
+        9 => to.flat(m, b"z"),
+        _ => to.flat(m, b"high"),
     }
-    if k == 6 {
-        return flat(out, at, m, b"1'b1");
-    }
-    if k == 7 {
-        return flat(out, at, m, b"0");
-    }
-    if k == 8 {
-        return flat(out, at, m, b"1");
-    }
-    if k == 9 {
-        return flat(out, at, m, b"z");
-    }
-    flat(out, at, m, b"high")
 }
 
 // Writes an argument in one of the modes of `becomes`.
 pub fn put(
-    out: &mut [u8],
-    at: usize,
+    to: &mut Text,
     m: u8,
     job: &[u8],
     files: &[u8],
@@ -92,24 +80,16 @@ pub fn put(
     from: usize,
     top: &[u8],
     a: Arg,
-) -> usize
-    ensures { out.new ▸ result ≡ emit (out.old ▸ at) (Bytewise·flat (Bytewise·becomes m) (arg_of job.now (files.now ++ area.now) (parts over.now from) top.now a)) }
+)
+    ensures { Writes to.old (Bytewise·flat (Bytewise·becomes m) (arg_of job.now (files.now ++ area.now) (parts over.now from) top.now a)) to.new }
 {
     let r = a.text;
-    if a.wrap == 0 {
-        return refs::put(out, at, m, false, job, files, area, r);
+    match a.wrap {
+        0 => refs::put(to, m, false, job, files, area, r),
+        1 => put_hier(to, m, job, files, area, over, from, r),
+        2 => put_slashed(to, m, job, files, area, over, from, top, r),
+        3 => put_dots(to, m, job, files, area, over, from, top, r),
+        4 => put_slice(to, m, false, top),
+        k => put_literal(to, m, k),
     }
-    if a.wrap == 1 {
-        return put_hier(out, at, m, job, files, area, over, from, r);
-    }
-    if a.wrap == 2 {
-        return put_slashed(out, at, m, job, files, area, over, from, top, r);
-    }
-    if a.wrap == 3 {
-        return put_dots(out, at, m, job, files, area, over, from, top, r);
-    }
-    if a.wrap == 4 {
-        return put_slice(out, at, m, false, top);
-    }
-    put_literal(out, at, m, a.wrap)
 }

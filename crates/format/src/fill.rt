@@ -1,12 +1,12 @@
 // A template written with its arguments in their places: see the places of a template in `out`.
 ghost use Rattle.std.specs.Prelude.{◌≡◌, true, [], ◌++◌, ◌≤◌, length, drop};
-ghost use Rattle.out.specs.Emit.{◌▸◌, emit};
+ghost use Rattle.out.specs.Text.{Writes};
 ghost use Rattle.out.specs.Fill.{is_template, mark_text, fill as Fill·fill};
 ghost use Rattle.scope.specs.Parts.{parts};
 ghost use Rattle.format.specs.Args.{arg_of, letter_of, letter_number, letter_mode};
 
 use super::arg::{Arg, fixed, put as put_arg};
-use out::emit::{byte, put};
+use out::emit::Text;
 use out::template::{mark_end, run_end};
 use text::part::peek;
 
@@ -64,27 +64,25 @@ fn mode(k: u8) -> u8
 }
 
 // What the mark at i adds where it is none of an argument: a brace, or nothing.
-fn brace(out: &mut [u8], at: usize, t: &[u8], i: usize) -> usize
+fn brace(to: &mut Text, t: &[u8], i: usize)
     requires { i ≤ length t.now }
-    ensures { out.new ▸ result ≡ emit (out.old ▸ at) (mark_text (λ _. []) (drop i t.now)) }
+    ensures { Writes to.old (mark_text (λ _. []) (drop i t.now)) to.new }
 {
     if t.len() <= i {
-        return at;
+        return;
     }
     if t[i] == b'}' {
-        return byte(out, at, b'}');
+        return to.byte(b'}');
     }
     let k = peek(t, i + 1);
     if k == b'{' {
-        return byte(out, at, b'{');
+        return to.byte(b'{');
     }
-    at
 }
 
 // Writes the template t with its five arguments in their places.
 pub fn fill(
-    out: &mut [u8],
-    at: usize,
+    to: &mut Text,
     t: &[u8],
     job: &[u8],
     files: &[u8],
@@ -97,17 +95,16 @@ pub fn fill(
     c: Arg,
     d: Arg,
     e: Arg,
-) -> usize
+)
     requires { is_template 5 t.now ≡ true }
-    ensures { out.new ▸ result ≡ emit (out.old ▸ at) (Fill·fill t.now (arg_of job.now (files.now ++ area.now) (parts over.now from) top.now a) (arg_of job.now (files.now ++ area.now) (parts over.now from) top.now b) (arg_of job.now (files.now ++ area.now) (parts over.now from) top.now c) (arg_of job.now (files.now ++ area.now) (parts over.now from) top.now d) (arg_of job.now (files.now ++ area.now) (parts over.now from) top.now e)) }
+    ensures { Writes to.old (Fill·fill t.now (arg_of job.now (files.now ++ area.now) (parts over.now from) top.now a) (arg_of job.now (files.now ++ area.now) (parts over.now from) top.now b) (arg_of job.now (files.now ++ area.now) (parts over.now from) top.now c) (arg_of job.now (files.now ++ area.now) (parts over.now from) top.now d) (arg_of job.now (files.now ++ area.now) (parts over.now from) top.now e)) to.new }
 {
-    write(out, at, t, job, files, area, over, from, top, a, b, c, d, e)
+    write(to, t, job, files, area, over, from, top, a, b, c, d, e)
 }
 
 // The same of any text.
 fn write(
-    out: &mut [u8],
-    at: usize,
+    to: &mut Text,
     t: &[u8],
     job: &[u8],
     files: &[u8],
@@ -120,48 +117,46 @@ fn write(
     c: Arg,
     d: Arg,
     e: Arg,
-) -> usize
-    ensures { out.new ▸ result ≡ emit (out.old ▸ at) (Fill·fill t.now (arg_of job.now (files.now ++ area.now) (parts over.now from) top.now a) (arg_of job.now (files.now ++ area.now) (parts over.now from) top.now b) (arg_of job.now (files.now ++ area.now) (parts over.now from) top.now c) (arg_of job.now (files.now ++ area.now) (parts over.now from) top.now d) (arg_of job.now (files.now ++ area.now) (parts over.now from) top.now e)) }
+)
+    ensures { Writes to.old (Fill·fill t.now (arg_of job.now (files.now ++ area.now) (parts over.now from) top.now a) (arg_of job.now (files.now ++ area.now) (parts over.now from) top.now b) (arg_of job.now (files.now ++ area.now) (parts over.now from) top.now c) (arg_of job.now (files.now ++ area.now) (parts over.now from) top.now d) (arg_of job.now (files.now ++ area.now) (parts over.now from) top.now e)) to.new }
 {
-    let mut o = at;
+    // Counted by hand: the place moves by a run's and a mark's length, so an iterator is no plainer.
     let mut i = 0;
     while i < t.len() {
         let z = run_end(t, i);
         let run = &t[i..z];
-        o = put(out, o, run);
+        to.put(run);
         let k = letter(t, z);
         let j = number(k);
         let m = mode(k);
         i = mark_end(t, z);
         if j == 5 {
-            o = brace(out, o, t, z);
+            brace(to, t, z);
             continue;
         }
         if j == 0 {
-            o = put_arg(out, o, m, job, files, area, over, from, top, a);
+            put_arg(to, m, job, files, area, over, from, top, a);
             continue;
         }
         if j == 1 {
-            o = put_arg(out, o, m, job, files, area, over, from, top, b);
+            put_arg(to, m, job, files, area, over, from, top, b);
             continue;
         }
         if j == 2 {
-            o = put_arg(out, o, m, job, files, area, over, from, top, c);
+            put_arg(to, m, job, files, area, over, from, top, c);
             continue;
         }
         if j == 3 {
-            o = put_arg(out, o, m, job, files, area, over, from, top, d);
+            put_arg(to, m, job, files, area, over, from, top, d);
             continue;
         }
-        o = put_arg(out, o, m, job, files, area, over, from, top, e);
+        put_arg(to, m, job, files, area, over, from, top, e);
     }
-    o
 }
 
-// With one argument.
+// With one argument. A name for each number of arguments: a clause can then name each argument.
 pub fn fill1(
-    out: &mut [u8],
-    at: usize,
+    to: &mut Text,
     t: &[u8],
     job: &[u8],
     files: &[u8],
@@ -170,18 +165,17 @@ pub fn fill1(
     from: usize,
     top: &[u8],
     a: Arg,
-) -> usize
+)
     requires { is_template 1 t.now ≡ true }
-    ensures { out.new ▸ result ≡ emit (out.old ▸ at) (Fill·fill t.now (arg_of job.now (files.now ++ area.now) (parts over.now from) top.now a) [] [] [] []) }
+    ensures { Writes to.old (Fill·fill t.now (arg_of job.now (files.now ++ area.now) (parts over.now from) top.now a) [] [] [] []) to.new }
 {
     let z = fixed(0);
-    write(out, at, t, job, files, area, over, from, top, a, z, z, z, z)
+    write(to, t, job, files, area, over, from, top, a, z, z, z, z)
 }
 
 // With two.
 pub fn fill2(
-    out: &mut [u8],
-    at: usize,
+    to: &mut Text,
     t: &[u8],
     job: &[u8],
     files: &[u8],
@@ -191,18 +185,17 @@ pub fn fill2(
     top: &[u8],
     a: Arg,
     b: Arg,
-) -> usize
+)
     requires { is_template 2 t.now ≡ true }
-    ensures { out.new ▸ result ≡ emit (out.old ▸ at) (Fill·fill t.now (arg_of job.now (files.now ++ area.now) (parts over.now from) top.now a) (arg_of job.now (files.now ++ area.now) (parts over.now from) top.now b) [] [] []) }
+    ensures { Writes to.old (Fill·fill t.now (arg_of job.now (files.now ++ area.now) (parts over.now from) top.now a) (arg_of job.now (files.now ++ area.now) (parts over.now from) top.now b) [] [] []) to.new }
 {
     let z = fixed(0);
-    write(out, at, t, job, files, area, over, from, top, a, b, z, z, z)
+    write(to, t, job, files, area, over, from, top, a, b, z, z, z)
 }
 
 // With three.
 pub fn fill3(
-    out: &mut [u8],
-    at: usize,
+    to: &mut Text,
     t: &[u8],
     job: &[u8],
     files: &[u8],
@@ -213,18 +206,17 @@ pub fn fill3(
     a: Arg,
     b: Arg,
     c: Arg,
-) -> usize
+)
     requires { is_template 3 t.now ≡ true }
-    ensures { out.new ▸ result ≡ emit (out.old ▸ at) (Fill·fill t.now (arg_of job.now (files.now ++ area.now) (parts over.now from) top.now a) (arg_of job.now (files.now ++ area.now) (parts over.now from) top.now b) (arg_of job.now (files.now ++ area.now) (parts over.now from) top.now c) [] []) }
+    ensures { Writes to.old (Fill·fill t.now (arg_of job.now (files.now ++ area.now) (parts over.now from) top.now a) (arg_of job.now (files.now ++ area.now) (parts over.now from) top.now b) (arg_of job.now (files.now ++ area.now) (parts over.now from) top.now c) [] []) to.new }
 {
     let z = fixed(0);
-    write(out, at, t, job, files, area, over, from, top, a, b, c, z, z)
+    write(to, t, job, files, area, over, from, top, a, b, c, z, z)
 }
 
 // With four.
 pub fn fill4(
-    out: &mut [u8],
-    at: usize,
+    to: &mut Text,
     t: &[u8],
     job: &[u8],
     files: &[u8],
@@ -236,10 +228,10 @@ pub fn fill4(
     b: Arg,
     c: Arg,
     d: Arg,
-) -> usize
+)
     requires { is_template 4 t.now ≡ true }
-    ensures { out.new ▸ result ≡ emit (out.old ▸ at) (Fill·fill t.now (arg_of job.now (files.now ++ area.now) (parts over.now from) top.now a) (arg_of job.now (files.now ++ area.now) (parts over.now from) top.now b) (arg_of job.now (files.now ++ area.now) (parts over.now from) top.now c) (arg_of job.now (files.now ++ area.now) (parts over.now from) top.now d) []) }
+    ensures { Writes to.old (Fill·fill t.now (arg_of job.now (files.now ++ area.now) (parts over.now from) top.now a) (arg_of job.now (files.now ++ area.now) (parts over.now from) top.now b) (arg_of job.now (files.now ++ area.now) (parts over.now from) top.now c) (arg_of job.now (files.now ++ area.now) (parts over.now from) top.now d) []) to.new }
 {
     let z = fixed(0);
-    write(out, at, t, job, files, area, over, from, top, a, b, c, d, z)
+    write(to, t, job, files, area, over, from, top, a, b, c, d, z)
 }

@@ -1,4 +1,7 @@
 -- What stands in front, for a setting: laws as the needs of `report_front` and `glue_front` ask them. Assumes nothing.
+use Rattle.store.specs.declared.state.Few.{Few}
+use Rattle.store.specs.declared.state.Isolation.{Isolation}
+use Rattle.store.specs.declared.state.Switch.{Switch}
 use Prim.Native.Nat.{ℕ, ◌+◌, ◌*◌}
 use mathlib.Core.Path.{◌≡◌, sym, ap, ◌∙◌}
 use mathlib.Core.List.{List, [], ◌++◌, map}
@@ -13,8 +16,6 @@ use Rattle.scope.specs.Parts.{parts}
 use Rattle.store.specs.View.{switch_of, model_of}
 use Rattle.store.specs.Rows.{store_of}
 use Rattle.store.specs.declared.state.State.{State}
-use Rattle.store.specs.declared.state.Switches.{Switches}
-use Rattle.store.specs.declared.state.Isolations.{Isolations}
 use Rattle.texts.specs.Isolation as texts
 use Rattle.texts.specs.Setting.{Setting}
 use Rattle.texts.specs.Supplies.{supply_nets, net_blocks}
@@ -53,7 +54,7 @@ module _ (job : Bytes) (nums : List ℕ) (files area path : Bytes) (from : ℕ) 
     unfolding module_row
     row_name_lem = rw (en, el)
 
-    pub report_front_told : (sw : Switches) (o o₁ o₂ : Out)
+    pub report_front_told : (sw : Few Switch) (o o₁ o₂ : Out)
         → o₂ ≡ emit o₁ (each switch_line (map (switch_of (files ++ area) []) (take sw.n sw.all)))
         → sw ≡ s.switches
         → o₁ ≡ emit o (scope_text top (parts path from) (take len (drop name job)) n (table_names (files ++ area) nets n))
@@ -67,12 +68,12 @@ module _ (job : Bytes) (nums : List ℕ) (files area path : Bytes) (from : ℕ) 
         ∙ scope_is_lem t (files ++ area) nets n (nets_are count k t st) in
         let w : o₁ ≡ emit o (scope_line t) = e₁ ∙ ap (emit o) q in
         e₂
-        ∙ ap (λ (x : Switches). emit o₁ (each switch_line (map (switch_of (files ++ area) []) (take x.n x.all)))) es
+        ∙ ap (λ (x : Few Switch). emit o₁ (each switch_line (map (switch_of (files ++ area) []) (take x.n x.all)))) es
         ∙ ap (emit o₁) (lines_stand job nums count k files area path from top s t st)
         ∙ ap (λ (x : Out). emit x (each switch_line t.records.switches)) w
 
   -- ---- the glue
-  pub glue_front_told : (ord : Orders files area nums s) (ports : List ℕ) (m : ℕ) (sw : Switches) (is : Isolations) (o o₁ o₂ o₃ o₄ : Out)
+  pub glue_front_told : (ord : Orders files area nums s) (ports : List ℕ) (m : ℕ) (sw : Few Switch) (is : Few Isolation) (o o₁ o₂ o₃ o₄ : Out)
       → o₄ ≡ emit o₃ (texts.processes (map (shown (parts path from) top (strategy_at (files ++ area) is)) (kept_in job (files ++ area) ports m)))
       → o₃ ≡ emit o₂ (each (switch_glue (scope_setting (parts path from))) (map (switch_in (files ++ area) nums) (take sw.n sw.all)))
       → o₂ ≡ emit o₁ (net_blocks (nets_setting top (parts path from) (table_names (files ++ area) nets n)))
@@ -88,11 +89,11 @@ module _ (job : Bytes) (nums : List ℕ) (files area path : Bytes) (from : ℕ) 
       ∙ ap (λ (x : Out). emit x (net_blocks t)) e₁ in
       let w₃ : o₃ ≡ emit (emit (emit o first_line) (net_blocks t)) (each (switch_glue t) t.records.switches) =
       e₃
-      ∙ ap (λ (x : Switches). emit o₂ (each (switch_glue (scope_setting (parts path from))) (map (switch_in (files ++ area) nums) (take x.n x.all)))) es
+      ∙ ap (λ (x : Few Switch). emit o₂ (each (switch_glue (scope_setting (parts path from))) (map (switch_in (files ++ area) nums) (take x.n x.all)))) es
       ∙ ap (emit o₂) (glue_stands job nums count k files area path from top s t st ord)
       ∙ ap (λ (x : Out). emit x (each (switch_glue t) t.records.switches)) w₂ in
       e₄
-      ∙ ap (λ (x : Isolations). emit o₃ (texts.processes (map (shown (parts path from) top (strategy_at (files ++ area) x)) (kept_in job (files ++ area) ports m)))) ei
+      ∙ ap (λ (x : Few Isolation). emit o₃ (texts.processes (map (shown (parts path from) top (strategy_at (files ++ area) x)) (kept_in job (files ++ area) ports m)))) ei
       ∙ ap (λ (x : List Bytes). emit o₃ (texts.processes (map (shown x top (strategy_at (files ++ area) s.isolations)) (kept_in job (files ++ area) ports m)))) (sym st.scope_is_lem)
       ∙ ap (λ (x : Bytes). emit o₃ (texts.processes (map (shown t.scope x (strategy_at (files ++ area) s.isolations)) (kept_in job (files ++ area) ports m)))) (sym st.top_is)
       ∙ ap (λ (x : Out). emit x (texts.processes (shown_ports t job (files ++ area) s.isolations ports m))) w₃

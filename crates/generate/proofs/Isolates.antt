@@ -1,4 +1,7 @@
 -- Isolation by the stored records: laws as the needs of `isolate` ask them, and what every caller finds in its answer. Assumes nothing.
+use Rattle.store.specs.declared.state.Few.{Few}
+use Rattle.store.specs.declared.state.Domain.{Domain}
+use Rattle.store.specs.declared.state.Isolation.{Isolation}
 use Prim.Native.Nat.{ℕ, ◌+◌, ◌≤◌}
 use native.Mathlib.Omega.{arith}
 use mathlib.Core.Path.{◌≡◌}
@@ -11,8 +14,6 @@ use Rattle.jobindex.specs.Index.{module_row}
 use Rattle.lookup.specs.Rows.{modules}
 use Rattle.store.specs.View.{domain_of, isolation_of}
 use Rattle.store.specs.declared.state.State.{State}
-use Rattle.store.specs.declared.state.Isolations.{Isolations}
-use Rattle.store.specs.declared.state.Domains.{Domains}
 use Rattle.setting.specs.Stands.{setting_at, stands_at}
 use Rattle.keep.specs.Covered.{Answer}
 use Rattle.keep.specs.declared.Cover.{Cover}
@@ -27,10 +28,10 @@ pub asks_isolates : (job : Bytes) (nums : List ℕ) (count k : ℕ) (files area 
 asks_isolates job nums count k files area path s a = record { few = a.few; row = a.row; job_small = omega (arith, a.job_short); small = a.memory_small; orders = a.orders }
 
 module _ (job : Bytes) (nums : List ℕ) (count k : ℕ) (files area : Bytes) (s : State) (g : Isolates job nums count k files area s) where
-  pub isolation_asked : (is : Isolations) (ds : Domains) → is ≡ s.isolations → ds ≡ s.domains → OfIsolation job files area count k is ds
+  pub isolation_asked : (is : Few Isolation) (ds : Few Domain) → is ≡ s.isolations → ds ≡ s.domains → OfIsolation job files area count k is ds
   isolation_asked is ds ei ed = rw (ei, ed) (orders_isolation job nums count k files area s g.orders g.few g.row g.job_small g.small)
 
-  pub all_isolated : (is : Isolations) (ds : Domains) → is ≡ s.isolations → ds ≡ s.domains → (warn : Bool) (at : ℕ) (out₀ out : Bytes) (ports : List ℕ) (r : Cover)
+  pub all_isolated : (is : Few Isolation) (ds : Few Domain) → is ≡ s.isolations → ds ≡ s.domains → (warn : Bool) (at : ℕ) (out₀ out : Bytes) (ports : List ℕ) (r : Cover)
       → Answer job (files ++ area) warn (start_at at) out₀ (isolation_gain (modules job nums count) (module_row job nums k) (map (domain_of (files ++ area)) (take ds.n ds.all)) (map (isolation_of (files ++ area)) (take is.n is.all)) []) r out ports
       → AllIsolated job nums count k files area s warn (out₀ ▸ at) out ports r
   all_isolated is ds ei ed warn at out₀ out ports r a path from top t st = isolated_told job nums count k files area path from top s t st g.orders warn at out₀ r out ports (rw (ei, ed) at a)

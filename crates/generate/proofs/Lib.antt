@@ -4,3 +4,4 @@ pub mod Isolates
 pub mod Walking
 pub mod Tails
 pub mod Chain
+pub mod Bridged

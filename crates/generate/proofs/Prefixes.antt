@@ -1,4 +1,5 @@
 -- What the scope's path adds to each path: the bytes of each part, and one for each. Laws as the needs of `prefix` ask them. Assumes nothing.
+use Rattle.std.specs.Prelude.{Option, Some, None}
 use Prim.Native.Nat.{ℕ, suc, ◌+◌, ◌-◌, ◌≤◌, ◌<◌, ◌^◌}
 use native.Mathlib.Omega.{arith}
 use mathlib.Core.Path.{◌≡◌, refl, sym}
@@ -16,7 +17,6 @@ use Rattle.paths.specs.Pieces.{stem}
 use Rattle.texts.specs.Scope.{slash_of}
 use Rattle.scope.specs.Parts.{parts, PartSeen}
 use Rattle.scope.specs.declared.PartAt.{PartAt}
-use Rattle.scope.specs.declared.PartAt.TheVariants as part
 use Rattle.generate.specs.Steps.{Prefixed}
 
 -- the bytes of the parts, and one for each
@@ -92,33 +92,33 @@ pub record Adding (path : Bytes) (from n i : ℕ) : Type 0 where
 pub adding_start : (path : Bytes) (from : ℕ) → Adding path from 0 from
 adding_start path from = record { keeps = omega arith }
 
-module _ (path : Bytes) (i : ℕ) (r : PartAt) (seen : PartSeen path i r) where
-  no_part : r ≡ part.End → parts path i ≡ []
+module _ (path : Bytes) (i : ℕ) (r : Option PartAt) (seen : PartSeen path i r) where
+  no_part : r ≡ None → parts path i ≡ []
   no_part h = rw h at (sym seen.says)
 
-  module _ (a l next : ℕ) (h : r ≡ part.Part a l next) where
-    one_part : parts path i ≡ take l (drop a path) ∷ parts path next
+  module _ (q : PartAt) (h : r ≡ Some q) where
+    one_part : parts path i ≡ take q.len (drop q.at path) ∷ parts path q.next
     one_part = rw h at (sym seen.says)
 
-    ahead : (i < next) × (next ≤ length path)
+    ahead : (i < q.next) × (q.next ≤ length path)
     ahead = rw h at seen.goes
 
-    pub part_less : length path - next < length path - i
+    pub part_less : length path - q.next < length path - i
     part_less = omega (arith, ahead.0, ahead.1)
 
   module _ (from n : ℕ) (inv : Adding path from n i) where
-    pub adding_end : r ≡ part.End → length path ≤ 65536 → Prefixed path from n
+    pub adding_end : r ≡ None → length path ≤ 65536 → Prefixed path from n
     unfolding spread
     adding_end h g =
         let e : n + 0 ≡ spread (parts path from) = rw (no_part h) at inv.keeps in
         record { is = omega (arith, e, parts_spread path from); small = omega (arith, e, parts_few path from) }
 
-    module _ (a l next : ℕ) (p : Bytes) (k : p ≡ take l (drop a path)) (h : r ≡ part.Part a l next) where
-      spread_is : spread (parts path i) ≡ length p + 1 + spread (parts path next)
+    module _ (q : PartAt) (p : Bytes) (k : p ≡ take q.len (drop q.at path)) (h : r ≡ Some q) where
+      spread_is : spread (parts path i) ≡ length p + 1 + spread (parts path q.next)
       unfolding spread
-      spread_is = rw (one_part a l next h, k)
+      spread_is = rw (one_part q h, k)
 
-      pub adding_next : Adding path from (n + (length p + 1)) next
+      pub adding_next : Adding path from (n + (length p + 1)) q.next
       adding_next = record { keeps = omega (arith, inv.keeps, spread_is) }
 
       pub adding_fits : length path ≤ 65536 → n + (length p + 1) < 2 ^ 64

@@ -1,4 +1,8 @@
 -- The warnings and their number: laws as the needs of `warnings_by` and `tail` ask them. Assumes nothing.
+use Rattle.store.specs.declared.state.Few.{Few}
+use Rattle.store.specs.declared.state.Shifter.{Shifter}
+use Rattle.store.specs.declared.state.Switch.{Switch}
+use Rattle.store.specs.declared.state.Table.{Table}
 use Prim.Native.Nat.{ℕ, ◌+◌, ◌≤◌, ◌^◌}
 use native.Mathlib.Omega.{arith}
 use mathlib.Core.Path.{◌≡◌, refl, sym, ap, subst, ◌∙◌}
@@ -19,10 +23,6 @@ use Rattle.store.specs.Order.{of_shifter}
 use Rattle.store.specs.declared.state.State.{State}
 use Rattle.store.specs.declared.state.Fill.{Fill}
 use Rattle.store.specs.declared.state.Domain.{Domain}
-use Rattle.store.specs.declared.state.Domains.{Domains}
-use Rattle.store.specs.declared.state.Switches.{Switches}
-use Rattle.store.specs.declared.state.Shifters.{Shifters}
-use Rattle.store.specs.declared.state.Tables.{Tables}
 use Rattle.made.specs.Made.{reach_of}
 use Rattle.texts.specs.Isolation as texts
 use Rattle.texts.specs.Setting.{Setting}
@@ -52,19 +52,19 @@ module _ (job : Bytes) (nums : List ℕ) (count k : ℕ) (files area path : Byte
   pub rows_few : (f : Fill) → f ≡ s.fill → f.rows ≤ 1024
   rows_few f e = rw e a.orders.rows
 
-  pub switches_asked : (xs : Switches) → xs ≡ s.switches → OfSwitches files area nums xs
+  pub switches_asked : (xs : Few Switch) → xs ≡ s.switches → OfSwitches files area nums xs
   switches_asked xs e = rw e (orders_switches files area nums s a.orders)
 
   pub warned_low : (f : Fill) → f ≡ s.fill → f.warnings ≤ 2 ^ 58
   warned_low f e = rw e (omega (arith, a.orders.shaped.warned))
 
-  pub domains_asked : (xs : Domains) → xs ≡ s.domains → domains.OfDomains files area xs
+  pub domains_asked : (xs : Few Domain) → xs ≡ s.domains → domains.OfDomains files area xs
   domains_asked xs e = rw e (domains.orders_domains files area nums s a.orders)
 
-  pub shifters_asked : (xs : Shifters) → xs ≡ s.shifters → Holds (of_shifter (reach_of (length files))) (length (files ++ area)) xs.n xs.all
+  pub shifters_asked : (xs : Few Shifter) → xs ≡ s.shifters → Holds (of_shifter (reach_of (length files))) (length (files ++ area)) xs.n xs.all
   shifters_asked xs e = rw e (shifters_hold files area nums s a.orders)
 
-  pub tables_asked : (f : Fill) (xs : Tables) → f ≡ s.fill → xs ≡ s.tables → OfTables files area nums f.rows xs
+  pub tables_asked : (f : Fill) (xs : Few Table) → f ≡ s.fill → xs ≡ s.tables → OfTables files area nums f.rows xs
   tables_asked f xs ef e = rw (ef, e) (orders_tables files area nums s a.orders)
 
 -- the sum is small
@@ -84,19 +84,19 @@ module _ (job : Bytes) (nums : List ℕ) (count k : ℕ) (files area path : Byte
     read_told : (f : Fill) → f ≡ s.fill → each warning_line (map (warning_text (files ++ area)) (warnings_in (rows_in nums f.rows))) ≡ each warning_line t.records.warnings
     read_told f e = ap (λ (x : Fill). each warning_line (map (warning_text (files ++ area)) (warnings_in (rows_in nums x.rows)))) e ∙ warnings_seen (files ++ area) (store_of nums s) s t.records.log t st.records_are
 
-    switch_told : (xs : Switches) → xs ≡ s.switches → switches.remarks (scope_setting (parts path from)) (map (switch_in (files ++ area) nums) (take xs.n xs.all)) ≡ switch_warnings t
+    switch_told : (xs : Few Switch) → xs ≡ s.switches → switches.remarks (scope_setting (parts path from)) (map (switch_in (files ++ area) nums) (take xs.n xs.all)) ≡ switch_warnings t
     switch_told xs e =
-        ap (λ (x : Switches). switches.remarks (scope_setting (parts path from)) (map (switch_in (files ++ area) nums) (take x.n x.all))) e
+        ap (λ (x : Few Switch). switches.remarks (scope_setting (parts path from)) (map (switch_in (files ++ area) nums) (take x.n x.all))) e
         ∙ remarks_stand job nums count k files area path from top s t st g.orders
 
-    domain_told : (xs : Domains) → xs ≡ s.domains → flat_map (λ (d : Domain). domains.remarks (modules job nums count) (module_row job nums k) (domain_of (files ++ area) d)) (take xs.n xs.all) ≡ domain_remarks t
+    domain_told : (xs : Few Domain) → xs ≡ s.domains → flat_map (λ (d : Domain). domains.remarks (modules job nums count) (module_row job nums k) (domain_of (files ++ area) d)) (take xs.n xs.all) ≡ domain_remarks t
     domain_told xs e =
-        ap (λ (x : Domains). flat_map (λ (d : Domain). domains.remarks (modules job nums count) (module_row job nums k) (domain_of (files ++ area) d)) (take x.n x.all)) e
+        ap (λ (x : Few Domain). flat_map (λ (d : Domain). domains.remarks (modules job nums count) (module_row job nums k) (domain_of (files ++ area) d)) (take x.n x.all)) e
         ∙ ap (λ (l : List Module). flat_map (λ (d : Domain). domains.remarks l (module_row job nums k) (domain_of (files ++ area) d)) (take s.domains.n s.domains.all)) (sym st.design_is)
         ∙ ap (λ (m : Module). flat_map (λ (d : Domain). domains.remarks t.design m (domain_of (files ++ area) d)) (take s.domains.n s.domains.all)) (sym st.base_is)
         ∙ sym (domains.remarks_seen (files ++ area) (store_of nums s) s t.records.log t st.records_are)
 
-  pub all_warned : (f : Fill) → f ≡ s.fill → (xs : Switches) → xs ≡ s.switches → (ds : Domains) → ds ≡ s.domains → (o o₁ o₂ : Out) (b : ℕ) (out : Bytes) (ports : List ℕ) (c : Cover) (report : Bytes) (r : Warned)
+  pub all_warned : (f : Fill) → f ≡ s.fill → (xs : Few Switch) → xs ≡ s.switches → (ds : Few Domain) → ds ≡ s.domains → (o o₁ o₂ : Out) (b : ℕ) (out : Bytes) (ports : List ℕ) (c : Cover) (report : Bytes) (r : Warned)
       → o₁ ≡ emit o (each warning_line (map (warning_text (files ++ area)) (warnings_in (rows_in nums f.rows))))
       → switches.Told (2 ^ 54) o₁ f.warnings (switches.remarks (scope_setting (parts path from)) (map (switch_in (files ++ area) nums) (take xs.n xs.all))) o₂ b
       → AllIsolated job nums count k files area s true o₂ out ports c
@@ -124,7 +124,7 @@ module _ (job : Bytes) (nums : List ℕ) (count k : ℕ) (files area path : Byte
   no_lines t o [] e = refl
   no_lines t o (w ∷ ws) e = absurd (omega arith)
 
-  pub all_quiet : (f : Fill) → f ≡ s.fill → (xs : Switches) → xs ≡ s.switches → (ds : Domains) → ds ≡ s.domains → (o o₁ o₂ : Out) (b : ℕ) (report : Bytes) (r : Warned)
+  pub all_quiet : (f : Fill) → f ≡ s.fill → (xs : Few Switch) → xs ≡ s.switches → (ds : Few Domain) → ds ≡ s.domains → (o o₁ o₂ : Out) (b : ℕ) (report : Bytes) (r : Warned)
       → o₁ ≡ emit o (each warning_line (map (warning_text (files ++ area)) (warnings_in (rows_in nums f.rows))))
       → switches.Told (2 ^ 54) o₁ f.warnings (switches.remarks (scope_setting (parts path from)) (map (switch_in (files ++ area) nums) (take xs.n xs.all))) o₂ b
       → domains.Told 2080 o₂ b (flat_map (λ (d : Domain). domains.remarks (modules job nums count) (module_row job nums k) (domain_of (files ++ area) d)) (take ds.n ds.all)) (report ▸ r.at) r.count
@@ -151,7 +151,7 @@ module _ (job : Bytes) (nums : List ℕ) (count k : ℕ) (files area path : Byte
   remarked_all n o report r h t st few q = h t st few
 
   -- ---- the end of the report
-  pub all_tailed : (n : ℕ) (f : Fill) → f ≡ s.fill → (xs : Shifters) → xs ≡ s.shifters → (ts : Tables) → ts ≡ s.tables → (o o₁ o₂ : Out) (report : Bytes) (r : Warned)
+  pub all_tailed : (n : ℕ) (f : Fill) → f ≡ s.fill → (xs : Few Shifter) → xs ≡ s.shifters → (ts : Few Table) → ts ≡ s.tables → (o o₁ o₂ : Out) (report : Bytes) (r : Warned)
       → o₁ ≡ emit o (each shifter_line (map (shifter_of (files ++ area)) (take xs.n xs.all)))
       → o₂ ≡ emit o₁ (each table_line (numbered (table_of (files ++ area) (rows_in nums f.rows)) 0 (take ts.n ts.all)))
       → AllRemarked n job nums count k files area path from top s o₂ report r
@@ -159,12 +159,12 @@ module _ (job : Bytes) (nums : List ℕ) (count k : ℕ) (files area path : Byte
   all_tailed n f ef xs ex ts et o o₁ o₂ report r e₁ e₂ h t st few q =
       let w₁ : o₁ ≡ emit o (each shifter_line t.records.shifters) =
       e₁
-      ∙ ap (λ (x : Shifters). emit o (each shifter_line (map (shifter_of (files ++ area)) (take x.n x.all)))) ex
+      ∙ ap (λ (x : Few Shifter). emit o (each shifter_line (map (shifter_of (files ++ area)) (take x.n x.all)))) ex
       ∙ ap (emit o) (shifters_seen (files ++ area) (store_of nums s) s t.records.log t st.records_are) in
       let w₂ : o₂ ≡ before_warnings t o =
       e₂
       ∙ ap (λ (x : Fill). emit o₁ (each table_line (numbered (table_of (files ++ area) (rows_in nums x.rows)) 0 (take ts.n ts.all)))) ef
-      ∙ ap (λ (x : Tables). emit o₁ (each table_line (numbered (table_of (files ++ area) (rows_in nums s.fill.rows)) 0 (take x.n x.all)))) et
+      ∙ ap (λ (x : Few Table). emit o₁ (each table_line (numbered (table_of (files ++ area) (rows_in nums s.fill.rows)) 0 (take x.n x.all)))) et
       ∙ ap (emit o₁) (tables_seen (files ++ area) nums s t.records.log t st.records_are)
       ∙ ap (λ (x : Out). emit x (each table_line t.records.tables)) w₁ in
       subst (λ (x : Out). Warns t x report r) w₂ (h t st few q)

@@ -1,4 +1,6 @@
 -- What the domains ask: laws as the needs of `walked` and its parts ask them. Assumes nothing.
+use Rattle.store.specs.declared.state.Few.{Few}
+use Rattle.store.specs.declared.state.Retention.{Retention}
 use Prim.Native.Nat.{ℕ, ◌+◌, ◌≤◌}
 use native.Mathlib.Omega.{arith}
 use mathlib.Core.Path.{◌≡◌, ap, ◌∙◌}
@@ -6,7 +8,6 @@ use mathlib.Core.List.{List, ◌++◌}
 use lib.ListN.{length}
 use Rattle.text.specs.Ascii.{Bytes}
 use Rattle.store.specs.declared.state.State.{State}
-use Rattle.store.specs.declared.state.Retentions.{Retentions}
 use Rattle.modtable.specs.Table.{names_at, Tabled}
 use Rattle.modtable.specs.Making.{MakeGiven}
 use Rattle.alike.specs.Ruled.{Ruled}
@@ -29,7 +30,7 @@ module _ (job : Bytes) (nums : List ℕ) (count k : ℕ) (files area path : Byte
   pub make_many : (inputs table : List ℕ) → 384 ≤ length inputs → 73984 ≤ length table → MakeGiven job nums count inputs table
   make_many inputs table hi ht = make_asked inputs table hi (omega (arith, a.few, ht))
 
-  module _ (rs : Retentions) (e : rs ≡ s.retentions) where
+  module _ (rs : Few Retention) (e : rs ≡ s.retentions) where
     pub retained_asked : (kept : List ℕ) → 5120 ≤ length kept → OfRetentions files area rs kept
     retained_asked kept h = rw e (orders_retentions files area nums s a.orders kept h)
 

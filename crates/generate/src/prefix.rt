@@ -2,7 +2,7 @@
 ghost use Rattle.std.specs.Prelude.{◌≤◌, length};
 ghost use Rattle.generate.specs.Steps.{Prefixed};
 
-use scope::{PartAt, next_part};
+use scope::next_part;
 
 // The bytes of the scope's path and a dot; nothing at the top.
 pub fn prefix(path: &[u8], from: usize) -> usize
@@ -11,13 +11,9 @@ pub fn prefix(path: &[u8], from: usize) -> usize
 {
     let mut n = 0;
     let mut i = from;
-    loop {
-        match next_part(path, i) {
-            PartAt::End => return n,
-            PartAt::Part { at, len, next } => {
-                n += text::part::part(path, at, len).len() + 1;
-                i = next;
-            }
-        }
+    while let Some(part) = next_part(path, i) {
+        n += text::part::part(path, part.at, part.len).len() + 1;
+        i = part.next;
     }
+    n
 }

@@ -1,11 +1,18 @@
 // The end of the report: shifters, tables, warnings.
-ghost use Rattle.std.specs.Prelude.{◌≤◌, length};
-ghost use Rattle.out.specs.Emit.{◌▸◌};
+ghost use Rattle.std.specs.Prelude.{◌≡◌, ◌≤◌, ◌++◌, length, map, take};
+ghost use Rattle.out.specs.Emit.{◌▸◌, emit};
+ghost use Rattle.out.specs.Text.{shown, SameRoom};
+ghost use Rattle.out.specs.Items.{each};
+ghost use Rattle.texts.specs.Texts.{shifter_line, table_line};
+ghost use Rattle.store.specs.View.{shifter_of, table_of, numbered};
+ghost use Rattle.store.specs.Rows.{rows_in};
+ghost use Rattle.setting.specs.Orders.{Orders};
 ghost use Rattle.generate.specs.Generates.{Asks};
 ghost use Rattle.generate.specs.Steps.{QuietWarned, AllWarned, AllRemarked, AllTailed};
 
 use super::isolate::isolate;
 use domainwarnings::{Warned, domain_warnings};
+use out::emit::Text;
 use reportlines::{read_warnings, shifter_lines};
 use store::state::State;
 use switchwarnings::switch_warnings;
@@ -33,7 +40,9 @@ fn warnings_by<'a>(
     let fill = s.fill;
     let switches = s.switches;
     let domains = s.domains;
-    let a = read_warnings(report, at, files, area, nums, fill.rows);
+    let mut to = Text::over(report, at);
+    read_warnings(&mut to, files, area, nums, fill.rows);
+    let a = to.end();
     let o = switchwarnings::Warned {
         at: a,
         count: fill.warnings,
@@ -76,7 +85,9 @@ fn quiet_warnings<'a>(
     let fill = s.fill;
     let switches = s.switches;
     let domains = s.domains;
-    let a = read_warnings(report, at, files, area, nums, fill.rows);
+    let mut to = Text::over(report, at);
+    read_warnings(&mut to, files, area, nums, fill.rows);
+    let a = to.end();
     let o = switchwarnings::Warned {
         at: a,
         count: fill.warnings,
@@ -119,6 +130,16 @@ fn warnings<'a>(
     )
 }
 
+// Writes the lines of shifters and tables.
+fn listed<'a>(to: &mut Text, files: &'a [u8], area: &'a [u8], nums: &[u32], s: State)
+    requires { Orders files.now area.now nums.now s }
+    ensures same_room { SameRoom to.old to.new }
+    ensures lines { shown to.new ≡ emit (emit (shown to.old) (each shifter_line (map (shifter_of (files.now ++ area.now)) (take s.shifters.n s.shifters.all)))) (each table_line (numbered (table_of (files.now ++ area.now) (rows_in nums.now s.fill.rows)) 0 (take s.tables.n s.tables.all))) }
+{
+    shifter_lines(to, files, area, s.shifters);
+    table_lines(to, files, area, nums, s.fill.rows, s.tables)
+}
+
 // The lines of shifters and tables and the warnings, behind `at`; isolation has `remarks` warnings.
 pub fn tail<'a>(
     report: &mut [u8],
@@ -138,11 +159,9 @@ pub fn tail<'a>(
     requires { Asks job.now nums.now count k files.now area.now path.now s }
     ensures { AllTailed remarks job.now nums.now count k files.now area.now path.now from top.now s (report.old ▸ at) report.new result }
 {
-    let fill = s.fill;
-    let shifters = s.shifters;
-    let tables = s.tables;
-    let a = shifter_lines(report, at, files, area, shifters);
-    let b = table_lines(report, a, files, area, nums, fill.rows, tables);
+    let mut to = Text::over(report, at);
+    listed(&mut to, files, area, nums, s);
+    let b = to.end();
     warnings(
         report, b, job, nums, count, k, files, area, path, from, top, s, remarks,
     )

@@ -1,4 +1,5 @@
 -- Laws: the order of the state when the memory that is known grows, and by a smaller measure. Assumes nothing.
+use Rattle.std.specs.Prelude.{Option, Some, None}
 use Rattle.std.specs.Prelude.{ℕ, ◌≤◌, max, Bool, true, false, cond, List, eqb}
 use Rattle.std.proofs.Common.{arith, le_trans}
 use Rattle.spans.specs.Reach.{reach_end}
@@ -7,11 +8,7 @@ use Rattle.store.specs.Strings.{span_of, stored_of}
 use Rattle.store.specs.View.{Store}
 use Rattle.store.specs.Order.{Within, none_left, one_more, end_of, of_maybe, of_below, of_maybe_below, of_domain, of_port, of_switch, of_isolation, of_retention, of_shifter, of_port_state, of_table, of_row, of_span, Bounded}
 use Rattle.store.specs.declared.stored.Stored.{Stored}
-use Rattle.store.specs.declared.stored.Maybe.{Maybe}
-use Rattle.store.specs.declared.stored.Maybe.TheVariants.{Not, Given}
 use Rattle.store.specs.declared.stored.Below.{Below}
-use Rattle.store.specs.declared.stored.MaybeBelow.{MaybeBelow}
-use Rattle.store.specs.declared.stored.MaybeBelow.TheVariants.{Not as Not-below, Given as Given-below}
 use Rattle.store.specs.declared.row.Row.{Row}
 use Rattle.store.specs.declared.state.State.{State}
 
@@ -23,16 +20,16 @@ both_le : {a b c d : ℕ} → a ≤ c → b ≤ d → max a b ≤ max c d
 both_le h k = omega arith
 
 module _ (e f : Stored → ℕ) (h : (s : Stored) → f s ≤ e s) where
-  maybe_le : (x : Maybe) → of_maybe f x ≤ of_maybe e x
-  maybe_le Not = omega arith
-  maybe_le (Given s) = h s
+  maybe_le : (x : Option Stored) → of_maybe f x ≤ of_maybe e x
+  maybe_le None = omega arith
+  maybe_le (Some s) = h s
 
   below_le : (b : Below) → of_below f b ≤ of_below e b
   below_le b = both_le (h b.scope) (h b.word)
 
-  maybe_below_le : (x : MaybeBelow) → of_maybe_below f x ≤ of_maybe_below e x
-  maybe_below_le Not-below = omega arith
-  maybe_below_le (Given-below b) = below_le b
+  maybe_below_le : (x : Option Below) → of_maybe_below f x ≤ of_maybe_below e x
+  maybe_below_le None = omega arith
+  maybe_below_le (Some b) = below_le b
 
   row_le : (r : Row) → of_row f r ≤ of_row e r
   row_le r = both_le (go (eqb r.kind 2)) (both_le (h r.name) (h r.value))

@@ -11,11 +11,9 @@ pub fn begun(s: State, e: usize) -> State
     requires { (s.count.commands + 1 < 2 ^ 64) × ((s.fill.end ≤ e) × (s.count.substituted + (e - s.fill.end) < 2 ^ 64)) }
     ensures { result ≡ begun_at s e }
 {
-    let commands = s.count.commands + 1;
-    let substituted = s.count.substituted + (e - s.fill.end);
     let mut u = s;
-    u.count.commands = commands;
-    u.count.substituted = substituted;
+    u.count.commands += 1;
+    u.count.substituted += e - s.fill.end;
     u.fill.end = e;
     u
 }

@@ -4,7 +4,7 @@ use native.Mathlib.Omega.{arith}
 use mathlib.Core.Path.{◌≡◌, refl, sym, ap, ◌∙◌}
 use mathlib.Core.Bool.{Bool, true, false, cond}
 use mathlib.Core.List.{List, [], ◌∷◌, ◌++◌, flat_map}
-use mathlib.Core.Option.{Option, none, some}
+use Rattle.std.specs.Prelude.{Option, None, Some}
 use lib.Dec.{ltb}
 use lib.ListN.{length, length-map}
 use borrow.Author.Rules.{rules}
@@ -27,8 +27,6 @@ use Rattle.model.specs.Records.{Domain as Domainʳ, Isolation as Isolationʳ}
 use Rattle.store.specs.Strings.{string, span_of, maybe_of}
 use Rattle.store.specs.View.{list_below, domain_of, isolation_of}
 use Rattle.store.specs.declared.stored.Stored.{Stored}
-use Rattle.store.specs.declared.stored.Maybe.{Maybe}
-use Rattle.store.specs.declared.stored.Maybe.TheVariants.{Not, Given}
 use Rattle.store.specs.declared.state.Domain.{Domain}
 use Rattle.store.specs.declared.state.Isolation.{Isolation}
 use Rattle.texts.specs.Isolation.{applies_to, is_outputs}
@@ -104,12 +102,12 @@ unfolding isolation_of
 applies_is mem x = go (maybe_of mem x.applies)
   where
     go : (o : Option Bytes) → or_else o (ascii "outputs") ≡ on_some o (ascii "outputs") λ a. a
-    go none = refl
-    go (some a) = refl
+    go None = refl
+    go (Some a) = refl
 
-written_is : (mem : Bytes) (m : Maybe) → is_outputs (or_else (maybe_of mem m) (ascii "outputs")) ≡ false → name_of mem (given_name m) ≡ or_else (maybe_of mem m) (ascii "outputs")
-written_is mem Not h = let e : same (ascii "outputs") (ascii "outputs") ≡ true = same_refl (ascii "outputs") in absurd (no_true (sym (rw e at h)))
-written_is mem (Given s) h = stored_is mem s
+written_is : (mem : Bytes) (m : Option Stored) → is_outputs (or_else (maybe_of mem m) (ascii "outputs")) ≡ false → name_of mem (given_name m) ≡ or_else (maybe_of mem m) (ascii "outputs")
+written_is mem None h = let e : same (ascii "outputs") (ascii "outputs") ≡ true = same_refl (ascii "outputs") in absurd (no_true (sym (rw e at h)))
+written_is mem (Some s) h = stored_is mem s
 
 module _ (files area : Bytes) (x : Isolation) (d : Domain) (o : OfStrategy files area x d) (v : Span) (ev : v ≡ span_of x.elements) (b : Bool) (has : Held (length files) v → b ≡ ltb 0 (length (list (bytes (files ++ area) v)))) where
   abbrev mem : Bytes

@@ -1,5 +1,7 @@
 -- Laws: the index as the reading leaves it, the records in the whole area, and what generation may ask of them.
 -- Assumes nothing.
+use Rattle.std.specs.Prelude.{Option, Some, None, Result, Ok, Err}
+use Rattle.store.specs.declared.stored.Stored.{Stored}
 use Rattle.std.specs.Prelude.{ℕ, ◌+◌, ◌*◌, ◌≤◌, ◌<◌, ◌≡◌, refl, Bool, true, false, List, [], ◌++◌, eqb, length, take, get_or}
 use Rattle.std.proofs.Common.{arith, sym, ◌∙◌, length-append, get_or-take, eqb-true}
 use Rattle.std.proofs.Math.Path.{ap}
@@ -18,8 +20,6 @@ use Rattle.store.specs.Rows.{store_of}
 use Rattle.store.specs.Strings.{span_of}
 use Rattle.store.specs.View.{model_of}
 use Rattle.store.specs.declared.state.State.{State}
-use Rattle.store.specs.declared.stored.Maybe.{Maybe}
-use Rattle.store.specs.declared.stored.Maybe.TheVariants.{Not, Given}
 use Rattle.made.specs.Made.{reach_of}
 use Rattle.readfacts.specs.Few.{Few}
 use Rattle.readfacts.specs.Kept.{reading_few, few_more}
@@ -27,8 +27,8 @@ use Rattle.held.specs.Held.{model_at, counted_of, reading_of, log_of as log_read
 use Rattle.held.specs.Grows.{bounded_more}
 use Rattle.held.specs.Laws.{end_low, whole_model}
 use Rattle.job.specs.Reader.{JobRead}
-use Rattle.job.specs.declared.Answer.{Answer}
-use Rattle.job.specs.declared.Answer.TheVariants as answer
+use Rattle.joblines.specs.Forms.{number_of}
+use Rattle.job.specs.declared.Refused.{Refused}
 use Rattle.reader.proofs.AcceptedStarts.{accepted_starts}
 use Rattle.reader.specs.Whole.{reading_at, Starts, WasRead}
 use Rattle.scopes.specs.declared.go.Out.{Out}
@@ -94,9 +94,9 @@ module _ (files area nums : List ℕ) (s : State) (v : Held files area nums 0 s)
   pub held_top : Whole (length files) s.head.top
   held_top = go s.head.top v.bounded.top
     where
-      go : (t : Maybe) → of_maybe (reach_of (length files)) t ≤ length files + s.fill.end → Whole (length files) t
-      go Not h = tt
-      go (Given x) h = held_by (length files) (length files + s.fill.end) (span_of x) (omega (arith, end_low files area nums s v, v.lends.small)) h
+      go : (t : Option Stored) → of_maybe (reach_of (length files)) t ≤ length files + s.fill.end → Whole (length files) t
+      go None h = tt
+      go (Some x) h = held_by (length files) (length files + s.fill.end) (span_of x) (omega (arith, end_low files area nums s v, v.lends.small)) h
 
 -- ---- a job that was refused
 pub stopped_read : (job files area : Bytes) (nums : List ℕ) (log₀ log : Bytes) (x n : ℕ) (r : Records) → refused x n ≡ parse job → Stops x n r → RecordsRead job files area nums log₀ log r
@@ -162,11 +162,11 @@ module _ (job : Bytes) (nums nums' : List ℕ) (head : Header) (p : accepted (jo
       }
 
 -- ---- by the job reader's answer
-module _ (job : Bytes) (nums₀ nums : List ℕ) (a : Answer) (jr : JobRead job nums₀ nums a) where
-  pub halted : (x n : ℕ) → a ≡ answer.Refused x n → (y : ℕ) → y ≡ x → (r : Records) → Stops y n r → (files area log₀ log : Bytes) → RecordsRead job files area nums log₀ log r
-  halted x n e y ey r h files area log₀ log = stopped_read job files area nums log₀ log y n r (rw ey (rw e at jr.says)) h
+module _ (job : Bytes) (nums₀ nums : List ℕ) (a : Result Header Refused) (jr : JobRead job nums₀ nums a) where
+  pub halted : (x : Refused) → a ≡ Err x → (k : ℕ) → k ≡ number_of x.refusal → (y : ℕ) → y ≡ k → (r : Records) → Stops y x.line r → (files area log₀ log : Bytes) → RecordsRead job files area nums log₀ log r
+  halted x e k ek y ey r h files area log₀ log = stopped_read job files area nums log₀ log y x.line r (rw (ey, ek) (rw e at jr.says)) h
 
-  module _ (head : Header) (e : a ≡ answer.Taken head) where
+  module _ (head : Header) (e : a ≡ Ok head) where
     taken_is : accepted (job_of job nums head) ≡ parse job
     taken_is = rw e at jr.says
 

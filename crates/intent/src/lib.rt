@@ -4,7 +4,6 @@
 ghost use Rattle.std.specs.Prelude.{◌≡◌, ◌≤◌, length};
 ghost use Rattle.intent.specs.Intent.{Stops, records_after, RecordsRead};
 
-use job::Answer;
 use jobindex::{Header, Span};
 use scopes::go::Out;
 use store::state::State;
@@ -78,10 +77,9 @@ pub fn read_intent(
     requires { (length files.old ≡ 65536) × ((length area.old ≡ 65536) × (16384 ≤ length nums.old)) }
     ensures { RecordsRead job.now files.new area.new nums.new log.old log.new result }
 {
-    let a = job::read_job(job, &mut nums[..]);
-    match a {
-        Answer::Refused { number, line } => refused(wide(number), line),
-        Answer::Taken { head } => {
+    match job::read_job(job, &mut nums[..]) {
+        Err(r) => refused(wide(r.refusal.number()), r.line),
+        Ok(head) => {
             let o = files::whole::read(job, files, area, nums, log, head.files, head.startfile);
             after_reading(head, o)
         }

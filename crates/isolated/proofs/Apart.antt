@@ -1,4 +1,5 @@
 -- Ports told apart: by the last byte of their names, or by their elements. Each law is stated as a need asks it. Assumes nothing.
+use Rattle.std.specs.Prelude.{Option, Some, None}
 use Prim.Native.Nat.{ℕ, suc, ◌+◌, ◌-◌, ◌*◌}
 use native.Mathlib.Omega.{arith}
 use mathlib.Core.Path.{◌≡◌, refl, sym, ap, ap₂, ◌∙◌}
@@ -14,8 +15,6 @@ use Rattle.text.specs.Sames.{same_eq, same_of, same_front, both, no_true}
 use Rattle.spans.specs.Span.{bytes, got_of}
 use Rattle.spans.specs.Frame.{shorter}
 use Rattle.spans.specs.declared.span.Span.{Span}
-use Rattle.spans.specs.declared.span.Got.{Got}
-use Rattle.spans.specs.declared.span.Got.TheVariants.{Yes}
 use Rattle.tcl.specs.Rewrite.{rewrite}
 use Rattle.tcl.specs.Join.{joint_by, joined_by, join}
 use Rattle.tcl.specs.Substitution.{escape, unescape}
@@ -80,7 +79,14 @@ is_apart (x ∷ u) (y ∷ v) h g z =
     let b : suc (length v) - 1 ≡ length v = omega arith in
     record { is = λ _. λ p q. ends_differ x y u v p q (λ k. z (rw (a, b) (last_get x u ∙ k ∙ sym (last_get y v)))) }
 
-pub ruleset aparts = (rules, not_apart, is_apart)
+pub ends_apart : (u v : Bytes) → (length u ≡ 0 → ⊥) → (length v ≡ 0 → ⊥) → Apart u v (not (eqb (get_or u (length u - 1) 0) (get_or v (length v - 1) 0)))
+ends_apart u v h g = go (eqb (get_or u (length u - 1) 0) (get_or v (length v - 1) 0)) refl
+  where
+    go : (b : Bool) → eqb (get_or u (length u - 1) 0) (get_or v (length v - 1) 0) ≡ b → Apart u v (not b)
+    go true e = not_apart u v
+    go false e = is_apart u v h g (λ z. no_true (sym e ∙ eq-eqb _ _ z))
+
+pub ruleset aparts = (rules, not_apart, ends_apart)
 
 -- ---- words: a byte that is no backslash is read as it stands in every form
 
@@ -116,7 +122,7 @@ neither true b e = absurd (no_true (sym e))
 neither false true e = absurd (no_true (sym e))
 neither false false e = (refl, refl)
 
-module _ (mem : Bytes) (s t x y : Span) (inv : Reads mem s t x y) (p q : Got) (e : bytes mem x ≡ got_of mem p) (f : bytes mem y ≡ got_of mem q) (a b : ℕ) (u v : Span) (h : p ≡ Yes a u) (g : q ≡ Yes b v) (plain : eqb a (byte "\\") || eqb b (byte "\\") ≡ false) where
+module _ (mem : Bytes) (s t x y : Span) (inv : Reads mem s t x y) (p q : Option (ℕ × Span)) (e : bytes mem x ≡ got_of mem p) (f : bytes mem y ≡ got_of mem q) (a b : ℕ) (u v : Span) (h : p ≡ Some (a, u)) (g : q ≡ Some (b, v)) (plain : eqb a (byte "\\") || eqb b (byte "\\") ≡ false) where
   left_is : (k : ℕ) → entry_of k (bytes mem x) ≡ a ∷ entry_of k (bytes mem u)
   left_is k = ap (λ (l : Bytes). entry_of k l) (e ∙ rw h) ∙ entry_plain k a (bytes mem u) (neither (eqb a (byte "\\")) (eqb b (byte "\\")) plain).0
 

@@ -10,7 +10,7 @@ ghost use Rattle.isolated.specs.Table.{parts_row, counts_row, port_row, names_pu
 use names::name::Name;
 use nametable::{put_row, row};
 use refs::{Ref, no_name};
-use spans::span::{Got, Span, first};
+use spans::span::{Span, first};
 use text::part::{part, place};
 
 // A port that a strategy keeps. The port is the element, a slash where `sep` is set, and `len` bytes of the job from `at` on; the parent's net is the first
@@ -62,6 +62,7 @@ fn counts_row(x: Isolated) -> Name
 }
 
 // Puts the names of a port into row k.
+#[tactic(auto, using(crate::proofs::Rows::puts))]
 fn put_names(ports: &mut [u32], k: usize, x: Isolated)
     requires { (k < 256) × ((20 * k + 20 ≤ length ports.old) × Fits x) }
     ensures { ports.new ≡ names_put ports.old k x }
@@ -73,6 +74,7 @@ fn put_names(ports: &mut [u32], k: usize, x: Isolated)
 }
 
 // Puts its numbers.
+#[tactic(auto, using(crate::proofs::Rows::puts))]
 fn put_numbers(ports: &mut [u32], k: usize, x: Isolated)
     requires { (k < 256) × ((20 * k + 20 ≤ length ports.old) × Fits x) }
     ensures { ports.new ≡ numbers_put ports.old k x }
@@ -84,6 +86,7 @@ fn put_numbers(ports: &mut [u32], k: usize, x: Isolated)
 }
 
 // Puts a port into row k.
+#[tactic(auto, using(crate::proofs::Rows::puts))]
 pub fn put(ports: &mut [u32], k: usize, x: Isolated)
     requires { (k < 256) × ((20 * k + 20 ≤ length ports.old) × Fits x) }
     ensures { ports.new ≡ port_put ports.old k x }
@@ -93,6 +96,7 @@ pub fn put(ports: &mut [u32], k: usize, x: Isolated)
 }
 
 // The port of row k.
+#[tactic(auto, using(crate::proofs::Rows::rows))]
 pub fn port_at(ports: &[u32], k: usize) -> Isolated
     requires { k < 256 }
     ensures { result ≡ port_row ports.now k }
@@ -118,6 +122,7 @@ pub fn port_at(ports: &[u32], k: usize) -> Isolated
 }
 
 // The strategy of the port of row k.
+#[tactic(auto, using(crate::proofs::Apart::reads))]
 pub fn strategy_at(ports: &[u32], k: usize) -> usize
     requires { k < 256 }
     ensures { result ≡ (port_row ports.now k).strategy }
@@ -126,6 +131,7 @@ pub fn strategy_at(ports: &[u32], k: usize) -> usize
 }
 
 // The part of the job that the port of row k ends with.
+#[tactic(auto, using(crate::proofs::Apart::reads))]
 fn part_at<'a>(job: &'a [u8], ports: &[u32], k: usize) -> &'a [u8]
     requires { k < 256 }
     ensures { result.now ≡ take (port_row ports.now k).len (drop (port_row ports.now k).at job.now) }
@@ -135,6 +141,7 @@ fn part_at<'a>(job: &'a [u8], ports: &[u32], k: usize) -> &'a [u8]
 }
 
 // Whether both have a last byte and these differ.
+#[tactic(auto, using(crate::proofs::Apart::aparts))]
 fn ends_apart(u: &[u8], v: &[u8]) -> bool
     ensures { Apart u.now v.now result }
 {
@@ -144,38 +151,30 @@ fn ends_apart(u: &[u8], v: &[u8]) -> bool
     if v.len() == 0 {
         return false;
     }
-    let i = u.len() - 1;
-    let j = v.len() - 1;
-    if u[i] == v[j] {
-        return false;
-    }
-    true
+    u[u.len() - 1] != v[v.len() - 1]
 }
 
 // Whether two words, read in any form, surely differ: by a byte before which no backslash stands.
+#[tactic(auto, using(crate::proofs::Apart::words))]
 fn words_apart(files: &[u8], area: &[u8], s: Span, t: Span) -> bool
     ensures { WordsApart (files.now ++ area.now) s t result }
 {
     let mut x = s;
     let mut y = t;
-    loop {
-        match first(files, area, x) {
-            Got::No => return false,
-            Got::Yes(p, u) => match first(files, area, y) {
-                Got::No => return false,
-                Got::Yes(q, v) => {
-                    if (p == b'\\') | (q == b'\\') {
-                        return false;
-                    }
-                    if p != q {
-                        return true;
-                    }
-                    x = u;
-                    y = v;
-                }
-            },
+    while let Some((p, u)) = first(files, area, x) {
+        let Some((q, v)) = first(files, area, y) else {
+            return false;
+        };
+        if (p == b'\\') | (q == b'\\') {
+            return false;
         }
+        if p != q {
+            return true;
+        }
+        x = u;
+        y = v;
     }
+    false
 }
 
 // Whether two names have the same scope, by its place, and a slash behind it in both or in none.
@@ -188,6 +187,7 @@ fn one_scope(a: Name, b: Name) -> bool
 }
 
 // Whether two names in one scope surely differ, whatever stands behind them.
+#[tactic(auto, using(crate::proofs::Apart::scopes))]
 fn names_apart(files: &[u8], area: &[u8], a: Name, b: Name) -> bool
     ensures { NamesApart (files.now ++ area.now) a b result }
 {
@@ -200,6 +200,7 @@ fn names_apart(files: &[u8], area: &[u8], a: Name, b: Name) -> bool
 }
 
 // Whether the port of row k surely is another one: by the last byte of its name, or by its element.
+#[tactic(auto, using(crate::proofs::Apart::others))]
 pub fn is_other(job: &[u8], files: &[u8], area: &[u8], ports: &[u32], k: usize, x: Isolated) -> bool
     requires { k < 256 }
     ensures { Other job.now (files.now ++ area.now) x (port_row ports.now k) result }
@@ -215,6 +216,7 @@ pub fn is_other(job: &[u8], files: &[u8], area: &[u8], ports: &[u32], k: usize, 
 }
 
 // The port as a text: its instance and its name.
+#[tactic(auto, using(crate::proofs::Rows::rows))]
 pub fn port(x: Isolated) -> Ref
     ensures { result ≡ port_ref x }
 {

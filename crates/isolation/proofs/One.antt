@@ -1,10 +1,12 @@
 -- One strategy: each law is stated as a need asks it. Assumes nothing.
+use Rattle.store.specs.declared.state.Few.{Few}
+use Rattle.std.specs.Prelude.{Option}
 use Prim.Native.Nat.{ℕ, suc, ◌+◌, ◌≤◌, ◌<◌}
 use native.Mathlib.Omega.{arith}
 use mathlib.Core.Path.{◌≡◌, refl, sym, ap, ◌∙◌}
 use mathlib.Core.Bool.{Bool, true, false, cond, not}
 use mathlib.Core.List.{List, [], ◌∷◌, ◌++◌, map}
-use mathlib.Core.Option.{none, some}
+use Rattle.std.specs.Prelude.{None, Some}
 use lib.Dec.{ltb, eqb}
 use lib.ListN.{length, take, get_or}
 use borrow.Author.Rules.{rules}
@@ -28,10 +30,7 @@ use Rattle.store.specs.Order.{of_domain}
 use Rattle.store.specs.Tables.{table_get, table_length, within_get}
 use Rattle.store.specs.View.{domain_of, isolation_of}
 use Rattle.store.specs.declared.stored.Stored.{Stored}
-use Rattle.store.specs.declared.stored.Maybe.{Maybe}
-use Rattle.store.specs.declared.stored.Maybe.TheVariants.{Not, Given}
 use Rattle.store.specs.declared.state.Domain.{Domain}
-use Rattle.store.specs.declared.state.Domains.{Domains}
 use Rattle.store.specs.declared.state.Isolation.{Isolation}
 use Rattle.made.specs.Firsts.{first_map}
 use Rattle.made.specs.Made.{reach_of}
@@ -55,21 +54,21 @@ use Rattle.isolation.specs.Turns.{turn_gain, OfOne}
 -- ---- the first that passes a test, by its place
 
 module _ {A : Type 0} (t : A → Bool) where
-  first_there : (z : A) (xs : List A) → first_at t xs < length xs → first t xs ≡ some (get_or xs (first_at t xs) z)
+  first_there : (z : A) (xs : List A) → first_at t xs < length xs → first t xs ≡ Some (get_or xs (first_at t xs) z)
   unfolding first_at first
   first_there z [] h = absurd (omega arith)
   first_there z (x ∷ xs) h = go (t x) refl (λ k. first_there z xs k)
     where
-      go : (b : Bool) → t x ≡ b → (first_at t xs < length xs → first t xs ≡ some (get_or xs (first_at t xs) z)) → first t (x ∷ xs) ≡ some (get_or (x ∷ xs) (first_at t (x ∷ xs)) z)
+      go : (b : Bool) → t x ≡ b → (first_at t xs < length xs → first t xs ≡ Some (get_or xs (first_at t xs) z)) → first t (x ∷ xs) ≡ Some (get_or (x ∷ xs) (first_at t (x ∷ xs)) z)
       go true e r = rw e
       go false e r = let k : suc (first_at t xs) < suc (length xs) = rw e at h in rw e (r (omega arith))
 
-  first_gone : (xs : List A) → length xs ≤ first_at t xs → first t xs ≡ none
+  first_gone : (xs : List A) → length xs ≤ first_at t xs → first t xs ≡ None
   unfolding first_at first
   first_gone [] h = refl
   first_gone (x ∷ xs) h = go (t x) refl (λ k. first_gone xs k)
     where
-      go : (b : Bool) → t x ≡ b → (length xs ≤ first_at t xs → first t xs ≡ none) → first t (x ∷ xs) ≡ none
+      go : (b : Bool) → t x ≡ b → (length xs ≤ first_at t xs → first t xs ≡ None) → first t (x ∷ xs) ≡ None
       go true e r = let k : suc (length xs) ≤ 0 = rw e at h in absurd (omega arith)
       go false e r = let k : suc (length xs) ≤ suc (first_at t xs) = rw e at h in rw e (r (omega arith))
 
@@ -79,7 +78,7 @@ domain_is : (mem : Bytes) (x : Isolation) → name_of mem (stored_name x.domain)
 unfolding isolation_of
 domain_is mem x = stored_is mem x.domain
 
-module _ (files area : Bytes) (x : Isolation) (xs : Domains) (o : OfOne files area x xs) where
+module _ (files area : Bytes) (x : Isolation) (xs : Few Domain) (o : OfOne files area x xs) where
   abbrev mem : Bytes
   mem = files ++ area
 
@@ -111,10 +110,10 @@ module _ (files area : Bytes) (x : Isolation) (xs : Domains) (o : OfOne files ar
     many : length ds ≡ xs.n
     many = table_length (domain_of mem) xs.all xs.n domains_long
 
-    none_named : xs.n ≤ i → named ds (isolation_of mem x).domain ≡ none
+    none_named : xs.n ≤ i → named ds (isolation_of mem x).domain ≡ None
     none_named h = first_gone (λ (d : Domainʳ). same d.name (isolation_of mem x).domain) ds (omega (arith, place, many))
 
-    one_named : (z : Domain) → i < xs.n → named ds (isolation_of mem x).domain ≡ some (domain_of mem (get_or xs.all i z))
+    one_named : (z : Domain) → i < xs.n → named ds (isolation_of mem x).domain ≡ Some (domain_of mem (get_or xs.all i z))
     one_named z h =
         first_there (λ (d : Domainʳ). same d.name (isolation_of mem x).domain) (domain_of mem z) ds (omega (arith, place, many))
         ∙ rw (place, table_get (domain_of mem) xs.all xs.n i z h)
@@ -134,24 +133,24 @@ module _ (files area : Bytes) (x : Isolation) (xs : Domains) (o : OfOne files ar
 
 -- ---- its signal and its clamp value
 
-clamp_given : (mem : Bytes) (m : Maybe) → is_clamp (lowered (or_else (maybe_of mem m) (ascii "0"))) ≡ false → lowered (name_of mem (given_name m)) ≡ lowered (or_else (maybe_of mem m) (ascii "0"))
-clamp_given mem Not h = let e : same (ascii "0") (ascii "0") ≡ true = same_refl (ascii "0") in absurd (no_true (sym (rw e at h)))
-clamp_given mem (Given s) h = ap lowered (stored_is mem s)
+clamp_given : (mem : Bytes) (m : Option Stored) → is_clamp (lowered (or_else (maybe_of mem m) (ascii "0"))) ≡ false → lowered (name_of mem (given_name m)) ≡ lowered (or_else (maybe_of mem m) (ascii "0"))
+clamp_given mem None h = let e : same (ascii "0") (ascii "0") ≡ true = same_refl (ascii "0") in absurd (no_true (sym (rw e at h)))
+clamp_given mem (Some s) h = ap lowered (stored_is mem s)
 
 module _ (job mem : Bytes) (warn : Bool) (c : Cover) (out : Bytes) (d : List Module) (m : Module) (ds : List Domainʳ) (number : ℕ) (x : Isolation) (r : Cover) (out' : Bytes) (ports : List ℕ) where
-  no_signal_by : x.signal ≡ Not → (l : List Kept) → remark_gain (no_signal (isolation_of mem x).name) l ≡ strategy_gain d m ds number (isolation_of mem x) l
+  no_signal_by : x.signal ≡ None → (l : List Kept) → remark_gain (no_signal (isolation_of mem x).name) l ≡ strategy_gain d m ds number (isolation_of mem x) l
   unfolding strategy_gain isolation_of
   no_signal_by h l = rw h
 
-  pub signal_none : (n : Name) → n ≡ stored_name x.name → x.signal ≡ Not → Ready c ports → Remarked warn (no_signal (name_of mem n)) c out r out'
+  pub signal_none : (n : Name) → n ≡ stored_name x.name → x.signal ≡ None → Ready c ports → Remarked warn (no_signal (name_of mem n)) c out r out'
       → Answer job mem warn c out (strategy_gain d m ds number (isolation_of mem x) (kept_in job mem ports c.ports)) r out' ports
   signal_none n en h ready a =
       let en' : name_of mem n ≡ (isolation_of mem x).name = ap (name_of mem) en ∙ name_is mem x in
       let a' : Remarked warn (no_signal (isolation_of mem x).name) c out r out' = rw en' at a in
       rw (no_signal_by h (kept_in job mem ports c.ports)) at (remark_answer job mem warn (no_signal (isolation_of mem x).name) c out ports r out' ready a')
 
-  module _ (w : Name) (s : Stored) (ew : w ≡ stored_name s) (es : x.signal ≡ Given s) where
-    has_signal : (isolation_of mem x).signal ≡ some (string mem s)
+  module _ (w : Name) (s : Stored) (ew : w ≡ stored_name s) (es : x.signal ≡ Some s) where
+    has_signal : (isolation_of mem x).signal ≡ Some (string mem s)
     unfolding isolation_of
     has_signal = rw es
 
@@ -195,7 +194,7 @@ chosen_other having has h = rw h
 
 pub ruleset choices = (rules, chosen_having, chosen_other)
 
-module _ (files area : Bytes) (x : Isolation) (xs : Domains) (o : OfOne files area x xs) (v : Span) (ev : v ≡ span_of x.elements) (b : Bool) (has : Held (length files) v → b ≡ ltb 0 (length (list (bytes (files ++ area) v)))) where
+module _ (files area : Bytes) (x : Isolation) (xs : Few Domain) (o : OfOne files area x xs) (v : Span) (ev : v ≡ span_of x.elements) (b : Bool) (has : Held (length files) v → b ≡ ltb 0 (length (list (bytes (files ++ area) v)))) where
   there : (es : List Bytes) (i : Isolationʳ) → i.elements ≡ es → ltb 0 (length es) ≡ has_elements i
   there [] i e = rw e
   there (y ∷ es) i e = rw e (lt-ltb 0 (length (y ∷ es)) (omega arith))

@@ -1,4 +1,6 @@
 -- Strategies one after the other, and the two rounds: each law is stated as a need asks it. Assumes nothing.
+use Rattle.store.specs.declared.state.Few.{Few}
+use Rattle.store.specs.declared.state.Domain.{Domain}
 use Prim.Native.Nat.{ℕ, ◌+◌, ◌-◌, ◌≤◌, ◌<◌}
 use native.Mathlib.Omega.{arith}
 use mathlib.Core.Path.{◌≡◌, refl, sym}
@@ -11,9 +13,7 @@ use Rattle.model.specs.Records.{Domain as Domainʳ, Isolation as Isolationʳ}
 use Rattle.store.specs.Order.{of_isolation}
 use Rattle.store.specs.Tables.{within_get}
 use Rattle.store.specs.View.{isolation_of}
-use Rattle.store.specs.declared.state.Domains.{Domains}
 use Rattle.store.specs.declared.state.Isolation.{Isolation}
-use Rattle.store.specs.declared.state.Isolations.{Isolations}
 use Rattle.made.specs.Made.{reach_of}
 use Rattle.setting.specs.Orders.{holds_few, holds_long, holds_at, holds_next, holds_end}
 use Rattle.isolated.specs.Table.{Kept, kept_in}
@@ -29,14 +29,14 @@ use Rattle.isolation.specs.Turns.{turn_gain, OfOne, round_none, round_more, roun
 
 -- ---- a round: the strategies from i on are left
 
-abbrev pub left_gain : Bytes → List Module → Module → List Domainʳ → Bool → Isolations → ℕ → List Kept → Gain
+abbrev pub left_gain : Bytes → List Module → Module → List Domainʳ → Bool → Few Isolation → ℕ → List Kept → Gain
 left_gain mem d m ds having t i = round_gain d m ds having i (map (isolation_of mem) (drop i (take t.n t.all)))
 
-pub record Rounds (job mem : Bytes) (warn : Bool) (c₀ : Cover) (out₀ : Bytes) (ports₀ : List ℕ) (d : List Module) (m : Module) (ds : List Domainʳ) (having : Bool) (t : Isolations) (c : Cover) (out : Bytes) (ports : List ℕ) (i : ℕ) : Type 0 where
+pub record Rounds (job mem : Bytes) (warn : Bool) (c₀ : Cover) (out₀ : Bytes) (ports₀ : List ℕ) (d : List Module) (m : Module) (ds : List Domainʳ) (having : Bool) (t : Few Isolation) (c : Cover) (out : Bytes) (ports : List ℕ) (i : ℕ) : Type 0 where
   pub before : i ≤ t.n
   pub turn : Turn job mem warn c₀ out₀ (round_gain d m ds having 0 (map (isolation_of mem) (take t.n t.all)) (kept_in job mem ports₀ c₀.ports)) c out ports (left_gain mem d m ds having t i)
 
-module _ (job files area : Bytes) (count k : ℕ) (t : Isolations) (xs : Domains) (o : OfIsolation job files area count k t xs) where
+module _ (job files area : Bytes) (count k : ℕ) (t : Few Isolation) (xs : Few Domain) (o : OfIsolation job files area count k t xs) where
   abbrev mem : Bytes
   mem = files ++ area
 
@@ -139,7 +139,7 @@ module _ (job mem : Bytes) (warn : Bool) (at : ℕ) (out₀ : Bytes) (ports₀ :
 
 -- ---- no strategies
 
-module _ (d : List Module) (m : Module) (ds : List Domainʳ) (mem : Bytes) (t : Isolations) (none : t.n ≡ 0) where
+module _ (d : List Module) (m : Module) (ds : List Domainʳ) (mem : Bytes) (t : Few Isolation) (none : t.n ≡ 0) where
   gain_none : (l : List Kept) → isolation_gain d m ds (map (isolation_of mem) (take t.n t.all)) l ≡ stay l
   unfolding isolation_gain round_gain
   gain_none l = rw none

@@ -1,4 +1,5 @@
 -- What isolation asks of the stored strategies and domains, and what it leaves by the definitions. Assumes nothing.
+use Rattle.store.specs.declared.state.Few.{Few}
 use Rattle.std.specs.Prelude.{ℕ, ◌+◌, ◌≤◌, ◌<◌, ◌^◌, min, ◌≡◌, Bool, true, false, cond, List, ◌++◌, map, length, take}
 use Rattle.text.specs.Ascii.{Bytes}
 use Rattle.out.specs.Emit.{Out, ◌▸◌, emit}
@@ -6,9 +7,7 @@ use Rattle.out.specs.Items.{each}
 use Rattle.store.specs.View.{domain_of, isolation_of}
 use Rattle.store.specs.Order.{Within, of_domain, of_isolation}
 use Rattle.store.specs.declared.state.Domain.{Domain}
-use Rattle.store.specs.declared.state.Domains.{Domains}
 use Rattle.store.specs.declared.state.Isolation.{Isolation}
-use Rattle.store.specs.declared.state.Isolations.{Isolations}
 use Rattle.made.specs.Made.{reach_of}
 use Rattle.setting.specs.Orders.{Holds}
 use Rattle.texts.specs.Setting.{Setting}
@@ -21,7 +20,7 @@ use Rattle.alike.specs.Ruled.{Ruled}
 use Rattle.keep.specs.declared.Cover.{Cover}
 
 -- what is asked: the scope's module is row k of `count`
-pub record OfIsolation (job files area : Bytes) (count k : ℕ) (t : Isolations) (xs : Domains) : Type 0 where
+pub record OfIsolation (job files area : Bytes) (count k : ℕ) (t : Few Isolation) (xs : Few Domain) : Type 0 where
   pub few : count ≤ 128
   pub row : k < count
   pub job_small : length job < 2 ^ 32
@@ -36,7 +35,7 @@ abbrev pub start_at : ℕ → Cover
 start_at at = record { over = false; ports = 0; warnings = 0; at = at }
 
 -- ---- what it leaves, for a setting: the isolated ports, the lines or the warnings; or more ports than are allowed
-pub record Isolated (t : Setting) (job mem : Bytes) (xs : Isolations) (warn : Bool) (o : Out) (out : Bytes) (ports : List ℕ) (r : Cover) : Type 0 where
+pub record Isolated (t : Setting) (job mem : Bytes) (xs : Few Isolation) (warn : Bool) (o : Out) (out : Bytes) (ports : List ℕ) (r : Cover) : Type 0 where
   pub over : r.over ≡ true → 256 < length (texts.isolation t).ports
   pub few : r.over ≡ false → length (texts.isolation t).ports ≤ 256
   pub ports_are : r.over ≡ false → map (shown t.scope t.top (strategy_at mem xs)) (kept_in job mem ports r.ports) ≡ (texts.isolation t).ports

@@ -1,9 +1,8 @@
 -- Laws: every port that is gained is of a strategy that is there, with a clamp value that is simulated. Assumes nothing.
-use Rattle.std.specs.Prelude.{ℕ, suc, ◌+◌, ◌≤◌, ◌<◌, ◌≡◌, refl, Bool, cond, length, get_or}
+use Rattle.std.specs.Prelude.{ℕ, suc, ◌+◌, ◌≤◌, ◌<◌, ◌≡◌, refl, Bool, cond, length, get_or, Option, None, Some}
 use Rattle.std.proofs.Common.{arith, lt-ltb}
 use Rattle.std.proofs.Math.Bool.{true, false}
 use mathlib.Core.List.{List, [], ◌∷◌, ◌++◌, flat_map}
-use Rattle.std.proofs.Math.Option.{Option, none, some}
 use Rattle.text.specs.Ascii.{Bytes}
 use Rattle.text.specs.Scan.{all}
 use Rattle.text.specs.Sames.{both}
@@ -34,8 +33,8 @@ module _ (f : ℕ → Isolation) (n : ℕ) (i : Isolation) where
       where
         go : (b : Bool) (o : Option Bytes) → all (is_ruled f) (cond b (stay l) (gain_from n name a.key l o)).rows ≡ true
         go true o = h
-        go false none = h
-        go false (some w) = all_more (is_ruled f) l (kept n a.key w) h (ok a.key w)
+        go false None = h
+        go false (Some w) = all_more (is_ruled f) l (kept n a.key w) h (ok a.key w)
 
     gains_ruled : (name : Bytes) (ps : List Aim) (l : List Kept) → all (is_ruled f) l ≡ true → all (is_ruled f) (gains n name ps l).rows ≡ true
     unfolding gains
@@ -55,13 +54,13 @@ module _ (f : ℕ → Isolation) (n : ℕ) (i : Isolation) where
     domain_ruled d m sig x (e ∷ es) l h = covered_ruled sig (flat_map (element_aims d m) (e ∷ es)) l h
 
     found_ruled : (d : List Module) (m : Module) (sig : Bytes) (l : List Kept) (o : Option Domain) → all (is_ruled f) l ≡ true → all (is_ruled f) (found_gain d m n i sig l o).rows ≡ true
-    found_ruled d m sig l none h = h
-    found_ruled d m sig l (some x) h = domain_ruled d m sig x i.elements l h
+    found_ruled d m sig l None h = h
+    found_ruled d m sig l (Some x) h = domain_ruled d m sig x i.elements l h
 
   module _ (e : f n ≡ i) (small : n < 32) (d : List Module) (m : Module) (xs : List Domain) where
     signal_ruled : (l : List Kept) (o : Option Bytes) → all (is_ruled f) l ≡ true → all (is_ruled f) (signal_gain d m xs n i l o).rows ≡ true
-    signal_ruled l none h = h
-    signal_ruled l (some sig) h = go (is_clamp (lowered i.clamp)) refl
+    signal_ruled l None h = h
+    signal_ruled l (Some sig) h = go (is_clamp (lowered i.clamp)) refl
       where
         go : (b : Bool) → is_clamp (lowered i.clamp) ≡ b → all (is_ruled f) (cond b (found_gain d m n i sig l (named xs i.domain)) (remark_gain (clamp_unknown i.name (lowered i.clamp)) l)).rows ≡ true
         go true q = found_ruled (λ key w. rw (lt-ltb n 32 small, e, q)) d m sig l (named xs i.domain) h

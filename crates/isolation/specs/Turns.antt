@@ -1,10 +1,10 @@
 -- One strategy after the other: what one comes to in a round, and what is asked of it. Laws: a round turn by turn; what is kept stays. Assumes nothing.
-use Rattle.std.specs.Prelude.{ℕ, ◌+◌, ◌≤◌, ◌≡◌, Bool, take}
+use Rattle.store.specs.declared.state.Few.{Few}
+use Rattle.std.specs.Prelude.{ℕ, ◌+◌, ◌≤◌, ◌≡◌, Bool, take, Option, None, Some}
 use native.Mathlib.Omega.{arith}
 use Rattle.std.proofs.Math.Path.{refl}
 use Rattle.std.proofs.Math.Bool.{true, false, cond}
 use mathlib.Core.List.{List, [], ◌∷◌, ◌++◌, flat_map}
-use Rattle.std.proofs.Math.Option.{Option, none, some}
 use Rattle.std.proofs.Math.ListN.{length}
 use Rattle.text.specs.Ascii.{Bytes}
 use Rattle.joblines.specs.Job.{Module}
@@ -12,7 +12,6 @@ use Rattle.model.specs.Records.{Domain as Domainʳ, Isolation as Isolationʳ}
 use Rattle.store.specs.View.{domain_of}
 use Rattle.store.specs.Order.{Within, of_domain}
 use Rattle.store.specs.declared.state.Domain.{Domain}
-use Rattle.store.specs.declared.state.Domains.{Domains}
 use Rattle.store.specs.declared.state.Isolation.{Isolation}
 use Rattle.made.specs.Made.{reach_of}
 use Rattle.setting.specs.Orders.{Holds}
@@ -29,7 +28,7 @@ unfoldable pub turn_gain : List Module → Module → List Domainʳ → Bool →
 turn_gain d m xs having n i l = cond (chosen having i) (strategy_gain d m xs n i l) (stay l)
 
 -- what is asked of a stored strategy, and of the domains
-pub record OfOne (files area : Bytes) (x : Isolation) (xs : Domains) : Type 0 where
+pub record OfOne (files area : Bytes) (x : Isolation) (xs : Few Domain) : Type 0 where
   pub own : OfOwn files area x
   pub domains : Holds (of_domain (reach_of (length files))) (length (files ++ area)) xs.n xs.all
   pub few : Within (λ (d : Domain). length (domain_of (files ++ area) d).elements) 65 (take xs.n xs.all)
@@ -66,13 +65,13 @@ module _ (d : List Module) (m : Module) where
   domain_grow n i sig x (e ∷ es) l = covered_grow n i sig (flat_map (element_aims d m) (e ∷ es)) l
 
   found_grow : (n : ℕ) (i : Isolationʳ) (sig : Bytes) (l : List Kept) (o : Option Domainʳ) → length l ≤ length (found_gain d m n i sig l o).rows
-  found_grow n i sig l none = omega arith
-  found_grow n i sig l (some x) = domain_grow n i sig x i.elements l
+  found_grow n i sig l None = omega arith
+  found_grow n i sig l (Some x) = domain_grow n i sig x i.elements l
 
   module _ (xs : List Domainʳ) where
     signal_grow : (n : ℕ) (i : Isolationʳ) (l : List Kept) (o : Option Bytes) → length l ≤ length (signal_gain d m xs n i l o).rows
-    signal_grow n i l none = omega arith
-    signal_grow n i l (some sig) = go (is_clamp (lowered i.clamp))
+    signal_grow n i l None = omega arith
+    signal_grow n i l (Some sig) = go (is_clamp (lowered i.clamp))
       where
         go : (b : Bool) → length l ≤ length (cond b (found_gain d m n i sig l (named xs i.domain)) (remark_gain (clamp_unknown i.name (lowered i.clamp)) l)).rows
         go true = found_grow n i sig l (named xs i.domain)

@@ -20,8 +20,8 @@ use keep::Cover;
 use lists::has_entries;
 use names::name::Name;
 use remarks::{clamp_unknown, no_signal, unknown_domain};
-use store::state::{Domains, Isolation, Isolations};
-use store::stored::{Maybe, span};
+use store::state::{Domain, Few, Isolation};
+use store::stored::span;
 use strategies::given;
 
 // A strategy with a signal and a clamp value.
@@ -34,7 +34,7 @@ fn with_clamp<'a>(
     k: usize,
     files: &'a [u8],
     area: &'a [u8],
-    domains: Domains,
+    domains: Few<Domain>,
     ports: &mut [u32],
     c: Cover,
     number: usize,
@@ -68,7 +68,7 @@ fn strategy<'a>(
     k: usize,
     files: &'a [u8],
     area: &'a [u8],
-    domains: Domains,
+    domains: Few<Domain>,
     ports: &mut [u32],
     c: Cover,
     number: usize,
@@ -80,7 +80,7 @@ fn strategy<'a>(
     let own = x.name;
     let name = stored(own);
     let control = x.signal;
-    let Maybe::Given(signal) = control else {
+    let Some(signal) = control else {
         return no_signal(out, warn, job, files, area, c, name);
     };
     let wire = stored(signal);
@@ -95,13 +95,11 @@ fn strategy<'a>(
 }
 
 // Whether a strategy is of the round: `has` says whether it has elements.
+#[tactic(auto, using(crate::proofs::One::choices))]
 fn is_chosen(has: bool, having: bool) -> bool
     ensures { result ≡ cond having has (not has) }
 {
-    if having {
-        return has;
-    }
-    !has
+    if having { has } else { !has }
 }
 
 // A strategy, where it is of the round.
@@ -114,7 +112,7 @@ fn turn<'a>(
     k: usize,
     files: &'a [u8],
     area: &'a [u8],
-    domains: Domains,
+    domains: Few<Domain>,
     ports: &mut [u32],
     c: Cover,
     number: usize,
@@ -144,8 +142,8 @@ fn round<'a>(
     k: usize,
     files: &'a [u8],
     area: &'a [u8],
-    t: Isolations,
-    domains: Domains,
+    t: Few<Isolation>,
+    domains: Few<Domain>,
     ports: &mut [u32],
     c: Cover,
     having: bool,
@@ -155,8 +153,7 @@ fn round<'a>(
 {
     let n = t.n;
     let mut a = c;
-    let mut i = 0;
-    while i < n {
+    for i in 0..n {
         let x = t.all[i];
         a = turn(
             out, warn, job, index, count, k, files, area, domains, ports, a, i, x, having,
@@ -164,7 +161,6 @@ fn round<'a>(
         if a.over {
             return a;
         }
-        i += 1;
     }
     a
 }
@@ -180,8 +176,8 @@ pub fn isolation<'a>(
     k: usize,
     files: &'a [u8],
     area: &'a [u8],
-    t: Isolations,
-    domains: Domains,
+    t: Few<Isolation>,
+    domains: Few<Domain>,
     ports: &mut [u32],
 ) -> Cover
     requires { OfIsolation job.now files.now area.now count k t domains × (5120 ≤ length ports.old) }

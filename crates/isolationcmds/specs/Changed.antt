@@ -1,12 +1,11 @@
 -- set_isolation and set_isolation_control: the strategy that is meant, and what the commands do. Assumes nothing.
-use Rattle.std.specs.Prelude.{ℕ, ◌+◌, ◌≤◌, ◌<◌, ◌≡◌, Bool, true, false, List, ◌++◌, length, get_or, set, take}
+use Rattle.std.specs.Prelude.{Option}
+use Rattle.std.specs.Prelude.{ℕ, ◌+◌, ◌≤◌, ◌<◌, ◌≡◌, Bool, true, false, List, ◌++◌, length, get_or, set, take, None, Some}
 use Rattle.std.proofs.Common.{arith, ◌∙◌}
 use Rattle.std.proofs.Math.Path.{refl, sym, ap}
-use Rattle.std.proofs.Math.Option.{none, some}
 use Rattle.text.specs.Ascii.{Bytes, ascii}
 use Rattle.spans.specs.Reach.{reach, none_reach}
 use Rattle.spans.specs.declared.span.Span.{Span}
-use Rattle.spans.specs.declared.span.Found.{Found}
 use Rattle.tcl.specs.Arguments.{option_of, name_of, has_flag}
 use Rattle.args.specs.View.{words_from, Reads, Finds}
 use Rattle.model.specs.Records.{Model, Isolation as Isolationʳ, with_isolations}
@@ -63,7 +62,7 @@ module _ (files area : Bytes) (words : List ℕ) (n : ℕ) (st : Store) (log : B
     isolation_no b m h t g = rw (g, told_no (sym h ∙ t)) (did_warn (length files) mem st log s v.shaped v.bounded 4 x (omega arith) (omega arith) name_ends)
 
     -- and the domain
-    module _ (f : Found) (y : Stored) (d : Finds (files ++ area) words n (option_of (ascii "-domain") (words_from (files ++ area) words n 1)) f) (g : y ≡ found_or f) where
+    module _ (f : Option Span) (y : Stored) (d : Finds (files ++ area) words n (option_of (ascii "-domain") (words_from (files ++ area) words n 1)) f) (g : y ≡ found_or f) where
       domain_is : string mem y ≡ domain_of ws
       domain_is = rw g (or_found mem words n (option_of (ascii "-domain") ws) f d)
 
@@ -73,7 +72,7 @@ module _ (files area : Bytes) (words : List ℕ) (n : ℕ) (st : Store) (log : B
       first_is = first_map (isolation_of mem) (is_strategy (name_of ws) (domain_of ws)) (is_strategy_at mem x y) (λ z. ap (λ (t : Bytes). is_strategy t (string mem y) (isolation_of mem z)) name_is ∙ ap (λ (t : Bytes). is_strategy (name_of ws) t (isolation_of mem z)) domain_is) (take s.isolations.n s.isolations.all)
 
       module _ (i : ℕ) (k : i ≡ first_at (is_strategy_at (files ++ area) x y) (take s.isolations.n s.isolations.all)) where
-        missed : (F : Isolationʳ → Isolationʳ) → s.isolations.n ≤ i → on_first (is_strategy (name_of ws) (domain_of ws)) F now.isolations ≡ none
+        missed : (F : Isolationʳ → Isolationʳ) → s.isolations.n ≤ i → on_first (is_strategy (name_of ws) (domain_of ws)) F now.isolations ≡ None
         missed F h = first_miss (is_strategy (name_of ws) (domain_of ws)) F now.isolations (omega (arith, count, first_is, k))
 
         told_unknown : s.isolations.n ≤ i → control_command now ws ≡ warned now (text_of 5 (string mem x))
@@ -95,7 +94,7 @@ module _ (files area : Bytes) (words : List ℕ) (n : ℕ) (st : Store) (log : B
           unfolding model_of
           at_is = table_get (isolation_of mem) s.isolations.all s.isolations.n i z h
 
-          hit : (F : Isolationʳ → Isolationʳ) → on_first (is_strategy (name_of ws) (domain_of ws)) F now.isolations ≡ some (set now.isolations i (F (isolation_of mem old)))
+          hit : (F : Isolationʳ → Isolationʳ) → on_first (is_strategy (name_of ws) (domain_of ws)) F now.isolations ≡ Some (set now.isolations i (F (isolation_of mem old)))
           hit F =
               let q : first_at (is_strategy (name_of ws) (domain_of ws)) now.isolations ≡ i = first_is ∙ sym k in
               first_hit (is_strategy (name_of ws) (domain_of ws)) F now.isolations (isolation_of mem z) (omega (arith, count, q)) ∙ rw (q, at_is)

@@ -1,9 +1,10 @@
 -- set_isolation and set_isolation_control: what their deeds do to the records, by what a command is told of the state. Assumes nothing.
+use Rattle.store.specs.declared.state.Few.{Few}
+use Rattle.std.specs.Prelude.{Option, Some, None}
 use Rattle.std.specs.Prelude.{ℕ, ◌≤◌, ◌<◌, ◌≡◌, refl, Bool, true, false, List, ◌++◌, length, get_or, take}
 use Rattle.std.proofs.Common.{arith, ap}
 use Rattle.text.specs.Ascii.{Bytes, ascii}
 use Rattle.spans.specs.declared.span.Span.{Span}
-use Rattle.spans.specs.declared.span.Found.{Found}
 use Rattle.tcl.specs.Arguments.{option_of, name_of, has_flag}
 use Rattle.args.specs.View.{words_from, Reads, Finds}
 use Rattle.model.specs.Records.{Model}
@@ -13,7 +14,6 @@ use Rattle.store.specs.Added.{isolation_added, isolation_set}
 use Rattle.store.specs.First.{first_at}
 use Rattle.store.specs.declared.stored.Stored.{Stored}
 use Rattle.store.specs.declared.state.Isolation.{Isolation}
-use Rattle.store.specs.declared.state.Isolations.{Isolations}
 use Rattle.store.specs.declared.state.State.{State}
 use Rattle.made.specs.declared.Brief.{Brief}
 use Rattle.made.specs.declared.Deed.{Deed}
@@ -35,7 +35,7 @@ module _ (files area : Bytes) (words : List ℕ) (n : ℕ) (b : Brief) where
       let y : IsolationIs (files ++ area) words n s.head.scope x = rw (ap (λ (z : Brief). z.scope) e) a in
       record { fits = l; did = λ st log v. enter_fine (length files) (files ++ area) words n st log s v x (isolation_added s x) (fine_made (isolation_added s x)) l y refl refl }
 
-  module _ (t : Isolations) where
+  module _ (t : Few Isolation) where
     -- with no `-update`
     pub told_new : (p q : Bool) (r : Deed) → p ≡ has_flag (ascii "-no_isolation") (words_from (files ++ area) words n 1) → p ≡ false → q ≡ has_flag (ascii "-update") (words_from (files ++ area) words n 1) → q ≡ false → Does files area words n (λ (s : State). brief_of s ≡ b) r (λ (m : Model). added m (words_from (files ++ area) words n 1)) → Does files area words n (λ (s : State). (brief_of s ≡ b) × (s.isolations ≡ t)) r (λ (m : Model). isolation_command m (words_from (files ++ area) words n 1))
     told_new p q r e1 e2 e3 e4 w s e =
@@ -48,7 +48,7 @@ module _ (files area : Bytes) (words : List ℕ) (n : ℕ) (b : Brief) where
           record { fits = tt; did = λ st log v. isolation_no files area words n st log s v w x a g p (warned_made s 4 x) e1 e2 refl }
 
       -- the domain, and the place that was found
-      module _ (f : Found) (y : Stored) (d : Finds (files ++ area) words n (option_of (ascii "-domain") (words_from (files ++ area) words n 1)) f) (o : y ≡ found_or f) (i : ℕ) (k : i ≡ first_at (is_strategy_at (files ++ area) x y) (take t.n t.all)) where
+      module _ (f : Option Span) (y : Stored) (d : Finds (files ++ area) words n (option_of (ascii "-domain") (words_from (files ++ area) words n 1)) f) (o : y ≡ found_or f) (i : ℕ) (k : i ≡ first_at (is_strategy_at (files ++ area) x y) (take t.n t.all)) where
         found_in : (s : State) → s.isolations ≡ t → i ≡ first_at (is_strategy_at (files ++ area) x y) (take s.isolations.n s.isolations.all)
         found_in s e = rw e k
 

@@ -1,11 +1,10 @@
 -- Laws: what the code makes of the words stands for the strategies of the definitions. Assumes nothing.
-use Rattle.std.specs.Prelude.{ℕ, suc, ◌+◌, ◌≤◌, ◌<◌, ◌^◌, ◌≡◌, refl, Bool, true, ltb}
+use Rattle.std.specs.Prelude.{ℕ, suc, ◌+◌, ◌≤◌, ◌<◌, ◌^◌, ◌≡◌, refl, Bool, true, ltb, Option, None, Some}
 use Rattle.std.proofs.Common.{arith, ◌∙◌, ltb-true, ltb-false}
 use Rattle.std.proofs.Math.Nat.{le_trans}
 use Rattle.std.proofs.Math.Path.{sym, ap}
 use Rattle.std.proofs.Math.Bool.{false}
 use mathlib.Core.List.{List, [], ◌∷◌, ◌++◌, map}
-use Rattle.std.proofs.Math.Option.{Option, none, some}
 use Rattle.std.proofs.Math.ListN.{length}
 use Rattle.text.specs.Ascii.{Bytes, ascii}
 use Rattle.text.specs.Compare.{same}
@@ -14,8 +13,6 @@ use Rattle.text.specs.Lists.{no_bytes}
 use Rattle.spans.specs.Span.{◌⋯◌, bytes, found_of, pairs}
 use Rattle.spans.specs.Reach.{span_end, last_of, reach, Held, held_by, none_reach}
 use Rattle.spans.specs.declared.span.Span.{Span}
-use Rattle.spans.specs.declared.span.Found.{Found}
-use Rattle.spans.specs.declared.span.Found.TheVariants.{At, None}
 use Rattle.tcl.specs.Arguments.{option_of, name_of}
 use Rattle.tcl.specs.Lists.{list}
 use Rattle.args.specs.View.{words_from, Reads, Finds}
@@ -25,7 +22,6 @@ use Rattle.store.specs.Strings.{string, span_of, stored_of, maybe_of, maybe_foun
 use Rattle.store.specs.View.{list_below, isolation_of}
 use Rattle.store.specs.Order.{of_maybe}
 use Rattle.store.specs.declared.stored.Stored.{Stored}
-use Rattle.store.specs.declared.stored.Maybe.{Maybe}
 use Rattle.store.specs.declared.state.Isolation.{Isolation}
 use Rattle.made.specs.Asked.{list_found, or_found, maybe_found_lem, found_by_lem, maybe_by}
 use Rattle.lists.specs.Values.{Whole}
@@ -34,24 +30,24 @@ use Rattle.isolationcmds.specs.Bounds.{Bounds, all_bounds, bounds_of}
 
 module _ (mem : Bytes) (words : List ℕ) (n : ℕ) where
   -- what is given, or what stood there
-  else_found : (t : Option Bytes) (f : Found) (old : Maybe) → Finds mem words n t f → maybe_of mem (found_else f old) ≡ given t (maybe_of mem old)
+  else_found : (t : Option Bytes) (f : Option Span) (old : Option Stored) → Finds mem words n t f → maybe_of mem (found_else f old) ≡ given t (maybe_of mem old)
   else_found t None old a = rw (← a.is)
-  else_found t (At s) old a = rw (← a.is)
+  else_found t (Some s) old a = rw (← a.is)
 
   -- the same where nothing given means z
-  else_or : (t : Option Bytes) (f : Found) (old : Maybe) (z : Bytes) → Finds mem words n t f → or_else (maybe_of mem (found_else f old)) z ≡ or_else t (or_else (maybe_of mem old) z)
+  else_or : (t : Option Bytes) (f : Option Span) (old : Option Stored) (z : Bytes) → Finds mem words n t f → or_else (maybe_of mem (found_else f old)) z ≡ or_else t (or_else (maybe_of mem old) z)
   else_or t None old z a = rw (← a.is)
-  else_or t (At s) old z a = rw (← a.is)
+  else_or t (Some s) old z a = rw (← a.is)
 
-  else_by : (e : Span → ℕ) → e (0 ⋯ 0) ≡ 0 → (m : ℕ) → last_of e (pairs words 0 n) ≤ m → (t : Option Bytes) (f : Found) (old : Maybe) → Finds mem words n t f → of_maybe (λ s. e (span_of s)) old ≤ m → of_maybe (λ s. e (span_of s)) (found_else f old) ≤ m
+  else_by : (e : Span → ℕ) → e (0 ⋯ 0) ≡ 0 → (m : ℕ) → last_of e (pairs words 0 n) ≤ m → (t : Option Bytes) (f : Option Span) (old : Option Stored) → Finds mem words n t f → of_maybe (λ s. e (span_of s)) old ≤ m → of_maybe (λ s. e (span_of s)) (found_else f old) ≤ m
   else_by e z m l t None old a h = h
-  else_by e z m l t (At s) old a h = omega (arith, a.within e z)
+  else_by e z m l t (Some s) old a h = omega (arith, a.within e z)
 
   abbrev ws : List Bytes
   ws = words_from mem words n 1
 
   -- ---- a new one
-  module _ (scope : Stored) (named : Span) (domain applies elements clamp signal sense power ground_net : Found)
+  module _ (scope : Stored) (named : Span) (domain applies elements clamp signal sense power ground_net : Option Span)
       (a0 : Reads mem words n (name_of (words_from mem words n 1)) named)
       (a1 : Finds mem words n (option_of (ascii "-domain") (words_from mem words n 1)) domain)
       (a2 : Finds mem words n (option_of (ascii "-applies_to") (words_from mem words n 1)) applies)
@@ -95,11 +91,11 @@ module _ (mem : Bytes) (words : List ℕ) (n : ℕ) where
         }
 
     -- as the code has them
-    pub isolation_made : (n0 d0 e0 : Stored) (p0 c0 s0 t0 w0 g0 : Maybe) → n0 ≡ stored_of named → d0 ≡ found_or domain → p0 ≡ maybe_found applies → e0 ≡ found_or elements → c0 ≡ maybe_found clamp → s0 ≡ maybe_found signal → t0 ≡ maybe_found sense → w0 ≡ maybe_found power → g0 ≡ maybe_found ground_net → IsolationIs mem words n scope (record { name = n0; domain = d0; applies = p0; scope = scope; elements = e0; clamp = c0; signal = s0; sense = t0; power = w0; ground_net = g0 })
+    pub isolation_made : (n0 d0 e0 : Stored) (p0 c0 s0 t0 w0 g0 : Option Stored) → n0 ≡ stored_of named → d0 ≡ found_or domain → p0 ≡ maybe_found applies → e0 ≡ found_or elements → c0 ≡ maybe_found clamp → s0 ≡ maybe_found signal → t0 ≡ maybe_found sense → w0 ≡ maybe_found power → g0 ≡ maybe_found ground_net → IsolationIs mem words n scope (record { name = n0; domain = d0; applies = p0; scope = scope; elements = e0; clamp = c0; signal = s0; sense = t0; power = w0; ground_net = g0 })
     isolation_made n0 d0 e0 p0 c0 s0 t0 w0 g0 q0 q1 q2 q3 q4 q5 q6 q7 q8 = rw (q0, q1, q2, q3, q4, q5, q6, q7, q8) isolation_is
 
   -- ---- one renewed
-  module _ (x : Isolation) (scope elements : Stored) (applies clamp signal sense power ground_net : Found)
+  module _ (x : Isolation) (scope elements : Stored) (applies clamp signal sense power ground_net : Option Span)
       (a2 : Finds mem words n (option_of (ascii "-applies_to") (words_from mem words n 1)) applies)
       (a4 : Finds mem words n (option_of (ascii "-clamp_value") (words_from mem words n 1)) clamp)
       (a5 : Finds mem words n (option_of (ascii "-isolation_signal") (words_from mem words n 1)) signal)
@@ -141,11 +137,11 @@ module _ (mem : Bytes) (words : List ℕ) (n : ℕ) where
               });
         }
 
-    pub renewed_made : (p0 c0 s0 t0 w0 g0 : Maybe) → p0 ≡ found_else applies x.applies → c0 ≡ found_else clamp x.clamp → s0 ≡ found_else signal x.signal → t0 ≡ found_else sense x.sense → w0 ≡ found_else power x.power → g0 ≡ found_else ground_net x.ground_net → RenewedIs mem words n x scope elements (record { name = x.name; domain = x.domain; applies = p0; scope = scope; elements = elements; clamp = c0; signal = s0; sense = t0; power = w0; ground_net = g0 })
+    pub renewed_made : (p0 c0 s0 t0 w0 g0 : Option Stored) → p0 ≡ found_else applies x.applies → c0 ≡ found_else clamp x.clamp → s0 ≡ found_else signal x.signal → t0 ≡ found_else sense x.sense → w0 ≡ found_else power x.power → g0 ≡ found_else ground_net x.ground_net → RenewedIs mem words n x scope elements (record { name = x.name; domain = x.domain; applies = p0; scope = scope; elements = elements; clamp = c0; signal = s0; sense = t0; power = w0; ground_net = g0 })
     renewed_made p0 c0 s0 t0 w0 g0 q2 q4 q5 q6 q7 q8 = rw (q2, q4, q5, q6, q7, q8) renewed_is
 
   -- ---- one controlled
-  module _ (x : Isolation) (signal sense : Found)
+  module _ (x : Isolation) (signal sense : Option Span)
       (a5 : Finds mem words n (option_of (ascii "-isolation_signal") (words_from mem words n 1)) signal)
       (a6 : Finds mem words n (option_of (ascii "-isolation_sense") (words_from mem words n 1)) sense) where
     abbrev signalled : Isolation
@@ -183,13 +179,13 @@ module _ (mem : Bytes) (words : List ℕ) (n : ℕ) where
               });
         }
 
-    pub controlled_made : (s0 t0 : Maybe) → s0 ≡ found_else signal x.signal → t0 ≡ found_else sense x.sense → ControlledIs mem words n x (record { name = x.name; domain = x.domain; applies = x.applies; scope = x.scope; elements = x.elements; clamp = x.clamp; signal = s0; sense = t0; power = x.power; ground_net = x.ground_net })
+    pub controlled_made : (s0 t0 : Option Stored) → s0 ≡ found_else signal x.signal → t0 ≡ found_else sense x.sense → ControlledIs mem words n x (record { name = x.name; domain = x.domain; applies = x.applies; scope = x.scope; elements = x.elements; clamp = x.clamp; signal = s0; sense = t0; power = x.power; ground_net = x.ground_net })
     controlled_made s0 t0 q5 q6 = rw (q5, q6) controlled_is
 
 -- ---- elements only where there are some
 
 -- what was found can be stored
-pub at_fits : (mem : Bytes) (words : List ℕ) (n : ℕ) (t : Option Bytes) (f : Found) (v : Span) → Finds mem words n t f → f ≡ At v → last_of span_end (pairs words 0 n) < 2 ^ 32 → v.at + v.len < 2 ^ 32
+pub at_fits : (mem : Bytes) (words : List ℕ) (n : ℕ) (t : Option Bytes) (f : Option Span) (v : Span) → Finds mem words n t f → f ≡ Some v → last_of span_end (pairs words 0 n) < 2 ^ 32 → v.at + v.len < 2 ^ 32
 at_fits mem words n t f v a g h = omega (arith, rw g at (a.within span_end refl))
 
 replaced_none : (scope : Bytes) (ws old : List Bytes) → option_list "-elements" ws ≡ [] → elements_anew scope ws old ≡ old
@@ -206,7 +202,7 @@ none_of (x ∷ es) e = absurd (let z : suc (length es) ≤ 0 = ltb-false 0 (suc 
 some_of : (es : List Bytes) → ltb 0 (length es) ≡ true → 0 < length es
 some_of es e = ltb-true 0 (length es) e
 
-module _ (files area : Bytes) (words : List ℕ) (n : ℕ) (scope : Stored) (x : Isolation) (f : Found) (a : Finds (files ++ area) words n (option_of (ascii "-elements") (words_from (files ++ area) words n 1)) f) where
+module _ (files area : Bytes) (words : List ℕ) (n : ℕ) (scope : Stored) (x : Isolation) (f : Option Span) (a : Finds (files ++ area) words n (option_of (ascii "-elements") (words_from (files ++ area) words n 1)) f) where
   abbrev mem : Bytes
   mem = files ++ area
 
@@ -223,13 +219,13 @@ module _ (files area : Bytes) (words : List ℕ) (n : ℕ) (scope : Stored) (x :
 
   pub anew_none : (r : Isolation) → f ≡ None → RenewedIs mem words n x x.scope x.elements r → AnewIs files area words n scope x r
   anew_none r g b =
-      let q : found_of (files ++ area) f ≡ none = rw g in
+      let q : found_of (files ++ area) f ≡ None = rw g in
       old_is r b (λ w. ap list_of (sym a.is ∙ q))
 
-  module _ (v : Span) (g : f ≡ At v) (u : Bool) (t : Held (length files) v → u ≡ ltb 0 (length (list (bytes (files ++ area) v)))) where
+  module _ (v : Span) (g : f ≡ Some v) (u : Bool) (t : Held (length files) v → u ≡ ltb 0 (length (list (bytes (files ++ area) v)))) where
     its : option_list "-elements" (words_from mem words n 1) ≡ list (bytes mem v)
     its =
-        let q : found_of (files ++ area) f ≡ some (bytes (files ++ area) v) = rw g in
+        let q : found_of (files ++ area) f ≡ Some (bytes (files ++ area) v) = rw g in
         ap list_of (sym a.is ∙ q)
 
     ends : (e : Span → ℕ) → e (0 ⋯ 0) ≡ 0 → e v ≤ last_of e (pairs words 0 n)

@@ -15,8 +15,8 @@ ghost use Rattle.isolationcmds.specs.Strategies.{is_strategy_at, IsolationIs, Re
 use args::argument::{flag, name, option};
 use lists::has_entries;
 use made::{Brief, Deed};
-use spans::span::{Found, same_spans, size};
-use store::state::{Isolation, Isolations};
+use spans::span::{same_spans, size};
+use store::state::{Few, Isolation};
 use store::stored::{Stored, as_maybe, given, narrow, or_empty, span};
 
 // The strategy that the words of a command name.
@@ -72,25 +72,16 @@ fn updated<'a>(
     let sense = option(files, area, words, n, b"-isolation_sense");
     let power = option(files, area, words, n, b"-isolation_power_net");
     let ground_net = option(files, area, words, n, b"-isolation_ground_net");
-    let named = x.name;
-    let domain = x.domain;
-    let old_applies = x.applies;
-    let old_clamp = x.clamp;
-    let old_signal = x.signal;
-    let old_sense = x.sense;
-    let old_power = x.power;
-    let old_ground = x.ground_net;
     Isolation {
-        name: named,
-        domain: domain,
-        applies: given(applies, old_applies),
+        applies: given(applies, x.applies),
         scope: scope,
         elements: elements,
-        clamp: given(clamp, old_clamp),
-        signal: given(signal, old_signal),
-        sense: given(sense, old_sense),
-        power: given(power, old_power),
-        ground_net: given(ground_net, old_ground),
+        clamp: given(clamp, x.clamp),
+        signal: given(signal, x.signal),
+        sense: given(sense, x.sense),
+        power: given(power, x.power),
+        ground_net: given(ground_net, x.ground_net),
+        ..x
     }
 }
 
@@ -107,19 +98,11 @@ fn update<'a>(
     ensures { AnewIs files.now area.now words.now n scope x result }
 {
     match option(files, area, words, n, b"-elements") {
-        Found::None => {
-            let old_scope = x.scope;
-            let old = x.elements;
-            updated(files, area, words, n, x, old_scope, old)
+        Some(v) if has_entries(files, area, v) => {
+            updated(files, area, words, n, x, scope, narrow(v))
         }
-        Found::At(v) => {
-            if has_entries(files, area, v) {
-                return updated(files, area, words, n, x, scope, narrow(v));
-            }
-            let old_scope = x.scope;
-            let old = x.elements;
-            updated(files, area, words, n, x, old_scope, old)
-        }
+        Some(_) => updated(files, area, words, n, x, x.scope, x.elements),
+        None => updated(files, area, words, n, x, x.scope, x.elements),
     }
 }
 
@@ -133,38 +116,26 @@ fn is_strategy<'a>(
 ) -> bool
     ensures { result ≡ is_strategy_at (files.now ++ area.now) name domain x }
 {
-    let named = x.name;
-    let of = x.domain;
-    if !same_spans(files, area, span(named), span(name)) {
-        return false;
-    }
-    if size(files, area, span(domain)) == 0 {
-        return true;
-    }
-    same_spans(files, area, span(of), span(domain))
+    same_spans(files, area, span(x.name), span(name))
+        && (size(files, area, span(domain)) == 0
+            || same_spans(files, area, span(x.domain), span(domain)))
 }
 
 // The first such strategy; the number of strategies where there is none.
 fn find_strategy<'a>(
     files: &'a [u8],
     area: &'a [u8],
-    t: Isolations,
+    t: Few<Isolation>,
     name: Stored,
     domain: Stored,
 ) -> usize
     requires { t.n ≤ 32 }
     ensures { result ≡ first_at (is_strategy_at (files.now ++ area.now) name domain) (take t.n t.all) }
 {
-    let n = t.n;
-    let mut i = 0;
-    while i < n {
-        let x = t.all[i];
-        if is_strategy(files, area, x, name, domain) {
-            return i;
-        }
-        i += 1;
-    }
-    n
+    t.all[..t.n]
+        .iter()
+        .position(|x| is_strategy(files, area, *x, name, domain))
+        .unwrap_or(t.n)
 }
 
 // A new strategy.
@@ -175,8 +146,7 @@ fn enter<'a>(files: &'a [u8], area: &'a [u8], words: &[u32], n: usize, b: Brief)
     if 32 <= b.isolations {
         return Deed::Full;
     }
-    let scope = b.scope;
-    let x = isolation(files, area, words, n, scope);
+    let x = isolation(files, area, words, n, b.scope);
     Deed::Isolation(x)
 }
 
@@ -187,7 +157,7 @@ pub fn set_isolation<'a>(
     words: &[u32],
     n: usize,
     b: Brief,
-    t: Isolations,
+    t: Few<Isolation>,
 ) -> Deed
     requires { Line words.now n × (t.n ≤ 32) }
     ensures { Does files.now area.now words.now n (λ (s : State). (brief_of s ≡ b) × (s.isolations ≡ t)) result (λ (m : Model). isolation_command m (words_from (files.now ++ area.now) words.now n 1)) }
@@ -204,9 +174,7 @@ pub fn set_isolation<'a>(
     if t.n <= i {
         return enter(files, area, words, n, b);
     }
-    let scope = b.scope;
-    let old = t.all[i];
-    let x = update(files, area, words, n, scope, old);
+    let x = update(files, area, words, n, b.scope, t.all[i]);
     Deed::Controlled(i, x)
 }
 
@@ -223,27 +191,10 @@ fn controlled<'a>(
 {
     let signal = option(files, area, words, n, b"-isolation_signal");
     let sense = option(files, area, words, n, b"-isolation_sense");
-    let named = x.name;
-    let domain = x.domain;
-    let applies = x.applies;
-    let scope = x.scope;
-    let elements = x.elements;
-    let clamp = x.clamp;
-    let old_signal = x.signal;
-    let old_sense = x.sense;
-    let power = x.power;
-    let ground_net = x.ground_net;
     Isolation {
-        name: named,
-        domain: domain,
-        applies: applies,
-        scope: scope,
-        elements: elements,
-        clamp: clamp,
-        signal: given(signal, old_signal),
-        sense: given(sense, old_sense),
-        power: power,
-        ground_net: ground_net,
+        signal: given(signal, x.signal),
+        sense: given(sense, x.sense),
+        ..x
     }
 }
 
@@ -254,7 +205,7 @@ pub fn set_isolation_control<'a>(
     words: &[u32],
     n: usize,
     b: Brief,
-    t: Isolations,
+    t: Few<Isolation>,
 ) -> Deed
     requires { Line words.now n × (t.n ≤ 32) }
     ensures { Does files.now area.now words.now n (λ (s : State). (brief_of s ≡ b) × (s.isolations ≡ t)) result (λ (m : Model). control_command m (words_from (files.now ++ area.now) words.now n 1)) }
@@ -265,7 +216,6 @@ pub fn set_isolation_control<'a>(
     if t.n <= i {
         return Deed::Warning(5, named);
     }
-    let old = t.all[i];
-    let x = controlled(files, area, words, n, old);
+    let x = controlled(files, area, words, n, t.all[i]);
     Deed::Controlled(i, x)
 }

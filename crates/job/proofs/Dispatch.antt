@@ -12,7 +12,9 @@ use Rattle.jobindex.specs.Index.{bytes_at, job_of}
 use Rattle.jobsteps.specs.declared.Due.{Due}
 use Rattle.jobsteps.specs.declared.Due.TheVariants as due
 use Rattle.jobsteps.specs.declared.Step.{Step}
-use Rattle.jobsteps.specs.declared.Step.TheVariants as step
+use Rattle.std.specs.Prelude.{Result, Err}
+use Rattle.joblines.specs.declared.Refusal.{Refusal}
+use Rattle.joblines.specs.declared.Refusal.TheVariants.{Malformed}
 use Rattle.jobsteps.specs.State.{due_of, job_in, job_now, line_of, Outside, BytesDue, StyleDue, PortsDue, DeclsDue, InstsDue, Stands, Alone, Asked, Stepped}
 
 module _ (job index : List ℕ) (from end : ℕ) (d : Due) (head : Header) (o : Open) (pre : Asked job index from end (Stands job index d head o from)) where
@@ -46,7 +48,7 @@ module _ (job index : List ℕ) (from end : ℕ) (d : Due) (head : Header) (o : 
   pub ask_insts : d ≡ due.Insts → Asked job index from end (InstsDue job index head o from)
   ask_insts e = record { line = pre.line; stands = rw e at pre.stands; room = pre.room }
 
-module _ (job index index' : List ℕ) (from end : ℕ) (d : Due) (head : Header) (o : Open) (r : Step) where
+module _ (job index index' : List ℕ) (from end : ℕ) (d : Due) (head : Header) (o : Open) (r : Result Step Refusal) where
   abbrev line : Bytes
   line = line_of job from end
 
@@ -97,6 +99,6 @@ module _ (job index index' : List ℕ) (from end : ℕ) (d : Due) (head : Header
   step_insts e s = rw e s
 
 pub step_nothing : (job index : List ℕ) (from end : ℕ) (d : Due) (head : Header) (o : Open) → d ≡ due.Nothing
-    → Stepped job index index from (read_line (due_of job d) (job_now job index d head o) (line_of job from end) (drop (end + 1) job)) (step.Refused 4)
+    → Stepped job index index from (read_line (due_of job d) (job_now job index d head o) (line_of job from end) (drop (end + 1) job)) (Err Malformed)
 unfolding read_line
 step_nothing job index from end d head o e = record { says = rw e; stands = tt; long = refl; kept = refl }

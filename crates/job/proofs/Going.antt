@@ -14,8 +14,8 @@ use Rattle.text.specs.Ascii.{Bytes}
 use Rattle.text.specs.Compare.{same}
 use Rattle.text.specs.Sames.{differ, same_refl}
 use Rattle.place.specs.declared.Place.{Place}
-use Rattle.place.specs.declared.Cut.{Cut}
-use Rattle.place.specs.declared.Cut.TheVariants.{Line, Missing}
+use Rattle.std.specs.Prelude.{Option, None, Some, Result, Ok, Err}
+use Rattle.place.specs.declared.Line.{Line}
 use Rattle.place.specs.Cut.{end_of, cut_at, moved_on, In}
 use Rattle.joblines.specs.Job.{Job, no_job}
 use Rattle.joblines.specs.Lines.{due_top, due_override, due_start, due_file, due_bytes, due_more, due_style, due_ports, due_decls, due_insts, due_nothing, read_line}
@@ -27,11 +27,11 @@ use Rattle.jobindex.specs.Index.{index_size, job_of, rows}
 use Rattle.jobsteps.specs.declared.Due.{Due}
 use Rattle.jobsteps.specs.declared.Due.TheVariants as due
 use Rattle.jobsteps.specs.declared.Step.{Step}
-use Rattle.jobsteps.specs.declared.Step.TheVariants as step
+use Rattle.joblines.specs.declared.Refusal.{Refusal}
 use Rattle.jobsteps.specs.State.{due_of, job_now, line_of, IsLine, Stands, Asked, Stepped}
-use Rattle.job.specs.declared.Answer.{Answer}
-use Rattle.job.specs.declared.Answer.TheVariants as answer
-use Rattle.job.specs.Reader.{read_of, Bounded, LinesRead}
+use Rattle.fields.specs.declared.Style.TheVariants.{Ansi}
+use Rattle.job.specs.declared.Refused.{Refused}
+use Rattle.job.specs.Reader.{refused_at, read_of, Bounded, LinesRead}
 
 -- ---- one line of what is left
 -- where there is a line, it is read; also where nothing is due, which refuses it
@@ -59,20 +59,20 @@ module _ (job : Bytes) (p n : ℕ) where
   abbrev at : Place
   at = record { at = p; line = n }
 
-  module _ (c : Cut) (ec : c ≡ cut_at job at) where
-    cut_line : (from end : ℕ) → c ≡ Line from end → (from ≡ p) × ((end ≡ end_of job p) × (end_of job p < length job))
+  module _ (c : Option Line) (ec : c ≡ cut_at job at) where
+    cut_line : (x : Line) → c ≡ Some x → (x.from ≡ p) × ((x.end ≡ end_of job p) × (end_of job p < length job))
     unfolding cut_at
-    cut_line from end e = go (ltb (end_of job p) (length job)) refl (sym e ∙ ec)
+    cut_line x e = go (ltb (end_of job p) (length job)) refl (sym e ∙ ec)
       where
-        go : (q : Bool) → ltb (end_of job p) (length job) ≡ q → Line from end ≡ cond q (Line p (end_of job p)) Missing → (from ≡ p) × ((end ≡ end_of job p) × (end_of job p < length job))
+        go : (q : Bool) → ltb (end_of job p) (length job) ≡ q → Some x ≡ cond q (Some (record { from = p; end = end_of job p })) None → (x.from ≡ p) × ((x.end ≡ end_of job p) × (end_of job p < length job))
         go true t h = (cc, (cc, ltb-true (end_of job p) (length job) t))
         go false t h = absurd (let z : ◌≡◌ {A = ℕ} 0 1 = cc in omega arith)
 
-    cut_missing : c ≡ Missing → length job ≤ end_of job p
+    cut_missing : c ≡ None → length job ≤ end_of job p
     unfolding cut_at
     cut_missing e = go (ltb (end_of job p) (length job)) refl (sym e ∙ ec)
       where
-        go : (q : Bool) → ltb (end_of job p) (length job) ≡ q → Missing ≡ cond q (Line p (end_of job p)) Missing → length job ≤ end_of job p
+        go : (q : Bool) → ltb (end_of job p) (length job) ≡ q → ◌≡◌ {A = Option Line} None (cond q (Some (record { from = p; end = end_of job p })) None) → length job ≤ end_of job p
         go true t h = absurd (let z : ◌≡◌ {A = ℕ} 0 1 = cc in omega arith)
         go false t h = ltb-false (end_of job p) (length job) t
 
@@ -97,9 +97,9 @@ module _ (job index₀ index : List ℕ) (p n : ℕ) (d : Due) (head : Header) (
   pub going_in : In job (record { at = p; line = n })
   going_in = record { inside = g.here; counted = omega (arith, g.counted, g.here, g.small) }
 
-  module _ (q : Place) (eq : q ≡ moved_on job (record { at = p; line = n })) (c : Cut) (ec : c ≡ cut_at job (record { at = p; line = n })) where
+  module _ (q : Place) (eq : q ≡ moved_on job (record { at = p; line = n })) (c : Option Line) (ec : c ≡ cut_at job (record { at = p; line = n })) where
     -- ---- there is no further line
-    module _ (e : c ≡ Missing) where
+    module _ (e : c ≡ None) where
       none_left : has_line (drop p job) ≡ false
       none_left = le-ltb (line_size (drop p job)) (length (drop p job)) (omega (arith, cut_missing job p n c ec e, length-drop p job, g.here))
 
@@ -111,7 +111,7 @@ module _ (job index₀ index : List ℕ) (p n : ℕ) (d : Due) (head : Header) (
           go false t = sym (differ (drop p job) [] (λ z. omega (arith, eqb-false p (length job) t, length-drop p job, z, g.here)))
 
       -- nothing was due, at the job's end, or a line is missing
-      ends_so : (d : Due) → Stands job index d head o p → (b : Bool) (r : Answer) → n + 1 ≤ 65537 → r ≡ cond (is_nothing (due_of [] d)) (cond b (answer.Taken head) (answer.Refused 4 (n + 1))) (answer.Refused 4 (n + 1))
+      ends_so : (d : Due) → Stands job index d head o p → (b : Bool) (r : Result Header Refused) → n + 1 ≤ 65537 → r ≡ cond (is_nothing (due_of [] d)) (cond b (Ok head) (Err (refused_at (n + 1)))) (Err (refused_at (n + 1)))
           → (read_of job index r ≡ cond (is_nothing (due_of job d)) (cond b (accepted (job_now job index d head o)) (refused 4 (n + 1))) (refused 4 (n + 1))) × Bounded r
       ends_so due.Top s b r f er = (rw er, rw er f)
       ends_so due.Override s b r f er = (rw er, rw er f)
@@ -126,7 +126,7 @@ module _ (job index₀ index : List ℕ) (p n : ℕ) (d : Due) (head : Header) (
       ends_so due.Nothing s true r f er = (rw er, rw er (s.files, s.modules))
       ends_so due.Nothing s false r f er = (rw er, rw er f)
 
-      pub going_ends : (r : Answer) → r ≡ cond (is_nothing (due_of [] d)) (cond (eqb p (length job)) (answer.Taken head) (answer.Refused 4 q.line)) (answer.Refused 4 q.line) → LinesRead job index₀ index r
+      pub going_ends : (r : Result Header Refused) → r ≡ cond (is_nothing (due_of [] d)) (cond (eqb p (length job)) (Ok head) (Err (refused_at q.line))) (Err (refused_at q.line)) → LinesRead job index₀ index r
       going_ends r er =
           let z = ends_so d g.stands (eqb p (length job)) r (omega (arith, g.counted, g.here, g.small)) (rw (moved_line job p n q eq) at er) in
           record {
@@ -137,18 +137,24 @@ module _ (job index₀ index : List ℕ) (p n : ℕ) (d : Due) (head : Header) (
           }
 
     -- ---- there is one
-    module _ (from end : ℕ) (e : c ≡ Line from end) where
+    module _ (x : Line) (e : c ≡ Some x) where
+      abbrev from : ℕ
+      from = x.from
+
+      abbrev end : ℕ
+      end = x.end
+
       is_line : IsLine job from end
       is_line =
-          let z = cut_line job p n c ec from end e in
+          let z = cut_line job p n c ec x e in
           record { ends = rw z.0 z.1.0; inside = omega (arith, z); small = g.small }
 
       pub going_asks : Asked job index from end (Stands job index d head o from)
-      going_asks = record { line = is_line; stands = rw (cut_line job p n c ec from end e).0 g.stands; room = g.room }
+      going_asks = record { line = is_line; stands = rw (cut_line job p n c ec x e).0 g.stands; room = g.room }
 
       left_is : lines (length job + 1) 0 due_top no_job job ≡ carry_on n (read_line (due_of job d) (job_now job index d head o) (line_of job from end) (drop (end + 1) job)) (lines g.fuel (n + 1))
       left_is =
-          let z = cut_line job p n c ec from end e in
+          let z = cut_line job p n c ec x e in
           let s : line_size (drop p job) ≡ end - from = omega (arith, z) in
           let t : p + (end - from + 1) ≡ end + 1 = omega (arith, z) in
           let f : take (end - from) (drop p job) ≡ line_of job from end = rw z.0 in
@@ -156,9 +162,9 @@ module _ (job index₀ index : List ℕ) (p n : ℕ) (d : Due) (head : Header) (
           ∙ (line_read (due_of job d) g.fuel n (job_now job index d head o) (drop p job) (lt-ltb (line_size (drop p job)) (length (drop p job)) (omega (arith, z, length-drop p job)))
           ∙ rw (s, drop-drop (end - from + 1) p job, t, f))
 
-      module _ (index' : List ℕ) (r : Step) (s : Stepped job index index' from (read_line (due_of job d) (job_now job index d head o) (line_of job from end) (drop (end + 1) job)) r) where
-        pub going_refused : (x : ℕ) → r ≡ step.Refused x → LinesRead job index₀ index' (answer.Refused x q.line)
-        going_refused x er =
+      module _ (index' : List ℕ) (r : Result Step Refusal) (s : Stepped job index index' from (read_line (due_of job d) (job_now job index d head o) (line_of job from end) (drop (end + 1) job)) r) where
+        pub going_refused : (y : Refusal) → r ≡ Err y → LinesRead job index₀ index' (Err (record { refusal = y; line = q.line }))
+        going_refused y er =
             record {
               says = rw (moved_line job p n q eq) (sym (left_is ∙ rw (← s.says, er)));
               counts = omega (arith, moved_line job p n q eq, g.counted, g.here, g.small);
@@ -166,7 +172,19 @@ module _ (job index₀ index : List ℕ) (p n : ℕ) (d : Due) (head : Header) (
               kept = s.kept ∙ g.kept;
             }
 
-        module _ (a : ℕ) (d' : Due) (head' : Header) (o' : Open) (er : r ≡ step.On a d' head' o') where
+        module _ (t : Step) (er : r ≡ Ok t) where
+          abbrev a : ℕ
+          a = t.at
+
+          abbrev d' : Due
+          d' = t.due
+
+          abbrev head' : Header
+          head' = t.head
+
+          abbrev o' : Open
+          o' = t.opened
+
           past : (from < a) × Stands job index' d' head' o' a
           past = rw er at s.stands
 
@@ -184,10 +202,10 @@ module _ (job index₀ index : List ℕ) (p n : ℕ) (d : Due) (head : Header) (
           at_in job index due.Nothing head o a s = s.here
 
           pub going_less : length job - a < length job - p
-          going_less = omega (arith, past.0, at_in job index' d' head' o' a past.1, cut_line job p n c ec from end e)
+          going_less = omega (arith, past.0, at_in job index' d' head' o' a past.1, cut_line job p n c ec x e)
 
           fuel_more : g.fuel ≡ suc (g.fuel - 1)
-          fuel_more = omega (arith, g.enough, cut_line job p n c ec from end e)
+          fuel_more = omega (arith, g.enough, cut_line job p n c ec x e)
 
           pub going_on : Going job index₀ index' a q.line d' head' o'
           going_on =
@@ -195,12 +213,12 @@ module _ (job index₀ index : List ℕ) (p n : ℕ) (d : Due) (head : Header) (
                 small = g.small;
                 stands = past.1;
                 here = at_in job index' d' head' o' a past.1;
-                counted = omega (arith, g.counted, past.0, moved_line job p n q eq, cut_line job p n c ec from end e);
+                counted = omega (arith, g.counted, past.0, moved_line job p n q eq, cut_line job p n c ec x e);
                 long = s.long ∙ g.long;
                 room = omega (arith, g.room, s.long);
                 kept = s.kept ∙ g.kept;
                 fuel = g.fuel - 1;
-                enough = omega (arith, g.enough, past.0, fuel_more, cut_line job p n c ec from end e);
+                enough = omega (arith, g.enough, past.0, fuel_more, cut_line job p n c ec x e);
                 keeps = left_is ∙ rw (← s.says, er, moved_line job p n q eq) (ap (λ k. lines k (n + 1) (due_of job d') (job_now job index' d' head' o') (drop a job)) fuel_more);
               }
 
@@ -234,7 +252,7 @@ no_head =
     }
 
 abbrev none_open : Open
-none_open = record { name = record { at = 0; len = 0 }; style = 0; ports = 0; decls = 0; insts = 0; end = 0; nports = 0; ndecls = 0; ninsts = 0; nconns = 0 }
+none_open = record { name = record { at = 0; len = 0 }; style = Ansi; ports = 0; decls = 0; insts = 0; end = 0; nports = 0; ndecls = 0; ninsts = 0; nconns = 0 }
 
 pub going_first : (job index : List ℕ) → (length job ≤ 65536) × (index_size ≤ length index) → Going job index index 0 0 due.Top no_head none_open
 unfolding rows

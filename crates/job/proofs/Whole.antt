@@ -19,23 +19,25 @@ use Rattle.jobindex.specs.Index.{path_at, file_at, name_at, module_row, row_of, 
 use Rattle.jobindex.specs.Rows.{rows_map, row_any, row_le, row_is_lem}
 use Rattle.jobsteps.specs.declared.Due.{Due}
 use Rattle.jobsteps.specs.State.{due_of}
-use Rattle.job.specs.declared.Answer.{Answer}
-use Rattle.job.specs.declared.Answer.TheVariants.{Taken, Refused}
-use Rattle.job.specs.Reader.{read_of, LinesRead, Listed, JobRead}
+use Rattle.std.specs.Prelude.{Result, Ok, Err, IsErrAnd}
+use Rattle.std.proofs.lemmas.Result.{err_from_is_err_and}
+use Rattle.joblines.specs.declared.Refusal.TheVariants.{TooLong, NotAscii, NotListed}
+use Rattle.job.specs.declared.Refused.{Refused}
+use Rattle.job.specs.Reader.{refused_at, read_of, LinesRead, Listed, JobRead}
 
 -- ---- there is no further line
 module _ (job : Bytes) (at line : ℕ) (d : Due) (head : Header) (t : Bool) (et : t ≡ is_nothing (due_of [] d)) where
-  abbrev ended : Answer
-  ended = cond (is_nothing (due_of [] d)) (cond (eqb at (length job)) (Taken head) (Refused 4 line)) (Refused 4 line)
+  abbrev ended : Result Header Refused
+  ended = cond (is_nothing (due_of [] d)) (cond (eqb at (length job)) (Ok head) (Err (refused_at line))) (Err (refused_at line))
 
-  pub end_due : not t ≡ true → Refused 4 line ≡ ended
+  pub end_due : not t ≡ true → Err (refused_at line) ≡ ended
   end_due h = rw (← et, not-true t h)
 
   module _ (h : not t ≡ false) where
-    pub end_before : (at ≡ length job → ⊥) → Refused 4 line ≡ ended
+    pub end_before : (at ≡ length job → ⊥) → Err (refused_at line) ≡ ended
     end_before n = rw (← et, not-false t h, ne_eqb at (length job) n)
 
-    pub end_at : at ≡ length job → Taken head ≡ ended
+    pub end_at : at ≡ length job → Ok head ≡ ended
     end_at e = rw (← et, not-false t h, eq-eqb at (length job) e)
 
 -- ---- `start` and `top`
@@ -63,18 +65,18 @@ module _ (job index : List ℕ) (head : Header) where
     f_is : f ≡ row_of (path_at job index) j.start head.files
     f_is = ef ∙ ap (λ p. row_of (path_at job index) p head.files) es
 
-    pub start_not : f ≡ 0 → Listed job index head (Refused 7 0)
+    pub start_not : f ≡ 0 → Listed job index head (Err (record { refusal = NotListed; line = 0 }))
     start_not z = record { says = sym (rw (start_any, ← f_is, z)); found = tt; counts = omega arith }
 
     module _ (nf : f ≡ 0 → ⊥) (t : Bytes) (et : t ≡ take head.top.len (drop head.top.at job)) (m : ℕ) (em : m ≡ row_of (name_at job index) t head.modules) where
       m_is : m ≡ row_of (name_at job index) j.top head.modules
       m_is = em ∙ ap (λ p. row_of (name_at job index) p head.modules) et
 
-      pub top_not : m ≡ 0 → Listed job index head (Refused 7 0)
+      pub top_not : m ≡ 0 → Listed job index head (Err (record { refusal = NotListed; line = 0 }))
       top_not z = record { says = sym (rw (start_any, ← f_is, top_any, ← m_is, z, and-false)); found = tt; counts = omega arith }
 
       pub listed_on : (m ≡ 0 → ⊥) → (head.files ≤ 32) × (head.modules ≤ 128)
-          → Listed job index head (Taken (record { top = head.top; over = head.over; start = head.start; files = head.files; modules = head.modules; startfile = f - 1; topmodule = m - 1 }))
+          → Listed job index head (Ok (record { top = head.top; over = head.over; start = head.start; files = head.files; modules = head.modules; startfile = f - 1; topmodule = m - 1 }))
       listed_on nm b =
           let lf = row_le (path_at job index) j.start head.files in
           let lm = row_le (name_at job index) j.top head.modules in
@@ -93,34 +95,25 @@ module _ (job index : List ℕ) (head : Header) where
 
 -- ---- the whole
 module _ (job index : List ℕ) where
-  pub job_long : 65536 < length job → JobRead job index index (Refused 2 0)
+  pub job_long : 65536 < length job → JobRead job index index (Err (record { refusal = TooLong; line = 0 }))
   unfolding parse
   job_long h = record { says = rw (lt-leb (length job) 65536 h); found = tt; counts = omega arith; long = refl; kept = refl }
 
   module _ (h : length job ≤ 65536) (t : Bool) (et : t ≡ all is_ascii job) where
-    pub job_not_ascii : not t ≡ true → JobRead job index index (Refused 3 0)
+    pub job_not_ascii : not t ≡ true → JobRead job index index (Err (record { refusal = NotAscii; line = 0 }))
     unfolding parse
     job_not_ascii g = record { says = rw (le-leb (length job) 65536 h, ← et, not-true t g); found = tt; counts = omega arith; long = refl; kept = refl }
 
-    module _ (g : not t ≡ false) (index' : List ℕ) (r : Answer) (s : LinesRead job index index' r) where
+    module _ (g : not t ≡ false) (index' : List ℕ) (r : Result Header Refused) (s : LinesRead job index index' r) where
       parse_is : parse job ≡ listed (read_of job index' r)
       unfolding parse
       parse_is = rw (le-leb (length job) 65536 h, ← et, not-false t g, s.says)
 
-      pub job_refused : (x n : ℕ) → r ≡ Refused x n → JobRead job index index' (Refused x n)
-      job_refused x n e = record { says = sym (parse_is ∙ rw e); found = tt; counts = rw e at s.counts; long = s.long; kept = s.kept }
+      pub job_refused : (x : Refused) → r ≡ Err x → (a : Result Header Refused) → IsErrAnd a (λ y. y ≡ x) → JobRead job index index' a
+      job_refused x e a q =
+          let p = err_from_is_err_and a q in
+          rw (p.1, p.2) (record { says = sym (parse_is ∙ rw e); found = tt; counts = rw e at s.counts; long = s.long; kept = s.kept })
 
-      module _ (head : Header) (e : r ≡ Taken head) where
-        pub job_listed : (a : Answer) → Listed job index' head a → JobRead job index index' a
+      module _ (head : Header) (e : r ≡ Ok head) where
+        pub job_listed : (a : Result Header Refused) → Listed job index' head a → JobRead job index index' a
         job_listed a l = record { says = l.says ∙ sym (parse_is ∙ rw e); found = l.found; counts = l.counts; long = s.long; kept = s.kept }
-
--- the counts of what the lines come to
-module _ (job index index' : List ℕ) (r : Answer) (s : LinesRead job index index' r) (head : Header) (e : r ≡ Taken head) where
-  taken_bounds : (head.files ≤ 32) × (head.modules ≤ 128)
-  taken_bounds = rw e at s.counts
-
-  pub taken_files : head.files ≤ 32
-  taken_files = taken_bounds.0
-
-  pub taken_modules : head.modules ≤ 128
-  taken_modules = taken_bounds.1

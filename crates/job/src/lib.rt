@@ -1,25 +1,25 @@
 // The job, read line by line: checks 2 to 7, and an index of its files and modules in the lent area.
 #![tactic(auto)]
 
-ghost use Rattle.std.specs.Prelude.{◌≡◌, cond, [], ◌+◌, ◌≤◌, length, drop, eqb};
+ghost use Rattle.std.specs.Prelude.{◌≡◌, cond, [], ◌+◌, ◌≤◌, length, drop, eqb, Ok, Err};
 ghost use Rattle.text.specs.Classes.{is_ascii};
 ghost use Rattle.text.specs.Scan.{all};
 ghost use Rattle.joblines.specs.Lines.{read_line};
 ghost use Rattle.joblines.specs.Parse.{is_nothing};
-ghost use Rattle.job.specs.declared.Answer.TheVariants.{Taken, Refused};
 ghost use Rattle.jobindex.specs.Index.{index_size};
 ghost use Rattle.jobsteps.specs.State.{due_of, job_now, line_of, Stands, Asked, Stepped};
-ghost use Rattle.job.specs.Reader.{Low, LinesRead, Listed, JobRead};
+ghost use Rattle.job.specs.Reader.{refused_at, Low, LinesRead, Listed, JobRead};
 
+use fields::Style;
 use jobindex::{Header, Open, Span};
+use joblines::Refusal;
 use jobsteps::{Due, Step};
-use place::Cut;
 
-// What the job comes to: it is refused, by a number, at a line; or it is taken.
-#[derive(Clone, Copy)]
-pub enum Answer {
-    Refused { number: u8, line: usize },
-    Taken { head: Header },
+// The job is refused: the check that fails first, and the line that it fails at, 0 where it is none's.
+#[derive(PartialEq, Eq, Clone, Copy, Debug)]
+pub struct Refused {
+    pub refusal: Refusal,
+    pub line: usize,
 }
 
 // One line, by what is due.
@@ -31,7 +31,7 @@ pub fn line_step(
     due: Due,
     head: Header,
     opened: Open,
-) -> Step
+) -> Result<Step, Refusal>
     requires { Asked job.now index.old from end (Stands job.now index.old due head opened from) }
     ensures { Stepped job.now index.old index.new from (read_line (due_of job.now due) (job_now job.now index.old due head opened) (line_of job.now from end) (drop (end + 1) job.now)) result }
 {
@@ -48,7 +48,7 @@ pub fn line_step(
         Due::Ports => jobsteps::ports_step(job, index, from, end, head, opened),
         Due::Decls => jobsteps::decls_step(job, index, from, end, head, opened),
         Due::Insts => jobsteps::conns_step(job, index, from, end, head, opened),
-        Due::Nothing => Step::Refused(4),
+        Due::Nothing => Err(Refusal::Malformed),
     }
 }
 
@@ -56,44 +56,27 @@ pub fn line_step(
 fn is_nothing(due: Due) -> bool
     ensures { result ≡ is_nothing (due_of [] due) }
 {
-    match due {
-        Due::Top => false,
-        Due::Override => false,
-        Due::Start => false,
-        Due::File => false,
-        Due::Bytes { at: _, len: _ } => false,
-        Due::More => false,
-        Due::Style { at: _, len: _ } => false,
-        Due::Ports => false,
-        Due::Decls => false,
-        Due::Insts => false,
-        Due::Nothing => true,
-    }
+    matches!(due, Due::Nothing)
 }
 
 // There is no further line.
-fn ending(job: &[u8], at: usize, line: usize, due: Due, head: Header) -> Answer
-    ensures { result ≡ cond (is_nothing (due_of [] due)) (cond (eqb at (length job.now)) (Taken head) (Refused 4 line)) (Refused 4 line) }
+fn ending(job: &[u8], at: usize, line: usize, due: Due, head: Header) -> Result<Header, Refused>
+    ensures { result ≡ cond (is_nothing (due_of [] due)) (cond (eqb at (length job.now)) (Ok head) (Err (refused_at line))) (Err (refused_at line)) }
 {
-    if !is_nothing(due) {
-        return Answer::Refused { number: 4, line };
+    if !is_nothing(due) || at != job.len() {
+        let refusal = Refusal::Malformed;
+        return Err(Refused { refusal, line });
     }
-    if at != job.len() {
-        return Answer::Refused { number: 4, line };
-    }
-    Answer::Taken { head }
+    Ok(head)
 }
 
 // The lines of the job.
-pub fn lines(job: &[u8], index: &mut [u32]) -> Answer
+pub fn lines(job: &[u8], index: &mut [u32]) -> Result<Header, Refused>
     requires { (length job.now ≤ 65536) × (index_size ≤ length index.old) }
     ensures { LinesRead job.now index.old index.new result }
 {
-    let mut p = 0;
-    let mut n = 0;
-    let mut due = Due::Top;
     let none = Span { at: 0, len: 0 };
-    let mut head = Header {
+    let head = Header {
         top: none,
         over: none,
         start: none,
@@ -102,9 +85,9 @@ pub fn lines(job: &[u8], index: &mut [u32]) -> Answer
         startfile: 0,
         topmodule: 0,
     };
-    let mut opened = Open {
+    let opened = Open {
         name: none,
-        style: 0,
+        style: Style::Ansi,
         ports: 0,
         decls: 0,
         insts: 0,
@@ -114,30 +97,30 @@ pub fn lines(job: &[u8], index: &mut [u32]) -> Answer
         ninsts: 0,
         nconns: 0,
     };
+    let mut step = Step {
+        at: 0,
+        due: Due::Top,
+        head,
+        opened,
+    };
+    let mut n = 0;
     loop {
-        let m = place::cut_line(job, p, n);
-        let next = m.place;
-        let cut = m.cut;
-        n = next.line;
-        let Cut::Line { from, end } = cut else {
-            return ending(job, p, n, due, head);
+        let m = place::cut_line(job, step.at, n);
+        n = m.place.line;
+        let Some(line) = m.cut else {
+            return ending(job, step.at, n, step.due, step.head);
         };
-        let step = line_step(job, &mut index[..], from, end, due, head, opened);
-        match step {
-            Step::Refused(x) => {
-                return Answer::Refused { number: x, line: n };
-            }
-            Step::On {
-                at,
-                due: d,
-                head: h,
-                opened: o,
-            } => {
-                p = at;
-                due = d;
-                head = h;
-                opened = o;
-            }
+        match line_step(
+            job,
+            &mut index[..],
+            line.from,
+            line.end,
+            step.due,
+            step.head,
+            step.opened,
+        ) {
+            Ok(next) => step = next,
+            Err(refusal) => return Err(Refused { refusal, line: n }),
         }
     }
 }
@@ -161,12 +144,10 @@ fn eight_low(job: &[u8], i: usize) -> bool
 fn each_low(job: &[u8], at: usize) -> bool
     ensures { result ≡ all is_ascii (drop at job.now) }
 {
-    let mut i = at;
-    while i < job.len() {
+    for i in at..job.len() {
         if !text::class::is_ascii(job[i]) {
             return false;
         }
-        i += 1;
     }
     true
 }
@@ -186,7 +167,7 @@ pub fn is_ascii(job: &[u8]) -> bool
 }
 
 // Whether `start` and `top` are listed; their rows are set.
-fn listed(job: &[u8], index: &[u32], head: Header) -> Answer
+fn listed(job: &[u8], index: &[u32], head: Header) -> Result<Header, Refused>
     requires { (head.files ≤ 32) × (head.modules ≤ 128) }
     ensures { Listed job.now index.now head result }
 {
@@ -199,34 +180,43 @@ fn listed(job: &[u8], index: &[u32], head: Header) -> Answer
         text::part::part(job, start.at, start.len),
     );
     if file == 0 {
-        return Answer::Refused { number: 7, line: 0 };
+        return Err(Refused {
+            refusal: Refusal::NotListed,
+            line: 0,
+        });
     }
     let top = head.top;
     let modules = head.modules;
     let root = jobindex::module_row(job, index, modules, text::part::part(job, top.at, top.len));
     if root == 0 {
-        return Answer::Refused { number: 7, line: 0 };
+        return Err(Refused {
+            refusal: Refusal::NotListed,
+            line: 0,
+        });
     }
     let mut head = head;
     head.startfile = file - 1;
     head.topmodule = root - 1;
-    Answer::Taken { head }
+    Ok(head)
 }
 
 // The job, read: refused by checks 2 to 7, or taken, with its files and modules in the index.
-pub fn read_job(job: &[u8], index: &mut [u32]) -> Answer
+pub fn read_job(job: &[u8], index: &mut [u32]) -> Result<Header, Refused>
     requires { index_size ≤ length index.old }
     ensures { JobRead job.now index.old index.new result }
 {
     if 65536 < job.len() {
-        return Answer::Refused { number: 2, line: 0 };
+        return Err(Refused {
+            refusal: Refusal::TooLong,
+            line: 0,
+        });
     }
     if !is_ascii(job) {
-        return Answer::Refused { number: 3, line: 0 };
+        return Err(Refused {
+            refusal: Refusal::NotAscii,
+            line: 0,
+        });
     }
-    let read = lines(job, &mut index[..]);
-    match read {
-        Answer::Refused { number, line } => Answer::Refused { number, line },
-        Answer::Taken { head } => listed(job, &index[..], head),
-    }
+    let head = lines(job, &mut index[..])?;
+    listed(job, &index[..], head)
 }

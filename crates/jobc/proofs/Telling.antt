@@ -6,8 +6,9 @@ use mathlib.Core.List.{List}
 use lib.ListN.{length}
 use borrow.Author.Tests.{le-leb, lt-leb}
 use Rattle.jobindex.specs.declared.Header.{Header}
-use Rattle.job.specs.declared.Answer.{Answer}
-use Rattle.job.specs.declared.Answer.TheVariants.{Taken, Refused}
+use Rattle.std.specs.Prelude.{Result, Ok, Err}
+use Rattle.joblines.specs.Forms.{number_of}
+use Rattle.job.specs.declared.Refused.{Refused}
 use Rattle.job.specs.Reader.{JobRead}
 use Rattle.jobc.specs.Told.{checked}
 
@@ -16,15 +17,15 @@ module _ (job index : List ℕ) where
   unfolding checked
   tell_short h = rw (lt-leb 1280 (length index) h)
 
-  module _ (index' : List ℕ) (r : Answer) (s : JobRead job index index' r) where
-    module _ (x n : ℕ) (e : r ≡ Refused x n) where
-      pub tell_refused : 1280 ≤ length index → x * 4294967296 + n ≡ checked (length index) job
+  module _ (index' : List ℕ) (r : Result Header Refused) (s : JobRead job index index' r) where
+    module _ (x : Refused) (e : r ≡ Err x) where
+      pub tell_refused : (k : ℕ) → k ≡ number_of x.refusal → 1280 ≤ length index → k * 4294967296 + x.line ≡ checked (length index) job
       unfolding checked
-      tell_refused h = rw (le-leb 1280 (length index) h, ← s.says, e)
+      tell_refused k ek h = rw (ek, le-leb 1280 (length index) h, ← s.says, e)
 
-      pub line_small : n ≤ 65537
+      pub line_small : x.line ≤ 65537
       line_small = rw e at s.counts
 
-    pub tell_taken : (head : Header) → r ≡ Taken head → 1280 ≤ length index → 0 ≡ checked (length index) job
+    pub tell_taken : (head : Header) → r ≡ Ok head → 1280 ≤ length index → 0 ≡ checked (length index) job
     unfolding checked
     tell_taken head e h = rw (le-leb 1280 (length index) h, ← s.says, e)

@@ -4,8 +4,6 @@
 ghost use Rattle.std.specs.Prelude.{◌≡◌, length};
 ghost use Rattle.jobc.specs.Told.{checked};
 
-use job::Answer;
-
 // What the job comes to, as one number; `index` gets the index of a job that is accepted.
 pub fn upf_job_check(job: &[u8], index: &mut [u32]) -> u64
     ensures { result ≡ checked (length index.old) job.now }
@@ -13,9 +11,8 @@ pub fn upf_job_check(job: &[u8], index: &mut [u32]) -> u64
     if index.len() < 1280 {
         return 4294967296;
     }
-    let a = job::read_job(job, &mut index[..]);
-    match a {
-        Answer::Refused { number, line } => (number as u64) * 4294967296 + line as u64,
-        Answer::Taken { head: _ } => 0,
+    match job::read_job(job, &mut index[..]) {
+        Err(r) => (r.refusal.number() as u64) * 4294967296 + r.line as u64,
+        Ok(_) => 0,
     }
 }

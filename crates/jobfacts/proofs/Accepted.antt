@@ -1,8 +1,7 @@
 -- Every accepted job is well formed.
 -- Assumes nothing.
-use Rattle.std.specs.Prelude.{◌≡◌, refl, ℕ, zero, suc, ◌+◌, Bool, true, false, cond, ◌&&◌, ◌||◌, List, [], ◌∷◌, length, leb}
+use Rattle.std.specs.Prelude.{◌≡◌, refl, ℕ, zero, suc, ◌+◌, Bool, true, false, cond, ◌&&◌, ◌||◌, List, [], ◌∷◌, length, leb, Option, None, Some}
 use Rattle.std.proofs.Common.{ap, ◌∙◌, arith}
-use Rattle.std.proofs.Math.Option.{Option, none, some}
 use Rattle.text.specs.Ascii.{Bytes}
 use Rattle.text.specs.Classes.{is_ascii, in_name}
 use Rattle.text.specs.Compare.{same}
@@ -18,15 +17,15 @@ use Rattle.jobfacts.specs.Kept.{Goes, top_kept, override_kept, start_kept, file_
 
 -- ---- one line
 abbrev Keeps : Due → (Job → Bytes → Bytes → Option Read) → Type 0
-Keeps d K = (j j' : Job) (line rest rest' : Bytes) (d' : Due) → Goes d j → K j line rest ≡ some (on d' j' rest') → Goes d' j'
+Keeps d K = (j j' : Job) (line rest rest' : Bytes) (d' : Due) → Goes d j → K j line rest ≡ Some (on d' j' rest') → Goes d' j'
 
 first_kept : (d : Due) (ks : List (Job → Bytes → Bytes → Option Read)) → All (Keeps d) ks → (j j' : Job) (line rest rest' : Bytes) (d' : Due) → Goes d j → first_of ks j line rest ≡ on d' j' rest' → Goes d' j'
 first_kept d [] a j j' line rest rest' d' g h = absurd (let z : ◌≡◌ {A = ℕ} 0 1 = cc in omega arith)
 first_kept d (K ∷ ks) a j j' line rest rest' d' g h = go (K j line rest) refl h (λ e. first_kept d ks a.1 j j' line rest rest' d' g e)
   where
     go : (o : Option Read) → K j line rest ≡ o → or_else o (first_of ks j line rest) ≡ on d' j' rest' → (first_of ks j line rest ≡ on d' j' rest' → Goes d' j') → Goes d' j'
-    go none e q f = f q
-    go (some r) e q f = a.0 j j' line rest rest' d' g (e ∙ ap some q)
+    go None e q f = f q
+    go (Some r) e q f = a.0 j j' line rest rest' d' g (e ∙ ap Some q)
 
 kinds_kept : (d : Due) → All (Keeps d) (kinds_due d)
 kinds_kept due_top = ((λ j j' line rest rest' d' g. top_kept j j' line rest rest' d' g.0), tt)

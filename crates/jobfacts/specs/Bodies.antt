@@ -1,12 +1,10 @@
 -- The bodies of an accepted job's files have together no more bytes than the job.
 -- Assumes nothing.
-use Rattle.std.specs.Prelude.{◌≡◌, refl, Bool, cond, ◌&&◌, drop, leb, ltb}
+use Rattle.std.specs.Prelude.{◌≡◌, refl, Bool, cond, ◌&&◌, drop, leb, ltb, option_map, Option, None, Some}
 use Prim.Native.Nat.{ℕ, zero, suc, ◌+◌, ◌-◌, ◌≤◌}
 use Rattle.std.proofs.Common.{arith, leb-true}
 use Rattle.std.proofs.Math.Bool.{true, false}
 use mathlib.Core.List.{List, [], ◌∷◌, ◌++◌, map}
-use Rattle.std.proofs.Math.Option
-use Rattle.std.proofs.Math.Option.{Option, none, some}
 use Rattle.std.proofs.Math.ListN.{length, take, length-take, length-drop}
 use Rattle.text.specs.Ascii.{Bytes, ascii}
 use Rattle.text.specs.Classes.{is_ascii}
@@ -34,8 +32,8 @@ Fits n (refuse x) = Unit {0}
 Fits n (on d j rest) = body_size j.files + length rest ≤ n
 
 unfoldable FitsIf : ℕ → Option Read → Type 0
-FitsIf n none = Unit {0}
-FitsIf n (some r) = Fits n r
+FitsIf n None = Unit {0}
+FitsIf n (Some r) = Fits n r
 
 module _ (n : ℕ) where
   then_fits : {A : Type 0} (c : Checked A) (go : A → Read) → ((a : A) → Fits n (go a)) → Fits n (and_then c go)
@@ -48,10 +46,10 @@ module _ (n : ℕ) where
   when_fits true r f = f
   when_fits false r f = tt
 
-  map_fits : {A : Type 0} (R : Option (Checked A)) (go : A → Read) → ((a : A) → Fits n (go a)) → FitsIf n (Option.map (λ (r : Checked A). and_then r go) R)
+  map_fits : {A : Type 0} (R : Option (Checked A)) (go : A → Read) → ((a : A) → Fits n (go a)) → FitsIf n (option_map (λ (r : Checked A). and_then r go) R)
   unfolding FitsIf
-  map_fits none go f = tt
-  map_fits (some c) go f = then_fits c go f
+  map_fits None go f = tt
+  map_fits (Some c) go f = then_fits c go f
 
   on_fits : (d : Due) (j : Job) (rest : Bytes) → body_size j.files + length rest ≤ n → Fits n (on d j rest)
   unfolding Fits
@@ -127,8 +125,8 @@ module _ (n : ℕ) where
 
     or_fits : (r : Option Read) (r' : Read) → FitsIf n r → Fits n r' → Fits n (or_else r r')
     unfolding FitsIf
-    or_fits none r' f g = g
-    or_fits (some r) r' f g = f
+    or_fits None r' f g = g
+    or_fits (Some r) r' f g = f
 
     first_fits : (ks : List (Job → Bytes → Bytes → Option Read)) → All (λ (k : Job → Bytes → Bytes → Option Read). FitsIf n (k j line rest)) ks → Fits n (first_of ks j line rest)
     unfolding Fits

@@ -1,12 +1,10 @@
 -- Each line kind keeps a job good.
 -- Assumes nothing.
-use Rattle.std.specs.Prelude.{◌≡◌, ℕ, suc, ◌+◌, ◌<◌, Bool, false, cond, ◌&&◌, ◌||◌, ltb}
+use Rattle.std.specs.Prelude.{◌≡◌, ℕ, suc, ◌+◌, ◌<◌, Bool, false, cond, ◌&&◌, ◌||◌, ltb, option_map, Option, None, Some}
 use Rattle.std.proofs.Math.Path.{refl, ap}
 use Rattle.std.proofs.Common.{◌∙◌, sym, arith}
 use Rattle.std.proofs.Math.Bool.{true, not}
 use mathlib.Core.List.{List, [], ◌∷◌, ◌++◌, map, map-append}
-use Rattle.std.proofs.Math.Option
-use Rattle.std.proofs.Math.Option.{Option, none, some}
 use Rattle.std.proofs.Math.ListN.{length, take, drop, length-append, length-map}
 use borrow.Author.Tests.{ltb-true, not-true}
 use Rattle.text.specs.Ascii.{Bytes, ascii}
@@ -93,62 +91,62 @@ Goes d j = GoodLists j × Pending d j
 
 -- ---- what a kind goes on with
 module _ {A : Type 0} (go : A → Read) (d : Due) (j : Job) (rest : Bytes) where
-  pub went_on : (R : Option (Checked A)) → Option.map (λ (r : Checked A). and_then r go) R ≡ some (on d j rest) → (a : A) × ((R ≡ some (good a)) × (go a ≡ on d j rest))
-  went_on none h = absurd (let z : ◌≡◌ {A = ℕ} 0 1 = cc in omega arith)
-  went_on (some (bad n)) h = absurd (let z : ◌≡◌ {A = ℕ} 0 1 = cc in omega arith)
-  went_on (some (good a)) h = (a, (refl, cc))
+  pub went_on : (R : Option (Checked A)) → option_map (λ (r : Checked A). and_then r go) R ≡ Some (on d j rest) → (a : A) × ((R ≡ Some (good a)) × (go a ≡ on d j rest))
+  went_on None h = absurd (let z : ◌≡◌ {A = ℕ} 0 1 = cc in omega arith)
+  went_on (Some (bad n)) h = absurd (let z : ◌≡◌ {A = ℕ} 0 1 = cc in omega arith)
+  went_on (Some (good a)) h = (a, (refl, cc))
 
 -- ---- names of forms
-port_name : (s : Style) (fs : List Bytes) (p : Port) → port_of s fs ≡ some p → is_name p.name ≡ true
+port_name : (s : Style) (fs : List Bytes) (p : Port) → port_of s fs ≡ Some p → is_name p.name ≡ true
 unfolding port_of
 port_name s [] p h = absurd (let z : ◌≡◌ {A = ℕ} 0 1 = cc in omega arith)
 port_name s (d ∷ []) p h = absurd (let z : ◌≡◌ {A = ℕ} 0 1 = cc in omega arith)
 port_name s (d ∷ n ∷ []) p h = go (dir_of d) h
   where
-    go : (o : Option Dir) → as_port s o n ≡ some p → is_name p.name ≡ true
-    go none g = absurd (let z : ◌≡◌ {A = ℕ} 0 1 = cc in omega arith)
-    go (some d) g =
+    go : (o : Option Dir) → as_port s o n ≡ Some p → is_name p.name ≡ true
+    go None g = absurd (let z : ◌≡◌ {A = ℕ} 0 1 = cc in omega arith)
+    go (Some d) g =
         let w = when_is (may_have s d && is_name n) (record { dir = d; name = n }) p g in
         ap (λ (q : Port). is_name q.name) (sym w.1) ∙ (both (may_have s d) (is_name n) w.0).1
 port_name s (d ∷ n ∷ e ∷ fs) p h = absurd (let z : ◌≡◌ {A = ℕ} 0 1 = cc in omega arith)
 
-decl_name : (fs : List Bytes) (d : Decl) → decl_of fs ≡ some d → is_name d.name ≡ true
+decl_name : (fs : List Bytes) (d : Decl) → decl_of fs ≡ Some d → is_name d.name ≡ true
 unfolding decl_of
 decl_name [] d h = absurd (let z : ◌≡◌ {A = ℕ} 0 1 = cc in omega arith)
 decl_name (k ∷ []) d h = absurd (let z : ◌≡◌ {A = ℕ} 0 1 = cc in omega arith)
 decl_name (k ∷ a ∷ []) d h = absurd (let z : ◌≡◌ {A = ℕ} 0 1 = cc in omega arith)
 decl_name (k ∷ a ∷ n ∷ []) d h = go (kind_of k) (dims_of a) h
   where
-    go : (o : Option Kind) (p : Option Bool) → as_decl o p n ≡ some d → is_name d.name ≡ true
-    go none p g = absurd (let z : ◌≡◌ {A = ℕ} 0 1 = cc in omega arith)
-    go (some k) none g = absurd (let z : ◌≡◌ {A = ℕ} 0 1 = cc in omega arith)
-    go (some k) (some b) g =
+    go : (o : Option Kind) (p : Option Bool) → as_decl o p n ≡ Some d → is_name d.name ≡ true
+    go None p g = absurd (let z : ◌≡◌ {A = ℕ} 0 1 = cc in omega arith)
+    go (Some k) None g = absurd (let z : ◌≡◌ {A = ℕ} 0 1 = cc in omega arith)
+    go (Some k) (Some b) g =
         let w = when_is (is_name n) (record { kind = k; dims = b; name = n }) d g in
         ap (λ (q : Decl). is_name q.name) (sym w.1) ∙ w.0
 decl_name (k ∷ a ∷ n ∷ e ∷ fs) d h = absurd (let z : ◌≡◌ {A = ℕ} 0 1 = cc in omega arith)
 
-inst_names : (fs : List Bytes) (i : Inst) → inst_of fs ≡ some i → (is_name i.name ≡ true) × (is_name i.type ≡ true)
+inst_names : (fs : List Bytes) (i : Inst) → inst_of fs ≡ Some i → (is_name i.name ≡ true) × (is_name i.type ≡ true)
 unfolding inst_of
 inst_names [] i h = absurd (let z : ◌≡◌ {A = ℕ} 0 1 = cc in omega arith)
 inst_names (d ∷ []) i h = absurd (let z : ◌≡◌ {A = ℕ} 0 1 = cc in omega arith)
 inst_names (d ∷ n ∷ []) i h = absurd (let z : ◌≡◌ {A = ℕ} 0 1 = cc in omega arith)
 inst_names (d ∷ n ∷ m ∷ []) i h = go (dims_of d) h
   where
-    go : (o : Option Bool) → as_inst o n m ≡ some i → (is_name i.name ≡ true) × (is_name i.type ≡ true)
-    go none g = absurd (let z : ◌≡◌ {A = ℕ} 0 1 = cc in omega arith)
-    go (some b) g =
+    go : (o : Option Bool) → as_inst o n m ≡ Some i → (is_name i.name ≡ true) × (is_name i.type ≡ true)
+    go None g = absurd (let z : ◌≡◌ {A = ℕ} 0 1 = cc in omega arith)
+    go (Some b) g =
         let w = when_is (is_name n && is_name m) (record { dims = b; name = n; type = m; conns = [] }) i g in
         let t = both (is_name n) (is_name m) w.0 in
         (ap (λ (q : Inst). is_name q.name) (sym w.1) ∙ t.0, ap (λ (q : Inst). is_name q.type) (sym w.1) ∙ t.1)
 inst_names (d ∷ n ∷ m ∷ e ∷ fs) i h = absurd (let z : ◌≡◌ {A = ℕ} 0 1 = cc in omega arith)
 
-conn_names : (fs : List Bytes) (c : Conn) → conn_of fs ≡ some c → GoodConn c
+conn_names : (fs : List Bytes) (c : Conn) → conn_of fs ≡ Some c → GoodConn c
 unfolding conn_of
 conn_names [] c h = absurd (let z : ◌≡◌ {A = ℕ} 0 1 = cc in omega arith)
 conn_names (k ∷ []) c h = rw (← (when_is (same k (ascii "star")) star c h).1) tt
 conn_names (k ∷ a ∷ []) c h = go (same k (ascii "implicit")) (same k (ascii "pos")) h
   where
-    go : (p q : Bool) → cond p (when (is_name a) (implicit a)) (cond q (when (is_net a) (pos a)) none) ≡ some c → GoodConn c
+    go : (p q : Bool) → cond p (when (is_name a) (implicit a)) (cond q (when (is_net a) (pos a)) None) ≡ Some c → GoodConn c
     go true q g = let w = when_is (is_name a) (implicit a) c g in rw (← w.1) w.0
     go false true g = let w = when_is (is_net a) (pos a) c g in rw (← w.1) w.0
     go false false g = absurd (let z : ◌≡◌ {A = ℕ} 0 1 = cc in omega arith)
@@ -179,25 +177,25 @@ module _ (d d' : Due) (j j' : Job) (rest rest' : Bytes) where
       (rw ej at g.0, rw (ed, ej) at g.1)
 
 module _ (j j' : Job) (line rest rest' : Bytes) (d' : Due) (g : GoodLists j) where
-  pub top_kept : top_line j line rest ≡ some (on d' j' rest') → Goes d' j'
+  pub top_kept : top_line j line rest ≡ Some (on d' j' rest') → Goes d' j'
   unfolding top_line
   top_kept h =
       let w = went_on _ d' j' rest' (when (starts_with (ascii "top=") line) (check (when (is_name (drop 4 line)) (drop 4 line)) true (λ _. true))) (map_when _ (starts_with (ascii "top=") line) _ ∙ h) in
       goes_as due_override d' _ j' rest rest' w.1.1 (as_before j _ refl refl g, tt)
 
-  pub override_kept : override_line j line rest ≡ some (on d' j' rest') → Goes d' j'
+  pub override_kept : override_line j line rest ≡ Some (on d' j' rest') → Goes d' j'
   unfolding override_line
   override_kept h =
       let w = when_is (starts_with (ascii "override=") line) (on due_start (record { top = j.top; override = drop 9 line; start = j.start; files = j.files; modules = j.modules }) rest) (on d' j' rest') h in
       goes_as due_start d' _ j' rest rest' w.1 (as_before j _ refl refl g, tt)
 
-  pub start_kept : start_line j line rest ≡ some (on d' j' rest') → Goes d' j'
+  pub start_kept : start_line j line rest ≡ Some (on d' j' rest') → Goes d' j'
   unfolding start_line
   start_kept h =
       let w = went_on _ d' j' rest' (when (starts_with (ascii "start=") line) (check (when (is_path (drop 6 line)) (drop 6 line)) true (λ _. true))) (map_when _ (starts_with (ascii "start=") line) _ ∙ h) in
       goes_as due_file d' _ j' rest rest' w.1.1 (as_before j _ refl refl g, tt)
 
-  pub file_kept : file_line j line rest ≡ some (on d' j' rest') → Goes d' j'
+  pub file_kept : file_line j line rest ≡ Some (on d' j' rest') → Goes d' j'
   unfolding file_line file_read
   file_kept h =
       let paths = map (λ (f : File). f.path) j.files in
@@ -207,7 +205,7 @@ module _ (j j' : Job) (line rest rest' : Bytes) (d' : Due) (g : GoodLists j) whe
       goes_as (due_bytes w.0) d' j j' rest rest' w.1.1
       (g, (ap is_path (sym v.1) ∙ v.0, (omega (arith, ltb-true (length paths) 32 t.few, length-map j.files (λ (f : File). f.path)), not-true (any (λ q. same q w.0) paths) t.fresh)))
 
-  pub module_kept : module_line j line rest ≡ some (on d' j' rest') → Goes d' j'
+  pub module_kept : module_line j line rest ≡ Some (on d' j' rest') → Goes d' j'
   unfolding module_line module_read
   module_kept h =
       let names = map (λ (m : Module). m.name) j.modules in
@@ -217,11 +215,11 @@ module _ (j j' : Job) (line rest rest' : Bytes) (d' : Due) (g : GoodLists j) whe
       goes_as (due_style w.0) d' j j' rest rest' w.1.1
       (g, (ap is_name (sym v.1) ∙ v.0, (omega (arith, ltb-true (length names) 128 t.few, length-map j.modules (λ (m : Module). m.name)), not-true (any (λ q. same q w.0) names) t.fresh)))
 
-  pub end_kept : end_line j line rest ≡ some (on d' j' rest') → Goes d' j'
+  pub end_kept : end_line j line rest ≡ Some (on d' j' rest') → Goes d' j'
   unfolding end_line
   end_kept h = let w = when_is (same line (ascii "end=")) (on due_nothing j rest) (on d' j' rest') h in goes_as due_nothing d' j j' rest rest' w.1 (g, tt)
 
-  pub bytes_kept : (p : Bytes) → Pending (due_bytes p) j → bytes_line p j line rest ≡ some (on d' j' rest') → Goes d' j'
+  pub bytes_kept : (p : Bytes) → Pending (due_bytes p) j → bytes_line p j line rest ≡ Some (on d' j' rest') → Goes d' j'
   unfolding bytes_line
   bytes_kept p q h =
       let w = went_on _ d' j' rest' (when (starts_with (ascii "bytes=") line) (check (when (is_decimal (drop 6 line) && is_body (value_from 0 (drop 6 line)) rest) (value_from 0 (drop 6 line))) true (λ _. true))) (map_when _ (starts_with (ascii "bytes=") line) _ ∙ h) in
@@ -238,7 +236,7 @@ module _ (j j' : Job) (line rest rest' : Bytes) (d' : Due) (g : GoodLists j) whe
         tt,
       )
 
-  pub style_kept : (n : Bytes) → Pending (due_style n) j → style_line n j line rest ≡ some (on d' j' rest') → Goes d' j'
+  pub style_kept : (n : Bytes) → Pending (due_style n) j → style_line n j line rest ≡ Some (on d' j' rest') → Goes d' j'
   unfolding style_line distinct
   style_kept n q h =
       let w = went_on _ d' j' rest' (when (starts_with (ascii "style=") line) (check (style_of (drop 6 line)) true (λ _. true))) (map_when _ (starts_with (ascii "style=") line) _ ∙ h) in
@@ -267,7 +265,7 @@ module _ (j j' : Job) (line rest rest' : Bytes) (d' : Due) (g : GoodLists j) whe
         modules_distinct = rw (on_last_map (λ (m : Module). m.name) f n j.modules) g.modules_distinct;
       }
 
-  pub port_kept : port_line j line rest ≡ some (on d' j' rest') → Goes d' j'
+  pub port_kept : port_line j line rest ≡ Some (on d' j' rest') → Goes d' j'
   unfolding port_read
   port_kept h =
       let w = went_on (λ p. on due_ports (with_modules j (on_last (add_port p) j.modules)) rest) d' j' rest' (port_read (this_module j).style (length (this_module j).ports) line) (sym (port_line_is j line rest) ∙ h) in
@@ -286,7 +284,7 @@ module _ (j j' : Job) (line rest rest' : Bytes) (d' : Due) (g : GoodLists j) whe
         tt,
       )
 
-  pub decl_kept : decl_line j line rest ≡ some (on d' j' rest') → Goes d' j'
+  pub decl_kept : decl_line j line rest ≡ Some (on d' j' rest') → Goes d' j'
   unfolding decl_read
   decl_kept h =
       let w = went_on (λ p. on due_decls (with_modules j (on_last (add_decl p) j.modules)) rest) d' j' rest' (decl_read (length (this_module j).decls) line) (sym (decl_line_is j line rest) ∙ h) in
@@ -305,7 +303,7 @@ module _ (j j' : Job) (line rest rest' : Bytes) (d' : Due) (g : GoodLists j) whe
         tt,
       )
 
-  pub inst_kept : inst_line j line rest ≡ some (on d' j' rest') → Goes d' j'
+  pub inst_kept : inst_line j line rest ≡ Some (on d' j' rest') → Goes d' j'
   unfolding inst_line inst_read
   inst_kept h =
       let names = map (λ (k : Inst). k.name) (this_module j).insts in
@@ -327,7 +325,7 @@ module _ (j j' : Job) (line rest rest' : Bytes) (d' : Due) (g : GoodLists j) whe
         tt,
       )
 
-  pub conn_kept : conn_line j line rest ≡ some (on d' j' rest') → Goes d' j'
+  pub conn_kept : conn_line j line rest ≡ Some (on d' j' rest') → Goes d' j'
   unfolding conn_read
   conn_kept h =
       let w = went_on (λ c. on due_insts (with_modules j (on_last (λ m. with_insts m (on_last (add_conn c) m.insts)) j.modules)) rest) d' j' rest' (conn_read (length (this_inst j).conns) line) (sym (conn_line_is j line rest) ∙ h) in

@@ -1,9 +1,9 @@
 -- What lines come to beside the index, from the tests that the code makes: t is whether the line has the key, v its value.
 -- Assumes nothing.
+use Rattle.std.specs.Prelude.{Option, None, Some, Ok, Err}
 use mathlib.Core.Path.{◌≡◌, ap, ◌∙◌, sym}
-use Prim.Native.Nat.{ℕ, ◌-◌, ◌<◌, ◌≤◌}
+use Prim.Native.Nat.{ℕ, ◌<◌, ◌≤◌}
 use mathlib.Core.Bool.{Bool, true, false, not}
-use mathlib.Core.Option.{some}
 use lib.ListN.{take, drop}
 use lib.Dec.{ltb}
 use borrow.Author.Rules.{rules}
@@ -12,43 +12,37 @@ use Rattle.text.specs.Ascii.{Bytes, ascii}
 use Rattle.text.specs.Compare.{same, starts_with}
 use Rattle.text.specs.Scan.{any}
 use Rattle.text.specs.Numbers.{number_of}
-use Rattle.text.specs.declared.number.Num.{Num}
-use Rattle.text.specs.declared.number.Num.TheVariants.{Bad}
 use Rattle.fields.specs.Fields.{is_name, is_path}
-use Rattle.fields.specs.declared.Dims.{Dims}
-use Rattle.joblines.specs.Job.{Inst}
 use Rattle.joblines.specs.Lines.{check, fields, file_read, module_read, inst_of, inst_read}
 use Rattle.joblines.specs.Forms.{inst_meant, InstIn, verdict}
-use Rattle.joblines.specs.declared.Look.TheVariants.{Other, Refused, Good}
+use Rattle.joblines.specs.declared.Refusal.TheVariants.{Malformed, OverLimit, NotNew}
 use Rattle.joblines.specs.declared.form.InstForm.{InstForm}
-use Rattle.joblines.specs.declared.form.InstForm.TheVariants as inst
-use Rattle.jobindex.specs.declared.look.InstLook.TheVariants as look
 use Rattle.jobindex.specs.Index.{rows, row_of}
 use Rattle.jobindex.specs.Looks.{name_of, InstSeen, bytes_of}
 use Rattle.jobindex.specs.Rows.{rows_length, row_any}
 
 -- ---- file=PATH
 module _ (f : ℕ → Bytes) (count : ℕ) (line : Bytes) (t : Bool) (et : t ≡ starts_with (ascii "file=") line) where
-  pub file_other : not t ≡ true → Other ≡ verdict (file_read (rows f count) line)
+  pub file_other : not t ≡ true → Ok false ≡ verdict (file_read (rows f count) line)
   unfolding file_read
   file_other h = rw (← et, not-true t h)
 
   module _ (h : not t ≡ false) (v : Bytes) (ev : v ≡ drop 5 line) (p : Bool) (ep : p ≡ is_path v) where
-    pub file_bad : not p ≡ true → Refused 4 ≡ verdict (file_read (rows f count) line)
+    pub file_bad : not p ≡ true → Err 4 ≡ verdict (file_read (rows f count) line)
     unfolding file_read
     file_bad g = rw (← et, not-false t h, ← ev, ← ep, not-true p g)
 
     module _ (g : not p ≡ false) where
-      pub file_many : 32 ≤ count → Refused 5 ≡ verdict (file_read (rows f count) line)
+      pub file_many : 32 ≤ count → Err 5 ≡ verdict (file_read (rows f count) line)
       unfolding file_read
       file_many m = rw (← et, not-false t h, ← ev, ← ep, not-false p g, rows_length f count, le-ltb count 32 m)
 
       module _ (m : count < 32) (r : ℕ) (er : r ≡ row_of f v count) where
-        pub file_old : 0 < r → Refused 6 ≡ verdict (file_read (rows f count) line)
+        pub file_old : 0 < r → Err 6 ≡ verdict (file_read (rows f count) line)
         unfolding file_read
         file_old n = rw (← et, not-false t h, ← ev, ← ep, not-false p g, rows_length f count, lt-ltb count 32 m, row_any f v count, ← er, lt-ltb 0 r n)
 
-        pub file_new : r ≤ 0 → Good ≡ verdict (file_read (rows f count) line)
+        pub file_new : r ≤ 0 → Ok true ≡ verdict (file_read (rows f count) line)
         unfolding file_read
         file_new n = rw (← et, not-false t h, ← ev, ← ep, not-false p g, rows_length f count, lt-ltb count 32 m, row_any f v count, ← er, le-ltb 0 r n)
 
@@ -56,26 +50,26 @@ pub ruleset file_lines = (rules, file_other, file_bad, file_many, file_old, file
 
 -- ---- module=NAME
 module _ (f : ℕ → Bytes) (count : ℕ) (line : Bytes) (t : Bool) (et : t ≡ starts_with (ascii "module=") line) where
-  pub module_other : not t ≡ true → Other ≡ verdict (module_read (rows f count) line)
+  pub module_other : not t ≡ true → Ok false ≡ verdict (module_read (rows f count) line)
   unfolding module_read
   module_other h = rw (← et, not-true t h)
 
   module _ (h : not t ≡ false) (v : Bytes) (ev : v ≡ drop 7 line) (p : Bool) (ep : p ≡ is_name v) where
-    pub module_bad : not p ≡ true → Refused 4 ≡ verdict (module_read (rows f count) line)
+    pub module_bad : not p ≡ true → Err 4 ≡ verdict (module_read (rows f count) line)
     unfolding module_read
     module_bad g = rw (← et, not-false t h, ← ev, ← ep, not-true p g)
 
     module _ (g : not p ≡ false) where
-      pub module_many : 128 ≤ count → Refused 5 ≡ verdict (module_read (rows f count) line)
+      pub module_many : 128 ≤ count → Err 5 ≡ verdict (module_read (rows f count) line)
       unfolding module_read
       module_many m = rw (← et, not-false t h, ← ev, ← ep, not-false p g, rows_length f count, le-ltb count 128 m)
 
       module _ (m : count < 128) (r : ℕ) (er : r ≡ row_of f v count) where
-        pub module_old : 0 < r → Refused 6 ≡ verdict (module_read (rows f count) line)
+        pub module_old : 0 < r → Err 6 ≡ verdict (module_read (rows f count) line)
         unfolding module_read
         module_old n = rw (← et, not-false t h, ← ev, ← ep, not-false p g, rows_length f count, lt-ltb count 128 m, row_any f v count, ← er, lt-ltb 0 r n)
 
-        pub module_new : r ≤ 0 → Good ≡ verdict (module_read (rows f count) line)
+        pub module_new : r ≤ 0 → Ok true ≡ verdict (module_read (rows f count) line)
         unfolding module_read
         module_new n = rw (← et, not-false t h, ← ev, ← ep, not-false p g, rows_length f count, lt-ltb count 128 m, row_any f v count, ← er, le-ltb 0 r n)
 
@@ -83,27 +77,27 @@ pub ruleset module_lines = (rules, module_other, module_bad, module_many, module
 
 -- ---- inst=D NAME MODULE
 module _ (f : ℕ → Bytes) (count : ℕ) (line : Bytes) (t : Bool) (et : t ≡ starts_with (ascii "inst=") line) where
-  pub inst_other : not t ≡ true → InstSeen line (rows f count) look.Other
+  pub inst_other : not t ≡ true → InstSeen line (rows f count) (Ok None)
   unfolding inst_read
   inst_other h = record { says = rw (← et, not-true t h); within = tt }
 
-  module _ (h : not t ≡ false) (v : Bytes) (ev : v ≡ drop 5 line) (m : InstForm) (em : (inst_meant v m ≡ inst_of (fields v)) × InstIn v m) where
-    inst_is_lem : inst_read (rows f count) line ≡ some (check (inst_meant v m) (ltb count 64) (λ i. not (any (λ n. same n i.name) (rows f count))))
+  module _ (h : not t ≡ false) (v : Bytes) (ev : v ≡ drop 5 line) (m : Option InstForm) (em : (inst_meant v m ≡ inst_of (fields v)) × InstIn v m) where
+    inst_is_lem : inst_read (rows f count) line ≡ Some (check (inst_meant v m) (ltb count 64) (λ i. not (any (λ n. same n i.name) (rows f count))))
     unfolding inst_read
     inst_is_lem = rw (← et, not-false t h, ← ev, em.0, rows_length f count)
 
-    pub inst_bad : m ≡ inst.Bad → InstSeen line (rows f count) (look.Refused 4)
+    pub inst_bad : m ≡ None → InstSeen line (rows f count) (Err Malformed)
     inst_bad e = record { says = sym (ap name_of inst_is_lem ∙ rw e); within = tt }
 
-    module _ (d : Dims) (n l k : ℕ) (e : m ≡ inst.Inst d n l k) where
-      pub inst_many : 64 ≤ count → InstSeen line (rows f count) (look.Refused 5)
+    module _ (x : InstForm) (e : m ≡ Some x) where
+      pub inst_many : 64 ≤ count → InstSeen line (rows f count) (Err OverLimit)
       inst_many g = record { says = sym (ap name_of inst_is_lem ∙ rw (e, le-ltb count 64 g)); within = tt }
 
-      module _ (g : count < 64) (p : Bytes) (ep : p ≡ take l (drop n v)) (r : ℕ) (er : r ≡ row_of f p count) where
-        pub inst_old : 0 < r → InstSeen line (rows f count) (look.Refused 6)
+      module _ (g : count < 64) (p : Bytes) (ep : p ≡ take x.len (drop x.name v)) (r : ℕ) (er : r ≡ row_of f p count) where
+        pub inst_old : 0 < r → InstSeen line (rows f count) (Err NotNew)
         inst_old q = record { says = sym (ap name_of inst_is_lem ∙ rw (e, lt-ltb count 64 g, ← ep, row_any f p count, ← er, lt-ltb 0 r q)); within = tt }
 
-        pub inst_new : r ≤ 0 → InstSeen line (rows f count) (look.Good n l)
+        pub inst_new : r ≤ 0 → InstSeen line (rows f count) (Ok (Some (record { at = x.name; len = x.len })))
         inst_new q =
             record {
               says = sym (ap name_of inst_is_lem ∙ rw (e, lt-ltb count 64 g, ← ep, row_any f p count, ← er, le-ltb 0 r q, ep, ev));
@@ -114,11 +108,11 @@ pub ruleset inst_lines = (rules, inst_other, inst_bad, inst_many, inst_old, inst
 
 -- ---- bytes=N
 module _ (line : Bytes) (t : Bool) (et : t ≡ starts_with (ascii "bytes=") line) where
-  pub bytes_other : not t ≡ true → Bad ≡ bytes_of line
+  pub bytes_other : not t ≡ true → None ≡ bytes_of line
   unfolding bytes_of
   bytes_other h = rw (← et, not-true t h)
 
-  pub bytes_is : not t ≡ false → (v : Bytes) → v ≡ drop 6 line → (r : Num) → r ≡ number_of 65536 v → r ≡ bytes_of line
+  pub bytes_is : not t ≡ false → (v : Bytes) → v ≡ drop 6 line → (r : Option ℕ) → r ≡ number_of 65536 v → r ≡ bytes_of line
   unfolding bytes_of
   bytes_is h v ev r er = rw (← et, not-false t h, ← ev) er
 

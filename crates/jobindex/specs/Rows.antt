@@ -12,6 +12,7 @@ use Rattle.text.specs.Ascii.{Bytes}
 use Rattle.text.specs.Compare.{same}
 use Rattle.text.specs.Scan.{any}
 use Rattle.text.specs.Sames.{same_eq}
+use Rattle.fields.specs.Meant.{style_number}
 use Rattle.jobindex.specs.declared.Open.{Open}
 use Rattle.jobindex.specs.Index.{num, bytes_at, path_at, body_at, file_at, module_of, row_at, module_row, inst_at, rows, row_of}
 use Rattle.jobindex.specs.Stores.{with_file, with_module, with_name}
@@ -215,7 +216,7 @@ module _ (job : Bytes) (index : List ℕ) (k : ℕ) (o : Open) (few : k < 128) (
   moduled = with_module index k o
 
   abbrev numbers : List ℕ
-  numbers = o.name.at ∷ o.name.len ∷ o.style ∷ o.ports ∷ o.decls ∷ o.insts ∷ o.end ∷ o.ninsts ∷ []
+  numbers = o.name.at ∷ o.name.len ∷ style_number o.style ∷ o.ports ∷ o.decls ∷ o.insts ∷ o.end ∷ o.ninsts ∷ []
 
   module_puts : moduled ≡ puts index (row_at k) numbers
   module_puts =
@@ -232,13 +233,13 @@ module _ (job : Bytes) (index : List ℕ) (k : ℕ) (o : Open) (few : k < 128) (
   pub module_before : (i : ℕ) → i < row_at k → num moduled i ≡ num index i
   module_before i h = rw module_puts (puts_before index (row_at k) numbers i h)
 
-  pub module_new : module_row job moduled k ≡ module_of job o.name.at o.name.len o.style o.ports o.decls o.insts o.end
+  pub module_new : module_row job moduled k ≡ module_of job o.name.at o.name.len (style_number o.style) o.ports o.decls o.insts o.end
   unfolding module_row
   module_new =
       let z : num moduled (row_at k) ≡ o.name.at = ap (num moduled) (sym (add-zero (row_at k))) ∙ module_in 0 (omega arith) in
       rw (z, module_in 1 (omega arith), module_in 2 (omega arith), module_in 3 (omega arith), module_in 4 (omega arith), module_in 5 (omega arith), module_in 6 (omega arith))
 
-  pub modules_put : rows (module_row job moduled) (k + 1) ≡ rows (module_row job index) k ++ (module_of job o.name.at o.name.len o.style o.ports o.decls o.insts o.end ∷ [])
+  pub modules_put : rows (module_row job moduled) (k + 1) ≡ rows (module_row job index) k ++ (module_of job o.name.at o.name.len (style_number o.style) o.ports o.decls o.insts o.end ∷ [])
   modules_put = rows_more (module_row job moduled) k ∙ rw (modules_same job index moduled k (λ i h g. module_before i g), module_new)
 
   pub module_files : (n : ℕ) → n ≤ 32 → rows (file_at job moduled) n ≡ rows (file_at job index) n

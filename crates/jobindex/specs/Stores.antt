@@ -1,6 +1,7 @@
 -- The index after a row is put.
 -- Assumes nothing.
 use Rattle.std.specs.Prelude.{ℕ, ◌+◌, ◌*◌, ◌^◌, ◌<◌, List, set}
+use Rattle.fields.specs.Meant.{style_number}
 use Rattle.jobindex.specs.declared.Open.{Open}
 use Rattle.jobindex.specs.Index.{row_at}
 
@@ -13,7 +14,7 @@ with_file index k at len body size = with_four index (4 * k) at len body size
 
 abbrev pub with_module : List ℕ → ℕ → Open → List ℕ
 with_module index k o =
-    with_four (with_four index (row_at k) o.name.at o.name.len o.style o.ports) (row_at k + 4) o.decls o.insts o.end o.ninsts
+    with_four (with_four index (row_at k) o.name.at o.name.len (style_number o.style) o.ports) (row_at k + 4) o.decls o.insts o.end o.ninsts
 
 abbrev pub with_name : List ℕ → ℕ → ℕ → ℕ → List ℕ
 with_name index k at len = set (set index (1152 + 2 * k) at) (1152 + 2 * k + 1) len

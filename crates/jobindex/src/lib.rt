@@ -12,15 +12,17 @@ ghost use Rattle.jobindex.specs.Stores.{Fits, with_four, with_file, with_module,
 
 pub mod look;
 
+use fields::Style;
+
 // A part of the job: where it begins, and its length.
-#[derive(Clone, Copy)]
+#[derive(PartialEq, Eq, Clone, Copy, Debug)]
 pub struct Span {
     pub at: usize,
     pub len: usize,
 }
 
 // What was read beside the design, how many files and modules there are, and the rows of the start file and the top module.
-#[derive(Clone, Copy)]
+#[derive(PartialEq, Eq, Clone, Copy, Debug)]
 pub struct Header {
     pub top: Span,
     pub over: Span,
@@ -33,10 +35,10 @@ pub struct Header {
 
 // The module that is being read: its name and style, where its ports, declarations and instances begin, where it ends, and how many lines
 // of each kind it has (of connections: its last instance).
-#[derive(Clone, Copy)]
+#[derive(PartialEq, Eq, Clone, Copy, Debug)]
 pub struct Open {
     pub name: Span,
-    pub style: u32,
+    pub style: Style,
     pub ports: usize,
     pub decls: usize,
     pub insts: usize,
@@ -160,7 +162,7 @@ pub fn put_module(index: &mut [u32], k: usize, m: Open)
         i,
         name.at as u32,
         name.len as u32,
-        m.style,
+        m.style.into(),
         m.ports as u32,
     );
     put_four(

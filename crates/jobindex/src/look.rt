@@ -1,98 +1,95 @@
 // The lines whose value has to be new: they are looked at beside the index.
 ghost use Rattle.std.specs.Prelude.{◌≡◌, ◌≤◌};
-ghost use Rattle.joblines.specs.Forms.{verdict};
+ghost use Rattle.joblines.specs.Forms.{numbered, verdict};
 ghost use Rattle.joblines.specs.Lines.{file_read, module_read};
 ghost use Rattle.jobindex.specs.Index.{path_at, name_at, inst_at, rows};
 ghost use Rattle.jobindex.specs.Looks.{InstSeen, bytes_of};
 
-use joblines::Look;
-use joblines::form::InstForm;
+use super::Span;
+use joblines::Refusal;
 
-// A file line, in a job that has `count` files.
-pub fn file_line(job: &[u8], index: &[u32], line: &[u8], count: usize) -> Look
+// Whether a line is a file line, good in a job that has `count` files. Where its key is another kind's, it is none.
+#[tactic(auto, using(crate::proofs::Looks::file_lines))]
+pub fn file_line(job: &[u8], index: &[u32], line: &[u8], count: usize) -> Result<bool, Refusal>
     requires { count ≤ 32 }
-    ensures { result ≡ verdict (file_read (rows (path_at job.now index.now) count) line.now) }
+    ensures { numbered result ≡ verdict (file_read (rows (path_at job.now index.now) count) line.now) }
 {
     if !text::compare::starts_with(line, b"file=") {
-        return Look::Other;
+        return Ok(false);
     }
     let v = text::part::rest(line, 5);
     if !fields::is_path(v) {
-        return Look::Refused(4);
+        return Err(Refusal::Malformed);
     }
     if 32 <= count {
-        return Look::Refused(5);
+        return Err(Refusal::OverLimit);
     }
     if 0 < super::file_row(job, index, count, v) {
-        return Look::Refused(6);
+        return Err(Refusal::NotNew);
     }
-    Look::Good
+    Ok(true)
 }
 
-// A module line, in a job that has `count` modules.
-pub fn module_line(job: &[u8], index: &[u32], line: &[u8], count: usize) -> Look
+// Whether a line is a module line, good in a job that has `count` modules.
+#[tactic(auto, using(crate::proofs::Looks::module_lines))]
+pub fn module_line(job: &[u8], index: &[u32], line: &[u8], count: usize) -> Result<bool, Refusal>
     requires { count ≤ 128 }
-    ensures { result ≡ verdict (module_read (rows (name_at job.now index.now) count) line.now) }
+    ensures { numbered result ≡ verdict (module_read (rows (name_at job.now index.now) count) line.now) }
 {
     if !text::compare::starts_with(line, b"module=") {
-        return Look::Other;
+        return Ok(false);
     }
     let v = text::part::rest(line, 7);
     if !fields::is_name(v) {
-        return Look::Refused(4);
+        return Err(Refusal::Malformed);
     }
     if 128 <= count {
-        return Look::Refused(5);
+        return Err(Refusal::OverLimit);
     }
     if 0 < super::module_row(job, index, count, v) {
-        return Look::Refused(6);
+        return Err(Refusal::NotNew);
     }
-    Look::Good
+    Ok(true)
 }
 
-// What an instance line comes to, with its name's offset in the line's value and its length.
-#[derive(Clone, Copy)]
-pub enum InstLook {
-    Other,
-    Refused(u8),
-    Good { name: usize, len: usize },
-}
-
-// An instance line, in a module that has `count` instances.
-pub fn inst_line(job: &[u8], index: &[u32], line: &[u8], count: usize) -> InstLook
+// The name of the instance line that a line is, good in a module that has `count` instances: where it stands in the line's value.
+#[tactic(auto, using(crate::proofs::Looks::inst_lines))]
+pub fn inst_line(
+    job: &[u8],
+    index: &[u32],
+    line: &[u8],
+    count: usize,
+) -> Result<Option<Span>, Refusal>
     requires { count ≤ 64 }
     ensures { InstSeen line.now (rows (inst_at job.now index.now) count) result }
 {
     if !text::compare::starts_with(line, b"inst=") {
-        return InstLook::Other;
+        return Ok(None);
     }
     let v = text::part::rest(line, 5);
-    let f = joblines::form::inst_form(v);
-    match f {
-        InstForm::Bad => InstLook::Refused(4),
-        InstForm::Inst {
-            dims: _,
-            name,
-            len,
-            kind: _,
-        } => {
-            if 64 <= count {
-                return InstLook::Refused(5);
-            }
-            if 0 < super::inst_row(job, index, count, text::part::part(v, name, len)) {
-                return InstLook::Refused(6);
-            }
-            InstLook::Good { name, len }
-        }
+    let Some(f) = joblines::form::inst_form(v) else {
+        return Err(Refusal::Malformed);
+    };
+    if 64 <= count {
+        return Err(Refusal::OverLimit);
     }
+    if 0 < super::inst_row(job, index, count, text::part::part(v, f.name, f.len)) {
+        return Err(Refusal::NotNew);
+    }
+    let name = Span {
+        at: f.name,
+        len: f.len,
+    };
+    Ok(Some(name))
 }
 
 // The number of a line `bytes=N` with N at most 65,536; none where it is no such line.
-pub fn bytes_line(line: &[u8]) -> text::number::Num
+#[tactic(auto, using(crate::proofs::Looks::bytes_lines))]
+pub fn bytes_line(line: &[u8]) -> Option<usize>
     ensures { result ≡ bytes_of line.now }
 {
     if !text::compare::starts_with(line, b"bytes=") {
-        return text::number::Num::Bad;
+        return None;
     }
     text::number::number(text::part::rest(line, 6), 65536)
 }

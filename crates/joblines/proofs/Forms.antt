@@ -6,7 +6,7 @@ use native.Mathlib.Nat.{sub-zero}
 use native.Mathlib.Omega.{arith}
 use mathlib.Core.Bool.{Bool, true, false, not, ◌&&◌, and-false}
 use mathlib.Core.List.{List, [], ◌∷◌}
-use mathlib.Core.Option.{Option, none, some}
+use Rattle.std.specs.Prelude.{Option, None, Some}
 use lib.ListN.{length, take, drop}
 use lib.Dec.{ltb}
 use lib.Seq.{take_all}
@@ -55,35 +55,35 @@ port_last : (s : Style) (d w : Bytes) → port_of s (d ∷ fields w) ≡ as_port
 unfolding port_of
 port_last s d w = last_field w (λ fs. port_of s (d ∷ fs) ≡ as_port s (dir_of d) w) refl (λ h x y zs. go (dir_of d) h)
   where
-    go : (o : Option Dir) → spaced w ≡ true → none ≡ as_port s o w
-    go none h = refl
-    go (some d) h = rw (name_spaced w h, and-false)
+    go : (o : Option Dir) → spaced w ≡ true → None ≡ as_port s o w
+    go None h = refl
+    go (Some d) h = rw (name_spaced w h, and-false)
 
 -- ---- KIND D NAME
 decl_last : (k d w : Bytes) → decl_of (k ∷ d ∷ fields w) ≡ as_decl (kind_of k) (dims_of d) w
 unfolding decl_of
 decl_last k d w = last_field w (λ fs. decl_of (k ∷ d ∷ fs) ≡ as_decl (kind_of k) (dims_of d) w) refl (λ h x y zs. go (kind_of k) (dims_of d) h)
   where
-    go : (o : Option Kind) (p : Option Bool) → spaced w ≡ true → none ≡ as_decl o p w
-    go none p h = refl
-    go (some k) none h = refl
-    go (some k) (some d) h = rw (name_spaced w h)
+    go : (o : Option Kind) (p : Option Bool) → spaced w ≡ true → None ≡ as_decl o p w
+    go None p h = refl
+    go (Some k) None h = refl
+    go (Some k) (Some d) h = rw (name_spaced w h)
 
 -- ---- D NAME MODULE
 inst_last : (d n w : Bytes) → inst_of (d ∷ n ∷ fields w) ≡ as_inst (dims_of d) n w
 unfolding inst_of
 inst_last d n w = last_field w (λ fs. inst_of (d ∷ n ∷ fs) ≡ as_inst (dims_of d) n w) refl (λ h x y zs. go (dims_of d) h)
   where
-    go : (o : Option Bool) → spaced w ≡ true → none ≡ as_inst o n w
-    go none h = refl
-    go (some d) h = rw (name_spaced w h, and-false)
+    go : (o : Option Bool) → spaced w ≡ true → None ≡ as_inst o n w
+    go None h = refl
+    go (Some d) h = rw (name_spaced w h, and-false)
 
 -- ---- a connection
 pub conn_implicit : (w : Bytes) → conn_of (ascii "implicit" ∷ fields w) ≡ when (is_name w) (implicit w)
 unfolding conn_of same
 conn_implicit w = last_field w (λ fs. conn_of (ascii "implicit" ∷ fs) ≡ when (is_name w) (implicit w)) refl (λ h x y zs. rw (name_spaced w h) (go x y zs))
   where
-    go : (x y : Bytes) (zs : List Bytes) → conn_of (ascii "implicit" ∷ x ∷ y ∷ zs) ≡ none
+    go : (x y : Bytes) (zs : List Bytes) → conn_of (ascii "implicit" ∷ x ∷ y ∷ zs) ≡ None
     go x y [] = refl
     go x y (z ∷ zs) = refl
 
@@ -91,7 +91,7 @@ pub conn_pos : (w : Bytes) → conn_of (ascii "pos" ∷ fields w) ≡ when (is_n
 unfolding conn_of same
 conn_pos w = last_field w (λ fs. conn_of (ascii "pos" ∷ fs) ≡ when (is_net w) (pos w)) refl (λ h x y zs. rw (net_spaced w h) (go x y zs))
   where
-    go : (x y : Bytes) (zs : List Bytes) → conn_of (ascii "pos" ∷ x ∷ y ∷ zs) ≡ none
+    go : (x y : Bytes) (zs : List Bytes) → conn_of (ascii "pos" ∷ x ∷ y ∷ zs) ≡ None
     go x y [] = refl
     go x y (z ∷ zs) = refl
 
@@ -99,18 +99,18 @@ pub conn_named : (n w : Bytes) → conn_of (ascii "named" ∷ n ∷ fields w) �
 unfolding conn_of same
 conn_named n w = last_field w (λ fs. conn_of (ascii "named" ∷ n ∷ fs) ≡ when (is_name n && is_net w) (named n w)) refl (λ h x y zs. rw (net_spaced w h, and-false))
 
-conn_none : (k w : Bytes) → same k (ascii "implicit") ≡ false → same k (ascii "pos") ≡ false → same k (ascii "named") ≡ false → conn_of (k ∷ fields w) ≡ none
+conn_none : (k w : Bytes) → same k (ascii "implicit") ≡ false → same k (ascii "pos") ≡ false → same k (ascii "named") ≡ false → conn_of (k ∷ fields w) ≡ None
 unfolding conn_of
-conn_none k w i p n = last_field w (λ fs. conn_of (k ∷ fs) ≡ none) (rw (i, p)) (λ h x y zs. go x y zs)
+conn_none k w i p n = last_field w (λ fs. conn_of (k ∷ fs) ≡ None) (rw (i, p)) (λ h x y zs. go x y zs)
   where
-    go : (x y : Bytes) (zs : List Bytes) → conn_of (k ∷ x ∷ y ∷ zs) ≡ none
+    go : (x y : Bytes) (zs : List Bytes) → conn_of (k ∷ x ∷ y ∷ zs) ≡ None
     go x y [] = rw n
     go x y (z ∷ zs) = refl
 
 -- ---- as the code tests them: a is where the first field ends, b where the second does
-some_not : {A : Type 0} (o : Option A) (k : Bool) → k ≡ is_some o → not k ≡ true → o ≡ none
-some_not none k e h = refl
-some_not (some a) k e h = absurd (no_true (sym (not-true k h) ∙ e))
+some_not : {A : Type 0} (o : Option A) (k : Bool) → k ≡ is_some o → not k ≡ true → o ≡ None
+some_not None k e h = refl
+some_not (Some a) k e h = absurd (no_true (sym (not-true k h) ∙ e))
 
 module _ (v : Bytes) (a : ℕ) (at : Ends (0 + up_to space (drop 0 v)) (length v) a) where
   one : a ≡ length v → fields v ≡ v ∷ []
@@ -119,15 +119,15 @@ module _ (v : Bytes) (a : ℕ) (at : Ends (0 + up_to space (drop 0 v)) (length v
   two : (a ≡ length v → ⊥) → fields v ≡ take a v ∷ fields (drop (a + 1) v)
   two l = cut_more space v 0 a at (omega (arith, at.within)) ∙ rw sub-zero
 
-  pub port_one_lem : a ≡ length v → none ≡ port_of ansi (fields v)
+  pub port_one_lem : a ≡ length v → None ≡ port_of ansi (fields v)
   unfolding port_of
   port_one_lem l = rw (one l)
 
-  pub decl_one : a ≡ length v → none ≡ decl_of (fields v)
+  pub decl_one : a ≡ length v → None ≡ decl_of (fields v)
   unfolding decl_of
   decl_one l = rw (one l)
 
-  pub inst_one : a ≡ length v → none ≡ inst_of (fields v)
+  pub inst_one : a ≡ length v → None ≡ inst_of (fields v)
   unfolding inst_of
   inst_one l = rw (one l)
 
@@ -139,18 +139,18 @@ module _ (v : Bytes) (a : ℕ) (at : Ends (0 + up_to space (drop 0 v)) (length v
       port_is : port_of ansi (fields v) ≡ as_port ansi (dir_meant d) (drop (a + 1) v)
       port_is = rw (two l, port_last ansi (take a v) (drop (a + 1) v), ed, ep)
 
-      pub port_dir : not k ≡ true → none ≡ port_of ansi (fields v)
+      pub port_dir : not k ≡ true → None ≡ port_of ansi (fields v)
       port_dir h = sym (port_is ∙ rw (some_not (dir_meant d) k ek h))
 
       module _ (w : Bytes) (ew : w ≡ drop (a + 1) v) (m : Bool) (em : m ≡ is_name w) where
-        pub port_name : not m ≡ true → none ≡ port_of ansi (fields v)
+        pub port_name : not m ≡ true → None ≡ port_of ansi (fields v)
         port_name h = sym (port_is ∙ go (dir_meant d))
           where
-            go : (o : Option Dir) → as_port ansi o (drop (a + 1) v) ≡ none
-            go none = refl
-            go (some d) = rw (← ew, ← em, not-true m h)
+            go : (o : Option Dir) → as_port ansi o (drop (a + 1) v) ≡ None
+            go None = refl
+            go (Some d) = rw (← ew, ← em, not-true m h)
 
-        pub port_good : not k ≡ false → not m ≡ false → some (record { dir = dir_is d; name = drop (a + 1) v }) ≡ port_of ansi (fields v)
+        pub port_good : not k ≡ false → not m ≡ false → Some (record { dir = dir_is d; name = drop (a + 1) v }) ≡ port_of ansi (fields v)
         port_good g h =
             let e : is_name (drop (a + 1) v) ≡ true = ap is_name (sym ew) ∙ (sym em ∙ not-false m h) in
             sym (port_is ∙ rw (dir_known d k ek g, e))
@@ -162,11 +162,11 @@ module _ (v : Bytes) (a : ℕ) (at : Ends (0 + up_to space (drop 0 v)) (length v
     three : (b ≡ length v → ⊥) → fields v ≡ take a v ∷ take (b - (a + 1)) (drop (a + 1) v) ∷ fields (drop (b + 1) v)
     three h = two l ∙ ap (λ fs. take a v ∷ fs) (cut_more space v (a + 1) b bt (omega (arith, bt.within)))
 
-    pub decl_two : b ≡ length v → none ≡ decl_of (fields v)
+    pub decl_two : b ≡ length v → None ≡ decl_of (fields v)
     unfolding decl_of
     decl_two h = rw (two_only h)
 
-    pub inst_two : b ≡ length v → none ≡ inst_of (fields v)
+    pub inst_two : b ≡ length v → None ≡ inst_of (fields v)
     unfolding inst_of
     inst_two h = rw (two_only h)
 
@@ -178,30 +178,30 @@ module _ (v : Bytes) (a : ℕ) (at : Ends (0 + up_to space (drop 0 v)) (length v
 
     module _ (h : b ≡ length v → ⊥) (p : Bytes) (ep : p ≡ take a (drop 0 v)) where
       module _ (kind : Kind·code) (ek : kind_meant kind ≡ kind_of p) (x : Bool) (ex : x ≡ is_some (kind_meant kind)) where
-        pub decl_kind : not x ≡ true → none ≡ decl_of (fields v)
+        pub decl_kind : not x ≡ true → None ≡ decl_of (fields v)
         decl_kind g = sym (rw (three h, decl_last (take a v) (take (b - (a + 1)) (drop (a + 1) v)) (drop (b + 1) v), ← ep, ← ek, some_not (kind_meant kind) x ex g))
 
         module _ (q : Bytes) (eq : q ≡ take (b - (a + 1)) (drop (a + 1) v)) (d : Dims) (ed : dims_meant d ≡ dims_of q) (y : Bool) (ey : y ≡ is_some (dims_meant d)) where
           decl_is : decl_of (fields v) ≡ as_decl (kind_meant kind) (dims_meant d) (drop (b + 1) v)
           decl_is = rw (three h, decl_last (take a v) (take (b - (a + 1)) (drop (a + 1) v)) (drop (b + 1) v), ← ep, ← eq, ek, ed)
 
-          pub decl_dims : not y ≡ true → none ≡ decl_of (fields v)
+          pub decl_dims : not y ≡ true → None ≡ decl_of (fields v)
           decl_dims g = sym (decl_is ∙ rw (some_not (dims_meant d) y ey g) (go (kind_meant kind)))
             where
-              go : (o : Option Kind) → as_decl o none (drop (b + 1) v) ≡ none
-              go none = refl
-              go (some k) = refl
+              go : (o : Option Kind) → as_decl o None (drop (b + 1) v) ≡ None
+              go None = refl
+              go (Some k) = refl
 
           module _ (w : Bytes) (ew : w ≡ drop (b + 1) v) (m : Bool) (em : m ≡ is_name w) where
-            pub decl_name : not m ≡ true → none ≡ decl_of (fields v)
+            pub decl_name : not m ≡ true → None ≡ decl_of (fields v)
             decl_name g = sym (decl_is ∙ go (kind_meant kind) (dims_meant d))
               where
-                go : (o : Option Kind) (o' : Option Bool) → as_decl o o' (drop (b + 1) v) ≡ none
-                go none o' = refl
-                go (some k) none = refl
-                go (some k) (some d) = rw (← ew, ← em, not-true m g)
+                go : (o : Option Kind) (o' : Option Bool) → as_decl o o' (drop (b + 1) v) ≡ None
+                go None o' = refl
+                go (Some k) None = refl
+                go (Some k) (Some d) = rw (← ew, ← em, not-true m g)
 
-            pub decl_good : not x ≡ false → not y ≡ false → not m ≡ false → some (record { kind = kind_is kind; dims = dims_is d; name = drop (b + 1) v }) ≡ decl_of (fields v)
+            pub decl_good : not x ≡ false → not y ≡ false → not m ≡ false → Some (record { kind = kind_is kind; dims = dims_is d; name = drop (b + 1) v }) ≡ decl_of (fields v)
             decl_good gx gy g =
                 let e : is_name (drop (b + 1) v) ≡ true = ap is_name (sym ew) ∙ (sym em ∙ not-false m g) in
                 sym (decl_is ∙ rw (kind_known kind x ex gx, dims_known d y ey gy, e))
@@ -210,26 +210,26 @@ module _ (v : Bytes) (a : ℕ) (at : Ends (0 + up_to space (drop 0 v)) (length v
         inst_is_lem : inst_of (fields v) ≡ as_inst (dims_meant d) (take (b - (a + 1)) (drop (a + 1) v)) (drop (b + 1) v)
         inst_is_lem = rw (three h, inst_last (take a v) (take (b - (a + 1)) (drop (a + 1) v)) (drop (b + 1) v), ← ep, ed)
 
-        pub inst_dims : not y ≡ true → none ≡ inst_of (fields v)
+        pub inst_dims : not y ≡ true → None ≡ inst_of (fields v)
         inst_dims g = sym (inst_is_lem ∙ rw (some_not (dims_meant d) y ey g))
 
         module _ (q : Bytes) (eq : q ≡ take (b - (a + 1)) (drop (a + 1) v)) (m : Bool) (em : m ≡ is_name q) where
-          pub inst_name : not m ≡ true → none ≡ inst_of (fields v)
+          pub inst_name : not m ≡ true → None ≡ inst_of (fields v)
           inst_name g = sym (inst_is_lem ∙ go (dims_meant d))
             where
-              go : (o : Option Bool) → as_inst o (take (b - (a + 1)) (drop (a + 1) v)) (drop (b + 1) v) ≡ none
-              go none = refl
-              go (some d) = rw (← eq, ← em, not-true m g)
+              go : (o : Option Bool) → as_inst o (take (b - (a + 1)) (drop (a + 1) v)) (drop (b + 1) v) ≡ None
+              go None = refl
+              go (Some d) = rw (← eq, ← em, not-true m g)
 
           module _ (w : Bytes) (ew : w ≡ drop (b + 1) v) (n : Bool) (en : n ≡ is_name w) where
-            pub inst_type : not n ≡ true → none ≡ inst_of (fields v)
+            pub inst_type : not n ≡ true → None ≡ inst_of (fields v)
             inst_type g = sym (inst_is_lem ∙ go (dims_meant d))
               where
-                go : (o : Option Bool) → as_inst o (take (b - (a + 1)) (drop (a + 1) v)) (drop (b + 1) v) ≡ none
-                go none = refl
-                go (some d) = rw (← ew, ← en, not-true n g, and-false)
+                go : (o : Option Bool) → as_inst o (take (b - (a + 1)) (drop (a + 1) v)) (drop (b + 1) v) ≡ None
+                go None = refl
+                go (Some d) = rw (← ew, ← en, not-true n g, and-false)
 
-            pub inst_good : not y ≡ false → not m ≡ false → not n ≡ false → some (record { dims = dims_is d; name = take (b - (a + 1)) (drop (a + 1) v); type = drop (b + 1) v; conns = [] }) ≡ inst_of (fields v)
+            pub inst_good : not y ≡ false → not m ≡ false → not n ≡ false → Some (record { dims = dims_is d; name = take (b - (a + 1)) (drop (a + 1) v); type = drop (b + 1) v; conns = [] }) ≡ inst_of (fields v)
             inst_good gy g g' =
                 let e : is_name (drop (b + 1) v) ≡ true = ap is_name (sym ew) ∙ (sym en ∙ not-false n g') in
                 let f : is_name (take (b - (a + 1)) (drop (a + 1) v)) ≡ true = ap is_name (sym eq) ∙ (sym em ∙ not-false m g) in
@@ -245,10 +245,10 @@ module _ (v : Bytes) (a : ℕ) (at : Ends (0 + up_to space (drop 0 v)) (length v
         implicit_is : conn_of (fields v) ≡ when m (implicit (drop (a + 1) v))
         implicit_is = word_is (ascii "implicit") i ei h ∙ (conn_implicit (drop (a + 1) v) ∙ rw (em, ew))
 
-        pub implicit_not : not m ≡ true → none ≡ conn_of (fields v)
+        pub implicit_not : not m ≡ true → None ≡ conn_of (fields v)
         implicit_not g = sym (implicit_is ∙ rw (not-true m g))
 
-        pub implicit_good : not m ≡ false → some (implicit (drop (a + 1) v)) ≡ conn_of (fields v)
+        pub implicit_good : not m ≡ false → Some (implicit (drop (a + 1) v)) ≡ conn_of (fields v)
         implicit_good g = sym (implicit_is ∙ rw (not-false m g))
 
       module _ (i-not : i ≡ false) (o : Bool) (eo : o ≡ same p (ascii "pos")) where
@@ -256,14 +256,14 @@ module _ (v : Bytes) (a : ℕ) (at : Ends (0 + up_to space (drop 0 v)) (length v
           pos_is : conn_of (fields v) ≡ when m (pos (drop (a + 1) v))
           pos_is = word_is (ascii "pos") o eo h ∙ (conn_pos (drop (a + 1) v) ∙ rw (em, ew))
 
-          pub pos_not : not m ≡ true → none ≡ conn_of (fields v)
+          pub pos_not : not m ≡ true → None ≡ conn_of (fields v)
           pos_not g = sym (pos_is ∙ rw (not-true m g))
 
-          pub pos_good : not m ≡ false → some (pos (drop (a + 1) v)) ≡ conn_of (fields v)
+          pub pos_good : not m ≡ false → Some (pos (drop (a + 1) v)) ≡ conn_of (fields v)
           pos_good g = sym (pos_is ∙ rw (not-false m g))
 
         module _ (o-not : o ≡ false) (n : Bool) (en : n ≡ same p (ascii "named")) where
-          pub conn_other : not n ≡ true → none ≡ conn_of (fields v)
+          pub conn_other : not n ≡ true → None ≡ conn_of (fields v)
           conn_other g = sym (rw (two l, ← ep) (conn_none p (drop (a + 1) v) (sym ei ∙ i-not) (sym eo ∙ o-not) (sym en ∙ not-true n g)))
 
           pub conn_named_is : (r : Option Conn) → not n ≡ false → r ≡ conn_of (ascii "named" ∷ fields (drop (a + 1) v)) → r ≡ conn_of (fields v)
@@ -271,7 +271,7 @@ module _ (v : Bytes) (a : ℕ) (at : Ends (0 + up_to space (drop 0 v)) (length v
 
 -- `named PORT NET`, whose PORT begins at p and ends at b
 module _ (v : Bytes) (p b : ℕ) (bt : Ends (p + up_to space (drop p v)) (length v) b) where
-  pub named_one : b ≡ length v → none ≡ conn_of (ascii "named" ∷ fields (drop p v))
+  pub named_one : b ≡ length v → None ≡ conn_of (ascii "named" ∷ fields (drop p v))
   unfolding conn_of same
   named_one h = rw (cut_last space v p b bt h)
 
@@ -282,17 +282,17 @@ module _ (v : Bytes) (p b : ℕ) (bt : Ends (p + up_to space (drop p v)) (length
     named_is : conn_of (ascii "named" ∷ fields (drop p v)) ≡ when (m && is_net (drop (b + 1) v)) (named (take (b - p) (drop p v)) (drop (b + 1) v))
     named_is = rw (cut_more space v p b bt (omega (arith, bt.within))) (conn_named (take (b - p) (drop p v)) (drop (b + 1) v) ∙ rw (em, eq))
 
-    pub named_port : not m ≡ true → none ≡ conn_of (ascii "named" ∷ fields (drop p v))
+    pub named_port : not m ≡ true → None ≡ conn_of (ascii "named" ∷ fields (drop p v))
     named_port g = sym (named_is ∙ rw (not-true m g))
 
     module _ (g : not m ≡ false) (w : Bytes) (ew : w ≡ drop (b + 1) v) (n : Bool) (en : n ≡ is_net w) where
       net_is_lem : conn_of (ascii "named" ∷ fields (drop p v)) ≡ when n (named (take (b - p) (drop p v)) (drop (b + 1) v))
       net_is_lem = named_is ∙ rw (not-false m g, en, ew)
 
-      pub named_net : not n ≡ true → none ≡ conn_of (ascii "named" ∷ fields (drop p v))
+      pub named_net : not n ≡ true → None ≡ conn_of (ascii "named" ∷ fields (drop p v))
       named_net k = sym (net_is_lem ∙ rw (not-true n k))
 
-      pub named_good : not n ≡ false → some (named (take (b - p) (drop p v)) (drop (b + 1) v)) ≡ conn_of (ascii "named" ∷ fields (drop p v))
+      pub named_good : not n ≡ false → Some (named (take (b - p) (drop p v)) (drop (b + 1) v)) ≡ conn_of (ascii "named" ∷ fields (drop p v))
       named_good k = sym (net_is_lem ∙ rw (not-false n k))
 
 pub ruleset ports = (rules, port_one_lem, port_dir, port_name, port_good)

@@ -1,16 +1,14 @@
 -- The lines of a job, one definition for each kind (document 01, "The job comes in"). A kind is given the job read so far, the line
 -- without its LF and the bytes behind that LF. It answers `none` where the line's key is another kind's.
 -- Assumes nothing.
-use Rattle.std.specs.Prelude.{ℕ, ◌+◌, Bool, true, false, cond, not, ◌&&◌, List, [], ◌∷◌, ◌++◌, map, length, take, drop, get_or, ltb, eqb}
+use Rattle.std.specs.Prelude.{ℕ, ◌+◌, Bool, true, false, cond, not, ◌&&◌, List, [], ◌∷◌, ◌++◌, map, length, take, drop, get_or, ltb, eqb, option_map, Option, None, Some}
 use Prim.Native.String.{String}
-use Rattle.std.proofs.Math.Option
-use Rattle.std.proofs.Math.Option.{Option, none, some}
 use Rattle.text.specs.Ascii.{Bytes, ascii, byte}
 use Rattle.text.specs.Compare.{same, starts_with}
 use Rattle.text.specs.Scan.{any, split_at}
 use Rattle.text.specs.Numbers.{is_decimal, value_from}
 use Rattle.fields.specs.Limits.{most_files, most_modules, most_ports, most_decls, most_insts, most_conns}
-use Rattle.fields.specs.Fields.{Dir, undirected, Style, ansi, nonansi, empty, Kind, is_name, is_path, dims_of, dir_of, kind_of, style_of, is_net}
+use Rattle.fields.specs.Fields.{Dir, Style, empty, Kind, is_name, is_path, dims_of, dir_of, kind_of, style_of, is_net}
 use Rattle.joblines.specs.Job.{File, Port, Decl, Conn, star, implicit, named, pos, Inst, Module, Job}
 
 -- which lines are due
@@ -39,8 +37,8 @@ pub data Checked (A : Type 0) : Type 0 where
 
 -- "Line by line: is it well formed and due here? No: 4. Within its limit? No: 5. Is its path, module, or instance in this module, new? No: 6."
 abbrev pub check : {A : Type 0} → Option A → Bool → (A → Bool) → Checked A
-check none within new = bad 4
-check (some a) within new = cond within (cond (new a) (good a) (bad 6)) (bad 5)
+check None within new = bad 4
+check (Some a) within new = cond within (cond (new a) (good a) (bad 6)) (bad 5)
 
 abbrev pub and_then : {A : Type 0} → Checked A → (A → Read) → Read
 and_then (bad n) go = refuse n
@@ -57,7 +55,7 @@ abbrev pub any_value : {A : Type 0} → A → Bool
 any_value a = true
 
 abbrev pub when : {A : Type 0} → Bool → A → Option A
-when b a = cond b (some a) none
+when b a = cond b (Some a) None
 
 -- ---- key=value
 
@@ -137,7 +135,7 @@ file_read paths line = keyed "file=" line λ v.
     check (when (is_path v) v) (ltb (length paths) most_files) (λ p. not (any (λ q. same q p) paths))
 
 unfoldable pub file_line : Job → Bytes → Bytes → Option Read
-file_line j line rest = Option.map (λ (r : Checked Bytes). and_then r λ p. on (due_bytes p) j rest) (file_read (map (λ (f : File). f.path) j.files) line)
+file_line j line rest = option_map (λ (r : Checked Bytes). and_then r λ p. on (due_bytes p) j rest) (file_read (map (λ (f : File). f.path) j.files) line)
 
 -- ---- bytes=N: "(decimal, no leading zero but for 0), then N bytes of UPF and an LF"
 -- "A body that runs past the job, or lacks its LF, is a fault of its `bytes=` line"
@@ -156,7 +154,7 @@ module_read names line = keyed "module=" line λ v.
     check (when (is_name v) v) (ltb (length names) most_modules) (λ n. not (any (λ m. same m n) names))
 
 unfoldable pub module_line : Job → Bytes → Bytes → Option Read
-module_line j line rest = Option.map (λ (r : Checked Bytes). and_then r λ n. on (due_style n) j rest) (module_read (map (λ (m : Module). m.name) j.modules) line)
+module_line j line rest = option_map (λ (r : Checked Bytes). and_then r λ n. on (due_style n) j rest) (module_read (map (λ (m : Module). m.name) j.modules) line)
 
 -- ---- style=ansi|nonansi|empty
 unfoldable pub style_line : Bytes → Job → Bytes → Bytes → Option Read
@@ -178,14 +176,14 @@ may_have Style.nonansi d = is_none d
 may_have Style.empty d = false
 
 abbrev pub as_port : Style → Option Dir → Bytes → Option Port
-as_port s none n = none
-as_port s (some d) n = when (may_have s d && is_name n) (record { dir = d; name = n })
+as_port s None n = None
+as_port s (Some d) n = when (may_have s d && is_name n) (record { dir = d; name = n })
 
 unfoldable pub port_of : Style → List Bytes → Option Port
-port_of s [] = none
-port_of s (d ∷ []) = none
+port_of s [] = None
+port_of s (d ∷ []) = None
 port_of s (d ∷ n ∷ []) = as_port s (dir_of d) n
-port_of s (d ∷ n ∷ e ∷ fs) = none
+port_of s (d ∷ n ∷ e ∷ fs) = None
 
 unfoldable pub port_line : Job → Bytes → Bytes → Option Read
 port_line j line rest = keyed "port=" line λ v.
@@ -194,16 +192,16 @@ port_line j line rest = keyed "port=" line λ v.
 
 -- ---- decl=KIND D NAME: at most 128
 abbrev pub as_decl : Option Kind → Option Bool → Bytes → Option Decl
-as_decl none d n = none
-as_decl (some k) none n = none
-as_decl (some k) (some d) n = when (is_name n) (record { kind = k; dims = d; name = n })
+as_decl None d n = None
+as_decl (Some k) None n = None
+as_decl (Some k) (Some d) n = when (is_name n) (record { kind = k; dims = d; name = n })
 
 unfoldable pub decl_of : List Bytes → Option Decl
-decl_of [] = none
-decl_of (k ∷ []) = none
-decl_of (k ∷ d ∷ []) = none
+decl_of [] = None
+decl_of (k ∷ []) = None
+decl_of (k ∷ d ∷ []) = None
 decl_of (k ∷ d ∷ n ∷ []) = as_decl (kind_of k) (dims_of d) n
-decl_of (k ∷ d ∷ n ∷ e ∷ fs) = none
+decl_of (k ∷ d ∷ n ∷ e ∷ fs) = None
 
 unfoldable pub decl_line : Job → Bytes → Bytes → Option Read
 decl_line j line rest = keyed "decl=" line λ v.
@@ -212,15 +210,15 @@ decl_line j line rest = keyed "decl=" line λ v.
 
 -- ---- inst=D NAME MODULE: at most 64, each name new in this module
 abbrev pub as_inst : Option Bool → Bytes → Bytes → Option Inst
-as_inst none n m = none
-as_inst (some d) n m = when (is_name n && is_name m) (record { dims = d; name = n; type = m; conns = [] })
+as_inst None n m = None
+as_inst (Some d) n m = when (is_name n && is_name m) (record { dims = d; name = n; type = m; conns = [] })
 
 unfoldable pub inst_of : List Bytes → Option Inst
-inst_of [] = none
-inst_of (d ∷ []) = none
-inst_of (d ∷ n ∷ []) = none
+inst_of [] = None
+inst_of (d ∷ []) = None
+inst_of (d ∷ n ∷ []) = None
 inst_of (d ∷ n ∷ m ∷ []) = as_inst (dims_of d) n m
-inst_of (d ∷ n ∷ m ∷ e ∷ fs) = none
+inst_of (d ∷ n ∷ m ∷ e ∷ fs) = None
 
 -- beside the names of the instances that the module has
 unfoldable pub inst_read : List Bytes → Bytes → Option (Checked Inst)
@@ -228,18 +226,18 @@ inst_read names line = keyed "inst=" line λ v.
     check (inst_of (fields v)) (ltb (length names) most_insts) (λ i. not (any (λ n. same n i.name) names))
 
 unfoldable pub inst_line : Job → Bytes → Bytes → Option Read
-inst_line j line rest = Option.map (λ (r : Checked Inst). and_then r λ i.
+inst_line j line rest = option_map (λ (r : Checked Inst). and_then r λ i.
     on due_insts (with_modules j (on_last (add_inst i) j.modules)) rest) (inst_read (map (λ (k : Inst). k.name) (this_module j).insts) line)
 
 -- ---- conn=star | implicit PORT | named PORT NET | pos NET: at most 64 of one instance
 unfoldable pub conn_of : List Bytes → Option Conn
-conn_of [] = none
+conn_of [] = None
 conn_of (k ∷ []) = when (same k (ascii "star")) star
 conn_of (k ∷ a ∷ []) =
     cond (same k (ascii "implicit")) (when (is_name a) (implicit a))
-    (cond (same k (ascii "pos")) (when (is_net a) (pos a)) none)
+    (cond (same k (ascii "pos")) (when (is_net a) (pos a)) None)
 conn_of (k ∷ a ∷ b ∷ []) = when (same k (ascii "named") && (is_name a && is_net b)) (named a b)
-conn_of (k ∷ a ∷ b ∷ e ∷ fs) = none
+conn_of (k ∷ a ∷ b ∷ e ∷ fs) = None
 
 unfoldable pub conn_line : Job → Bytes → Bytes → Option Read
 conn_line j line rest = keyed "conn=" line λ v.
@@ -266,8 +264,8 @@ kinds_due due_nothing = []
 
 -- what the first of the kinds says that has the line's key; a line of no kind that is due is refused
 abbrev pub or_else : Option Read → Read → Read
-or_else none r = r
-or_else (some r) r' = r
+or_else None r = r
+or_else (Some r) r' = r
 
 abbrev pub first_of : List (Job → Bytes → Bytes → Option Read) → Job → Bytes → Bytes → Read
 first_of [] j line rest = refuse 4

@@ -7,7 +7,7 @@ use Rattle.text.specs.Compare.{same}
 use Rattle.text.specs.Scan.{all, any, up_to}
 use Rattle.fields.specs.Limits.{most_bytes}
 use Rattle.joblines.specs.Job.{File, Module, Job, no_job}
-use Rattle.joblines.specs.Lines.{Due, due_top, due_nothing, Read, refuse, on, read_line}
+use Rattle.joblines.specs.Lines.{Due, due_top, Read, refuse, on, read_line}
 
 pub data Parsed : Type 0 where
   accepted : Job → Parsed

@@ -3,9 +3,8 @@
 use Rattle.std.proofs.Math.Path.{◌≡◌, refl, ap}
 use Rattle.std.proofs.Common.{◌∙◌, sym, suc-add, arith, length-drop, drop-drop, lt-ltb, ltb-false}
 use Prim.Native.Nat.{ℕ, suc, ◌+◌, ◌-◌, ◌<◌}
-use Rattle.std.specs.Prelude.{Bool, true, false, cond, length, take, drop, ltb, eqb}
+use Rattle.std.specs.Prelude.{Bool, true, false, cond, length, take, drop, ltb, eqb, Option, None, Some}
 use mathlib.Core.List.{List, [], ◌∷◌, ◌++◌, append_assoc}
-use Rattle.std.proofs.Math.Option.{Option, none, some}
 use Rattle.std.proofs.Math.Dec.{leb-suc-suc}
 use Rattle.text.specs.Ascii.{Bytes, byte}
 use Rattle.text.specs.Scan.{before, up_to}
@@ -49,27 +48,27 @@ module _ (s : Bytes) (i e : ℕ) (at : e ≡ i + up_to (byte "\n") (drop i s)) (
       lines_here (drop i s) line_there ∙ rw (n, drop-drop (e - i + 1) i s, m)
 
   -- what it lists
-  pub ports_at : (p : Port) → port_here (take (e - i) (drop i s)) ≡ some p → ports_in (drop i s) ≡ p ∷ ports_in (drop (e + 1) s)
+  pub ports_at : (p : Port) → port_here (take (e - i) (drop i s)) ≡ Some p → ports_in (drop i s) ≡ p ∷ ports_in (drop (e + 1) s)
   unfolding gather
   ports_at p l = rw (lines_at, l)
 
-  pub decls_at : (d : Decl) → decl_here (take (e - i) (drop i s)) ≡ some d → decls_in (drop i s) ≡ d ∷ decls_in (drop (e + 1) s)
+  pub decls_at : (d : Decl) → decl_here (take (e - i) (drop i s)) ≡ Some d → decls_in (drop i s) ≡ d ∷ decls_in (drop (e + 1) s)
   unfolding gather
   decls_at d l = rw (lines_at, l)
 
-  pub insts_at : (n : Inst) → inst_here (take (e - i) (drop i s)) ≡ some n → insts_in (drop i s) ≡ with_conns n (conns_in (drop (e + 1) s)) ∷ insts_in (drop (e + 1) s)
+  pub insts_at : (n : Inst) → inst_here (take (e - i) (drop i s)) ≡ Some n → insts_in (drop i s) ≡ with_conns n (conns_in (drop (e + 1) s)) ∷ insts_in (drop (e + 1) s)
   unfolding insts_of
   insts_at n l = rw (lines_at, l)
 
-  pub insts_past : inst_here (take (e - i) (drop i s)) ≡ none → insts_in (drop i s) ≡ insts_in (drop (e + 1) s)
+  pub insts_past : inst_here (take (e - i) (drop i s)) ≡ None → insts_in (drop i s) ≡ insts_in (drop (e + 1) s)
   unfolding insts_of
   insts_past l = rw (lines_at, l)
 
-  pub conns_at : (c : Conn) → inst_here (take (e - i) (drop i s)) ≡ none → conn_here (take (e - i) (drop i s)) ≡ some c → conns_in (drop i s) ≡ c ∷ conns_in (drop (e + 1) s)
+  pub conns_at : (c : Conn) → inst_here (take (e - i) (drop i s)) ≡ None → conn_here (take (e - i) (drop i s)) ≡ Some c → conns_in (drop i s) ≡ c ∷ conns_in (drop (e + 1) s)
   unfolding conns_of
   conns_at c n l = rw (lines_at, n, l)
 
-  pub conns_end : (n : Inst) → inst_here (take (e - i) (drop i s)) ≡ some n → conns_in (drop i s) ≡ []
+  pub conns_end : (n : Inst) → inst_here (take (e - i) (drop i s)) ≡ Some n → conns_in (drop i s) ≡ []
   unfolding conns_of
   conns_end n l = rw (lines_at, l)
 
@@ -104,30 +103,30 @@ unfolding lines_in
 lines_more a l f h = f (l ++ byte "\n" ∷ []) ∙ rw (one_line l [] h)
 
 -- ---- one line more
-pub gather_more : {A : Type 0} (f : Bytes → Option A) (ls : List Bytes) (l : Bytes) (a : A) → f l ≡ some a → gather f (ls ++ (l ∷ [])) ≡ gather f ls ++ (a ∷ [])
+pub gather_more : {A : Type 0} (f : Bytes → Option A) (ls : List Bytes) (l : Bytes) (a : A) → f l ≡ Some a → gather f (ls ++ (l ∷ [])) ≡ gather f ls ++ (a ∷ [])
 unfolding gather
 gather_more f [] l a e = rw e
 gather_more f (k ∷ ls) l a e = rw (gather_more f ls l a e) (go (f k))
   where
     go : (o : Option _) → with_some o (gather f ls ++ (a ∷ [])) ≡ with_some o (gather f ls) ++ (a ∷ [])
-    go none = refl
-    go (some b) = refl
+    go None = refl
+    go (Some b) = refl
 
-conns_inst : (ls : List Bytes) (l : Bytes) (i : Inst) → inst_here l ≡ some i → conns_of (ls ++ (l ∷ [])) ≡ conns_of ls
+conns_inst : (ls : List Bytes) (l : Bytes) (i : Inst) → inst_here l ≡ Some i → conns_of (ls ++ (l ∷ [])) ≡ conns_of ls
 unfolding conns_of
 conns_inst [] l i e = rw e
 conns_inst (k ∷ ls) l i e = rw (conns_inst ls l i e)
 
-pub insts_more : (ls : List Bytes) (l : Bytes) (i : Inst) → inst_here l ≡ some i → insts_of (ls ++ (l ∷ [])) ≡ insts_of ls ++ (with_conns i [] ∷ [])
+pub insts_more : (ls : List Bytes) (l : Bytes) (i : Inst) → inst_here l ≡ Some i → insts_of (ls ++ (l ∷ [])) ≡ insts_of ls ++ (with_conns i [] ∷ [])
 unfolding insts_of conns_of
 insts_more [] l i e = rw e
 insts_more (k ∷ ls) l i e = rw (insts_more ls l i e, conns_inst ls l i e) (go (inst_here k))
   where
     go : (o : Option Inst) → insts_step o (conns_of ls) (insts_of ls ++ (with_conns i [] ∷ [])) ≡ insts_step o (conns_of ls) (insts_of ls) ++ (with_conns i [] ∷ [])
-    go none = refl
-    go (some n) = refl
+    go None = refl
+    go (Some n) = refl
 
-module _ (l : Bytes) (c : Conn) (n : inst_here l ≡ none) (e : conn_here l ≡ some c) where
+module _ (l : Bytes) (c : Conn) (n : inst_here l ≡ None) (e : conn_here l ≡ Some c) where
   -- the connection goes to the last instance; where there is none behind, to the connections at hand
   conns_last : (ls : List Bytes) → insts_of ls ≡ [] → conns_of (ls ++ (l ∷ [])) ≡ conns_of ls ++ (c ∷ [])
   unfolding insts_of conns_of
@@ -136,12 +135,12 @@ module _ (l : Bytes) (c : Conn) (n : inst_here l ≡ none) (e : conn_here l ≡ 
     where
       go : (o : Option Inst) → (insts_of ls ≡ [] → conns_of (ls ++ (l ∷ [])) ≡ conns_of ls ++ (c ∷ [])) → insts_step o (conns_of ls) (insts_of ls) ≡ []
           → conns_step o (conn_here k) (conns_of (ls ++ (l ∷ []))) ≡ conns_step o (conn_here k) (conns_of ls) ++ (c ∷ [])
-      go none f g = rw (f g) (on (conn_here k))
+      go None f g = rw (f g) (on (conn_here k))
         where
-          on : (o : Option Conn) → conns_step none o (conns_of ls ++ (c ∷ [])) ≡ conns_step none o (conns_of ls) ++ (c ∷ [])
-          on none = refl
-          on (some d) = refl
-      go (some i) f g = let z : ◌≡◌ {A = ℕ} 1 0 = ap count g in absurd (omega arith)
+          on : (o : Option Conn) → conns_step None o (conns_of ls ++ (c ∷ [])) ≡ conns_step None o (conns_of ls) ++ (c ∷ [])
+          on None = refl
+          on (Some d) = refl
+      go (Some i) f g = let z : ◌≡◌ {A = ℕ} 1 0 = ap count g in absurd (omega arith)
         where
           count : List Inst → ℕ
           count [] = 0
@@ -157,8 +156,8 @@ module _ (l : Bytes) (c : Conn) (n : inst_here l ≡ none) (e : conn_here l ≡ 
   conns_kept (k ∷ ls) i is h = go (inst_here k) (λ g. conns_kept ls i is g) h
     where
       go : (o : Option Inst) → (insts_of ls ≡ i ∷ is → conns_of (ls ++ (l ∷ [])) ≡ conns_of ls) → insts_step o (conns_of ls) (insts_of ls) ≡ i ∷ is → conns_step o (conn_here k) (conns_of (ls ++ (l ∷ []))) ≡ conns_step o (conn_here k) (conns_of ls)
-      go none f g = rw (f g)
-      go (some m) f g = refl
+      go None f g = rw (f g)
+      go (Some m) f g = refl
 
   pub insts_conn : (ls : List Bytes) → insts_of (ls ++ (l ∷ [])) ≡ on_last (add_conn c) (insts_of ls)
   unfolding insts_of conns_of
@@ -166,6 +165,6 @@ module _ (l : Bytes) (c : Conn) (n : inst_here l ≡ none) (e : conn_here l ≡ 
   insts_conn (k ∷ ls) = go (inst_here k) (insts_of ls) refl (insts_conn ls)
     where
       go : (o : Option Inst) (is : List Inst) → insts_of ls ≡ is → insts_of (ls ++ (l ∷ [])) ≡ on_last (add_conn c) (insts_of ls) → insts_step o (conns_of (ls ++ (l ∷ []))) (insts_of (ls ++ (l ∷ []))) ≡ on_last (add_conn c) (insts_step o (conns_of ls) (insts_of ls))
-      go none is h f = f
-      go (some m) [] h f = rw (f, conns_last ls h, h)
-      go (some m) (i ∷ is) h f = rw (f, conns_kept ls i is h, h)
+      go None is h f = f
+      go (Some m) [] h f = rw (f, conns_last ls h, h)
+      go (Some m) (i ∷ is) h f = rw (f, conns_kept ls i is h, h)

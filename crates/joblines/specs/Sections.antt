@@ -1,8 +1,7 @@
 -- The lines of a part of the job, and what a module's part of ports, of declarations and of instances lists.
 -- A line that is none of the kind is passed over: an accepted job has none.
 -- Assumes nothing.
-use Rattle.std.specs.Prelude.{ℕ, cond, List, [], ◌∷◌, eqb}
-use Rattle.std.proofs.Math.Option.{Option, none, some}
+use Rattle.std.specs.Prelude.{ℕ, cond, List, [], ◌∷◌, eqb, Option, None, Some}
 use Rattle.text.specs.Ascii.{Bytes, byte}
 use Rattle.fields.specs.Fields.{ansi}
 use Rattle.joblines.specs.Job.{Port, Decl, Conn, Inst}
@@ -19,8 +18,8 @@ lines_in (x ∷ xs) = cond (eqb x (byte "\n")) ([] ∷ lines_in xs) (onto_first 
 
 -- what a line is, by its key and its form
 abbrev pub formed : {A : Type 0} → Option (Option A) → Option A
-formed none = none
-formed (some o) = o
+formed None = None
+formed (Some o) = o
 
 unfoldable pub port_here : Bytes → Option Port
 port_here line = formed (keyed "port=" line λ v. port_of ansi (fields v))
@@ -36,8 +35,8 @@ conn_here line = formed (keyed "conn=" line λ v. conn_of (fields v))
 
 -- each line's value, in order
 abbrev pub with_some : {A : Type 0} → Option A → List A → List A
-with_some none xs = xs
-with_some (some a) xs = a ∷ xs
+with_some None xs = xs
+with_some (Some a) xs = a ∷ xs
 
 unfoldable pub gather : {A : Type 0} → (Bytes → Option A) → List Bytes → List A
 gather f [] = []
@@ -51,9 +50,9 @@ decls_in s = gather decl_here (lines_in s)
 
 -- the connections up to the next instance
 abbrev pub conns_step : Option Inst → Option Conn → List Conn → List Conn
-conns_step (some i) c cs = []
-conns_step none none cs = cs
-conns_step none (some c) cs = c ∷ cs
+conns_step (Some i) c cs = []
+conns_step None None cs = cs
+conns_step None (Some c) cs = c ∷ cs
 
 unfoldable pub conns_of : List Bytes → List Conn
 conns_of [] = []
@@ -64,8 +63,8 @@ abbrev pub with_conns : Inst → List Conn → Inst
 with_conns i cs = record { dims = i.dims; name = i.name; type = i.type; conns = cs }
 
 abbrev pub insts_step : Option Inst → List Conn → List Inst → List Inst
-insts_step none cs is = is
-insts_step (some i) cs is = with_conns i cs ∷ is
+insts_step None cs is = is
+insts_step (Some i) cs is = with_conns i cs ∷ is
 
 unfoldable pub insts_of : List Bytes → List Inst
 insts_of [] = []

@@ -5,19 +5,51 @@ ghost use Rattle.std.specs.Prelude.{◌≡◌, ◌&&◌, drop};
 ghost use Rattle.text.specs.Ascii.{ascii};
 ghost use Rattle.text.specs.Compare.{starts_with};
 ghost use Rattle.fields.specs.Fields.{is_name, is_path};
-ghost use Rattle.fields.specs.Meant.{style_at};
-ghost use Rattle.joblines.specs.Forms.{port_read, decl_read, conn_read, verdict};
+ghost use Rattle.fields.specs.Meant.{style_is};
+ghost use Rattle.joblines.specs.Forms.{number_of, numbered, port_read, decl_read, conn_read, verdict};
 
 pub mod form;
 
-use form::{DeclForm, PortForm};
+use fields::Style;
 
-// What a line comes to: its key is another kind's; it is refused, by a number; or it is good.
-#[derive(Clone, Copy)]
-pub enum Look {
-    Other,
-    Refused(u8),
-    Good,
+// How many ports and declarations a module may have, and how many connections an instance.
+const MOST_PORTS: usize = 64;
+
+const MOST_DECLS: usize = 128;
+
+const MOST_CONNS: usize = 64;
+
+// The check of the job that fails first.
+#[derive(PartialEq, Eq, Clone, Copy, Debug)]
+pub enum Refusal {
+    // The job is longer than 65,536 bytes.
+    TooLong,
+    // A byte is 128 or more.
+    NotAscii,
+    // A line is not well formed, or not due.
+    Malformed,
+    // A line is beyond the limit of its kind.
+    OverLimit,
+    // A path, a module, or an instance in its module, is not new.
+    NotNew,
+    // `start` or `top` is not listed.
+    NotListed,
+}
+
+impl Refusal {
+    // The number that the check has.
+    pub fn number(self) -> u8
+        ensures { result ≡ number_of self }
+    {
+        match self {
+            Refusal::TooLong => 2,
+            Refusal::NotAscii => 3,
+            Refusal::Malformed => 4,
+            Refusal::OverLimit => 5,
+            Refusal::NotNew => 6,
+            Refusal::NotListed => 7,
+        }
+    }
 }
 
 // Whether a line is `top=NAME`.
@@ -42,66 +74,59 @@ pub fn is_start(line: &[u8]) -> bool
     fields::is_path(v)
 }
 
-// A port line, in a module of a style (its number) that has `count` ports.
-pub fn port_line(line: &[u8], style: u32, count: usize) -> Look
-    ensures { result ≡ verdict (port_read (style_at style) count line.now) }
+// Whether a line is a port line, good in a module of a style that has `count` ports. Where its key is another kind's, it is none.
+#[tactic(auto, using(crate::proofs::Looks::port_lines))]
+pub fn port_line(line: &[u8], style: Style, count: usize) -> Result<bool, Refusal>
+    ensures { numbered result ≡ verdict (port_read (style_is style) count line.now) }
 {
     if !text::compare::starts_with(line, b"port=") {
-        return Look::Other;
+        return Ok(false);
     }
     let v = text::part::rest(line, 5);
-    let f = form::port_form(v);
-    match f {
-        PortForm::Bad => Look::Refused(4),
-        PortForm::Port { dir, name: _ } => {
-            if !form::may_have(style, dir) {
-                return Look::Refused(4);
-            }
-            if 64 <= count {
-                return Look::Refused(5);
-            }
-            Look::Good
-        }
+    let Some(f) = form::port_form(v) else {
+        return Err(Refusal::Malformed);
+    };
+    if !form::may_have(style, f.dir) {
+        return Err(Refusal::Malformed);
     }
+    if MOST_PORTS <= count {
+        return Err(Refusal::OverLimit);
+    }
+    Ok(true)
 }
 
-// A declaration line, in a module that has `count` declarations.
-pub fn decl_line(line: &[u8], count: usize) -> Look
-    ensures { result ≡ verdict (decl_read count line.now) }
+// Whether a line is a declaration line, good in a module that has `count` declarations.
+#[tactic(auto, using(crate::proofs::Looks::decl_lines))]
+pub fn decl_line(line: &[u8], count: usize) -> Result<bool, Refusal>
+    ensures { numbered result ≡ verdict (decl_read count line.now) }
 {
     if !text::compare::starts_with(line, b"decl=") {
-        return Look::Other;
+        return Ok(false);
     }
     let v = text::part::rest(line, 5);
-    let f = form::decl_form(v);
-    match f {
-        DeclForm::Bad => Look::Refused(4),
-        DeclForm::Decl {
-            kind: _,
-            dims: _,
-            name: _,
-        } => {
-            if 128 <= count {
-                return Look::Refused(5);
-            }
-            Look::Good
-        }
+    if form::decl_form(v).is_none() {
+        return Err(Refusal::Malformed);
     }
+    if MOST_DECLS <= count {
+        return Err(Refusal::OverLimit);
+    }
+    Ok(true)
 }
 
-// A connection line, of an instance that has `count` connections.
-pub fn conn_line(line: &[u8], count: usize) -> Look
-    ensures { result ≡ verdict (conn_read count line.now) }
+// Whether a line is a connection line, good for an instance that has `count` connections.
+#[tactic(auto, using(crate::proofs::Looks::conn_lines))]
+pub fn conn_line(line: &[u8], count: usize) -> Result<bool, Refusal>
+    ensures { numbered result ≡ verdict (conn_read count line.now) }
 {
     if !text::compare::starts_with(line, b"conn=") {
-        return Look::Other;
+        return Ok(false);
     }
     let v = text::part::rest(line, 5);
-    if !form::known_conn(form::conn_form(v)) {
-        return Look::Refused(4);
+    if form::conn_form(v).is_none() {
+        return Err(Refusal::Malformed);
     }
-    if 64 <= count {
-        return Look::Refused(5);
+    if MOST_CONNS <= count {
+        return Err(Refusal::OverLimit);
     }
-    Look::Good
+    Ok(true)
 }

@@ -4,32 +4,31 @@ use mathlib.Core.Path.{◌≡◌, refl, ap, ◌∙◌, sym}
 use Prim.Native.Nat.{ℕ, ◌+◌, ◌-◌, ◌^◌, ◌<◌, ◌≤◌}
 use native.Mathlib.Omega.{arith}
 use mathlib.Core.List.{List, [], ◌∷◌, ◌++◌, map, map-append}
-use mathlib.Core.Option
-use mathlib.Core.Option.{Option, none, some}
+use Rattle.std.specs.Prelude.{Bool, true, false, option_map, Option, None, Some, Result, Ok, Err}
 use lib.ListN.{length, take, drop, length-append, length-drop, length-map}
 use lib.Seq.{take-take, drop-drop}
 use Rattle.text.specs.Ascii.{Bytes}
 use Rattle.text.specs.Lists.{drop_take}
-use Rattle.fields.specs.Meant.{style_at}
+use Rattle.fields.specs.Meant.{style_is, style_row}
 use Rattle.joblines.specs.Job.{Port, Decl, Conn, Inst, Module, Job}
 use Rattle.joblines.specs.Lines.{Checked, bad, good, and_then, Read, on, due_ports, due_decls, due_insts, first_of, port_line, decl_line, inst_read, inst_line, conn_line, module_line, end_line, with_modules, with_insts, add_port, add_decl, add_inst, add_conn, on_last, last_or, no_module, no_inst, this_inst}
 use Rattle.joblines.specs.Forms.{verdict, port_read, decl_read, conn_read}
 use Rattle.joblines.specs.Reads.{was_other, was_refused, was_good, port_line_is, decl_line_is, conn_line_is, port_taken, decl_taken, inst_taken, conn_taken, last_is, on_last_lem}
 use Rattle.joblines.specs.Sections.{lines_in, gather, port_here, decl_here, inst_here, conn_here, ports_in, decls_in, insts_of, insts_in, with_conns}
 use Rattle.joblines.specs.Scanned.{Whole, gather_more, insts_more, insts_conn}
-use Rattle.joblines.specs.declared.Look.{Look}
-use Rattle.joblines.specs.declared.Look.TheVariants as look
 use Rattle.jobindex.specs.declared.Header.{Header}
 use Rattle.jobindex.specs.declared.Open.{Open}
-use Rattle.jobindex.specs.declared.look.InstLook.{InstLook}
-use Rattle.jobindex.specs.declared.look.InstLook.TheVariants as looked
+use Rattle.jobindex.specs.declared.Span.{Span}
 use Rattle.jobindex.specs.Index.{bytes_at, section, module_row, inst_at, rows, job_of}
 use Rattle.jobindex.specs.Stores.{with_module, with_name, Fits}
 use Rattle.jobindex.specs.Looks.{name_of, InstSeen}
 use Rattle.jobindex.specs.Rows.{rows_length, names_put_lem, name_files, name_modules, name_long, name_kept, modules_put, module_files, module_long, module_kept}
 use Rattle.jobsteps.specs.declared.Step.{Step}
-use Rattle.jobsteps.specs.declared.Step.TheVariants as step
+use Rattle.joblines.specs.Forms.{number_of}
+use Rattle.joblines.specs.declared.Refusal.{Refusal}
 use Rattle.jobsteps.specs.State.{line_of, Outside, Inside, PortsDue, DeclsDue, InstsDue, Asked, Stepped, open_of, job_in, port_more, decl_more, inst_more, conn_more, port_on, decl_on, inst_on, conn_on}
+use Rattle.std.specs.Prelude.{IsErrAnd}
+use Rattle.std.proofs.lemmas.Result.{err_from_is_err_and}
 use Rattle.jobsteps.proofs.Cutting.{from_end, line_length, section_none, section_whole, lines_grow, whole_grow}
 use Rattle.jobsteps.proofs.Heads.{refused_is}
 use Rattle.jobsteps.proofs.Between.{kind_other, kind_refused, kind_good, stepped_else}
@@ -60,20 +59,24 @@ module _ (job index : List ℕ) (from end : ℕ) (head : Header) (o : Open) (l :
   m = open_of job o
 
   -- ---- port=DIR NAME
-  module _ (pre : Asked job index from end (PortsDue job index head o from)) (k : Look) (ek : k ≡ verdict (port_read (style_at o.style) o.nports l)) where
+  module _ (pre : Asked job index from end (PortsDue job index head o from)) where
     abbrev port_go : Port → Read
     port_go p = on due_ports (with_modules j (on_last (add_port p) j.modules)) rest
 
-    port_is : port_line j line rest ≡ Option.map (λ (r : Checked Port). and_then r port_go) (port_read (style_at o.style) o.nports l)
-    port_is = port_line_is j line rest ∙ rw (last_is no_module before m, ← pre.stands.within.ports_count, el)
+    port_is : port_line j line rest ≡ option_map (λ (r : Checked Port). and_then r port_go) (port_read (style_is o.style) o.nports l)
+    port_is =
+        port_line_is j line rest
+        ∙ (rw (last_is no_module before m, ← pre.stands.within.ports_count, el) (ap (λ s. option_map (λ (r : Checked Port). and_then r port_go) (port_read s o.nports line)) (style_row o.style)))
 
-    pub port_other : k ≡ look.Other → (index' : List ℕ) (r : Step) → Stepped job index index' from (first_of ks j line rest) r → Stepped job index index' from (first_of (port_line ∷ ks) j line rest) r
-    port_other e index' r s = stepped_else job index index' from _ _ r (kind_other port_line ks j line rest port_go (port_read (style_at o.style) o.nports l) port_is (was_other (port_read (style_at o.style) o.nports l) (sym e ∙ ek))) s
+    pub port_other : (k : Bool) → Ok k ≡ verdict (port_read (style_is o.style) o.nports l) → k ≡ false → (index' : List ℕ) (r : Result Step Refusal) → Stepped job index index' from (first_of ks j line rest) r → Stepped job index index' from (first_of (port_line ∷ ks) j line rest) r
+    port_other k ek e index' r s = stepped_else job index index' from _ _ r (kind_other port_line ks j line rest port_go (port_read (style_is o.style) o.nports l) port_is (was_other (port_read (style_is o.style) o.nports l) (ap Ok (sym e) ∙ ek))) s
 
-    pub port_refused : (x : ℕ) → k ≡ look.Refused x → Stepped job index index from (first_of (port_line ∷ ks) j line rest) (step.Refused x)
-    port_refused x e = refused_is job index from x _ (sym (kind_refused port_line ks j line rest port_go (port_read (style_at o.style) o.nports l) port_is x (was_refused (port_read (style_at o.style) o.nports l) x (sym e ∙ ek))))
+    pub port_refused : (x : Refusal) → Err (number_of x) ≡ verdict (port_read (style_is o.style) o.nports l) → (r : Result Step Refusal) → IsErrAnd r (λ y. y ≡ x) → Stepped job index index from (first_of (port_line ∷ ks) j line rest) r
+    port_refused x ek r q =
+        let p = err_from_is_err_and r q in
+        rw (p.1, p.2) (refused_is job index from x _ (sym (kind_refused port_line ks j line rest port_go (port_read (style_is o.style) o.nports l) port_is (number_of x) (was_refused (port_read (style_is o.style) o.nports l) (number_of x) ek))))
 
-    module _ (p : Port) (hp : port_here line ≡ some p) where
+    module _ (p : Port) (hp : port_here line ≡ Some p) where
       abbrev ported : Open
       ported = port_more (end + 1) o
 
@@ -119,13 +122,13 @@ module _ (job index : List ℕ) (from end : ℕ) (head : Header) (o : Open) (l :
             conns_count = w.conns_count ∙ ap (λ is. length (last_or no_inst is).conns) (sym insts_still);
           }
 
-    pub port_good : k ≡ look.Good → (r : Step) → r ≡ port_on end head o → Stepped job index index from (first_of (port_line ∷ ks) j line rest) r
-    port_good e r er =
-        let w = was_good (port_read (style_at o.style) o.nports l) (sym e ∙ ek) in
-        let t = port_taken l (style_at o.style) o.nports w.0 w.1 in
-        let hp : port_here line ≡ some w.0 = ap port_here (sym el) ∙ t.0 in
-        let s : Stepped job index index from (first_of (port_line ∷ ks) j line rest) (port_on end head o) = record {
-          says = sym (kind_good port_line ks j line rest port_go (port_read (style_at o.style) o.nports l) port_is w.0 w.1 ∙ rw (on_last_lem (add_port w.0) before m, port_module w.0 hp));
+    pub port_good : (k : Bool) → Ok k ≡ verdict (port_read (style_is o.style) o.nports l) → k ≡ true → (r : Step) → r ≡ port_on end head o → Stepped job index index from (first_of (port_line ∷ ks) j line rest) (Ok r)
+    port_good k ek e r er =
+        let w = was_good (port_read (style_is o.style) o.nports l) (ap Ok (sym e) ∙ ek) in
+        let t = port_taken l (style_is o.style) o.nports w.0 w.1 in
+        let hp : port_here line ≡ Some w.0 = ap port_here (sym el) ∙ t.0 in
+        let s : Stepped job index index from (first_of (port_line ∷ ks) j line rest) (Ok (port_on end head o)) = record {
+          says = sym (kind_good port_line ks j line rest port_go (port_read (style_is o.style) o.nports l) port_is w.0 w.1 ∙ rw (on_last_lem (add_port w.0) before m, port_module w.0 hp));
           stands = (omega (arith, from_end job from end pre.line), record { within = port_inside w.0 hp; decls_here = refl; insts_here = refl });
           long = refl;
           kept = refl;
@@ -133,20 +136,22 @@ module _ (job index : List ℕ) (from end : ℕ) (head : Header) (o : Open) (l :
         rw er s
 
   -- ---- decl=KIND D NAME
-  module _ (pre : Asked job index from end (DeclsDue job index head o from)) (k : Look) (ek : k ≡ verdict (decl_read o.ndecls l)) where
+  module _ (pre : Asked job index from end (DeclsDue job index head o from)) where
     abbrev decl_go : Decl → Read
     decl_go d = on due_decls (with_modules j (on_last (add_decl d) j.modules)) rest
 
-    decl_is : decl_line j line rest ≡ Option.map (λ (r : Checked Decl). and_then r decl_go) (decl_read o.ndecls l)
+    decl_is : decl_line j line rest ≡ option_map (λ (r : Checked Decl). and_then r decl_go) (decl_read o.ndecls l)
     decl_is = decl_line_is j line rest ∙ rw (last_is no_module before m, ← pre.stands.within.decls_count, el)
 
-    pub decl_other : k ≡ look.Other → (index' : List ℕ) (r : Step) → Stepped job index index' from (first_of ks j line rest) r → Stepped job index index' from (first_of (decl_line ∷ ks) j line rest) r
-    decl_other e index' r s = stepped_else job index index' from _ _ r (kind_other decl_line ks j line rest decl_go (decl_read o.ndecls l) decl_is (was_other (decl_read o.ndecls l) (sym e ∙ ek))) s
+    pub decl_other : (k : Bool) → Ok k ≡ verdict (decl_read o.ndecls l) → k ≡ false → (index' : List ℕ) (r : Result Step Refusal) → Stepped job index index' from (first_of ks j line rest) r → Stepped job index index' from (first_of (decl_line ∷ ks) j line rest) r
+    decl_other k ek e index' r s = stepped_else job index index' from _ _ r (kind_other decl_line ks j line rest decl_go (decl_read o.ndecls l) decl_is (was_other (decl_read o.ndecls l) (ap Ok (sym e) ∙ ek))) s
 
-    pub decl_refused : (x : ℕ) → k ≡ look.Refused x → Stepped job index index from (first_of (decl_line ∷ ks) j line rest) (step.Refused x)
-    decl_refused x e = refused_is job index from x _ (sym (kind_refused decl_line ks j line rest decl_go (decl_read o.ndecls l) decl_is x (was_refused (decl_read o.ndecls l) x (sym e ∙ ek))))
+    pub decl_refused : (x : Refusal) → Err (number_of x) ≡ verdict (decl_read o.ndecls l) → (r : Result Step Refusal) → IsErrAnd r (λ y. y ≡ x) → Stepped job index index from (first_of (decl_line ∷ ks) j line rest) r
+    decl_refused x ek r q =
+        let p = err_from_is_err_and r q in
+        rw (p.1, p.2) (refused_is job index from x _ (sym (kind_refused decl_line ks j line rest decl_go (decl_read o.ndecls l) decl_is (number_of x) (was_refused (decl_read o.ndecls l) (number_of x) ek))))
 
-    module _ (d : Decl) (hd : decl_here line ≡ some d) where
+    module _ (d : Decl) (hd : decl_here line ≡ Some d) where
       abbrev decled : Open
       decled = decl_more (end + 1) o
 
@@ -189,12 +194,12 @@ module _ (job index : List ℕ) (from end : ℕ) (head : Header) (o : Open) (l :
             conns_count = w.conns_count ∙ ap (λ is. length (last_or no_inst is).conns) (sym insts_still');
           }
 
-    pub decl_good : k ≡ look.Good → (r : Step) → r ≡ decl_on end head o → Stepped job index index from (first_of (decl_line ∷ ks) j line rest) r
-    decl_good e r er =
-        let w = was_good (decl_read o.ndecls l) (sym e ∙ ek) in
+    pub decl_good : (k : Bool) → Ok k ≡ verdict (decl_read o.ndecls l) → k ≡ true → (r : Step) → r ≡ decl_on end head o → Stepped job index index from (first_of (decl_line ∷ ks) j line rest) (Ok r)
+    decl_good k ek e r er =
+        let w = was_good (decl_read o.ndecls l) (ap Ok (sym e) ∙ ek) in
         let t = decl_taken l o.ndecls w.0 w.1 in
-        let hd : decl_here line ≡ some w.0 = ap decl_here (sym el) ∙ t.0 in
-        let s : Stepped job index index from (first_of (decl_line ∷ ks) j line rest) (decl_on end head o) = record {
+        let hd : decl_here line ≡ Some w.0 = ap decl_here (sym el) ∙ t.0 in
+        let s : Stepped job index index from (first_of (decl_line ∷ ks) j line rest) (Ok (decl_on end head o)) = record {
           says = sym (kind_good decl_line ks j line rest decl_go (decl_read o.ndecls l) decl_is w.0 w.1 ∙ rw (on_last_lem (add_decl w.0) before m, decl_module w.0 hd));
           stands = (omega (arith, from_end job from end pre.line), record { within = decl_inside w.0 hd; insts_here = refl });
           long = refl;
@@ -203,21 +208,23 @@ module _ (job index : List ℕ) (from end : ℕ) (head : Header) (o : Open) (l :
         rw er s
 
   -- ---- conn=
-  module _ (pre : Asked job index from end (InstsDue job index head o from)) (k : Look) (ek : k ≡ verdict (conn_read o.nconns l)) where
+  module _ (pre : Asked job index from end (InstsDue job index head o from)) where
     abbrev conn_go : Conn → Read
     conn_go c = on due_insts (with_modules j (on_last (λ m. with_insts m (on_last (add_conn c) m.insts)) j.modules)) rest
 
     conns_now : length (this_inst j).conns ≡ o.nconns
     conns_now = rw (last_is no_module before m, pre.stands.within.ends) (sym pre.stands.within.conns_count)
 
-    conn_is_lem : conn_line j line rest ≡ Option.map (λ (r : Checked Conn). and_then r conn_go) (conn_read o.nconns l)
+    conn_is_lem : conn_line j line rest ≡ option_map (λ (r : Checked Conn). and_then r conn_go) (conn_read o.nconns l)
     conn_is_lem = conn_line_is j line rest ∙ rw (conns_now, el)
 
-    pub conn_other : k ≡ look.Other → (index' : List ℕ) (r : Step) → Stepped job index index' from (first_of ks j line rest) r → Stepped job index index' from (first_of (conn_line ∷ ks) j line rest) r
-    conn_other e index' r s = stepped_else job index index' from _ _ r (kind_other conn_line ks j line rest conn_go (conn_read o.nconns l) conn_is_lem (was_other (conn_read o.nconns l) (sym e ∙ ek))) s
+    pub conn_other : (k : Bool) → Ok k ≡ verdict (conn_read o.nconns l) → k ≡ false → (index' : List ℕ) (r : Result Step Refusal) → Stepped job index index' from (first_of ks j line rest) r → Stepped job index index' from (first_of (conn_line ∷ ks) j line rest) r
+    conn_other k ek e index' r s = stepped_else job index index' from _ _ r (kind_other conn_line ks j line rest conn_go (conn_read o.nconns l) conn_is_lem (was_other (conn_read o.nconns l) (ap Ok (sym e) ∙ ek))) s
 
-    pub conn_refused : (x : ℕ) → k ≡ look.Refused x → Stepped job index index from (first_of (conn_line ∷ ks) j line rest) (step.Refused x)
-    conn_refused x e = refused_is job index from x _ (sym (kind_refused conn_line ks j line rest conn_go (conn_read o.nconns l) conn_is_lem x (was_refused (conn_read o.nconns l) x (sym e ∙ ek))))
+    pub conn_refused : (x : Refusal) → Err (number_of x) ≡ verdict (conn_read o.nconns l) → (r : Result Step Refusal) → IsErrAnd r (λ y. y ≡ x) → Stepped job index index from (first_of (conn_line ∷ ks) j line rest) r
+    conn_refused x ek r q =
+        let p = err_from_is_err_and r q in
+        rw (p.1, p.2) (refused_is job index from x _ (sym (kind_refused conn_line ks j line rest conn_go (conn_read o.nconns l) conn_is_lem (number_of x) (was_refused (conn_read o.nconns l) (number_of x) ek))))
 
     names_still : (c : Conn) (is : List Inst) → map (λ (i : Inst). i.name) (on_last (add_conn c) is) ≡ map (λ (i : Inst). i.name) is
     names_still c [] = refl
@@ -229,7 +236,7 @@ module _ (job index : List ℕ) (from end : ℕ) (head : Header) (o : Open) (l :
     last_more c z (i ∷ []) h = length-append i.conns (c ∷ [])
     last_more c z (i ∷ n ∷ is) h = last_more c i (n ∷ is) (omega arith)
 
-    module _ (c : Conn) (hn : inst_here line ≡ none) (hc : conn_here line ≡ some c) where
+    module _ (c : Conn) (hn : inst_here line ≡ None) (hc : conn_here line ≡ Some c) where
       abbrev conned : Open
       conned = conn_more (end + 1) o
 
@@ -266,13 +273,13 @@ module _ (job index : List ℕ) (from end : ℕ) (head : Header) (o : Open) (l :
             conns_count = ap (λ n. n + 1) w.conns_count ∙ (sym (last_more c no_inst (insts_in (section job o.insts from)) some_insts) ∙ ap (λ is. length (last_or no_inst is).conns) (sym insts_grow));
           }
 
-    pub conn_good : k ≡ look.Good → (r : Step) → r ≡ conn_on end head o → Stepped job index index from (first_of (conn_line ∷ ks) j line rest) r
-    conn_good e r er =
-        let w = was_good (conn_read o.nconns l) (sym e ∙ ek) in
+    pub conn_good : (k : Bool) → Ok k ≡ verdict (conn_read o.nconns l) → k ≡ true → (r : Step) → r ≡ conn_on end head o → Stepped job index index from (first_of (conn_line ∷ ks) j line rest) (Ok r)
+    conn_good k ek e r er =
+        let w = was_good (conn_read o.nconns l) (ap Ok (sym e) ∙ ek) in
         let t = conn_taken l o.nconns w.0 w.1 in
-        let hn : inst_here line ≡ none = ap inst_here (sym el) ∙ t.0 in
-        let hc : conn_here line ≡ some w.0 = ap conn_here (sym el) ∙ t.1.0 in
-        let s : Stepped job index index from (first_of (conn_line ∷ ks) j line rest) (conn_on end head o) = record {
+        let hn : inst_here line ≡ None = ap inst_here (sym el) ∙ t.0 in
+        let hc : conn_here line ≡ Some w.0 = ap conn_here (sym el) ∙ t.1.0 in
+        let s : Stepped job index index from (first_of (conn_line ∷ ks) j line rest) (Ok (conn_on end head o)) = record {
           says = sym (kind_good conn_line ks j line rest conn_go (conn_read o.nconns l) conn_is_lem w.0 w.1 ∙ rw (on_last_lem (λ m. with_insts m (on_last (add_conn w.0) m.insts)) before m, conn_module w.0 hn hc));
           stands = (omega (arith, from_end job from end pre.line), record { within = conn_inside w.0 hn hc; some_inst = pre.stands.some_inst });
           long = refl;
@@ -281,70 +288,72 @@ module _ (job index : List ℕ) (from end : ℕ) (head : Header) (o : Open) (l :
         rw er s
 
   -- ---- inst=D NAME MODULE
-  module _ (pre : Asked job index from end (Inside job index head o from)) (k : InstLook) (ek : InstSeen l (rows (inst_at job index) o.ninsts) k) where
+  module _ (pre : Asked job index from end (Inside job index head o from)) where
     abbrev inst_go : Inst → Read
     inst_go i = on due_insts (with_modules j (on_last (add_inst i) j.modules)) rest
 
     abbrev inst_read_lem : Option (Checked Inst)
     inst_read_lem = inst_read (rows (inst_at job index) o.ninsts) l
 
-    inst_is_lem : inst_line j line rest ≡ Option.map (λ (r : Checked Inst). and_then r inst_go) inst_read_lem
+    inst_is_lem : inst_line j line rest ≡ option_map (λ (r : Checked Inst). and_then r inst_go) inst_read_lem
     unfolding inst_line
     inst_is_lem = rw (last_is no_module before m, pre.stands.ends, ← pre.stands.insts_names, el)
 
-    pub inst_other : k ≡ looked.Other → (index' : List ℕ) (r : Step) → Stepped job index index' from (first_of ks j line rest) r → Stepped job index index' from (first_of (inst_line ∷ ks) j line rest) r
-    inst_other e index' r s = stepped_else job index index' from _ _ r (kind_other inst_line ks j line rest inst_go inst_read_lem inst_is_lem (go inst_read_lem (rw e at ek.says))) s
+    pub inst_other : (k : Option Span) → InstSeen l (rows (inst_at job index) o.ninsts) (Ok k) → k ≡ None → (index' : List ℕ) (r : Result Step Refusal) → Stepped job index index' from (first_of ks j line rest) r → Stepped job index index' from (first_of (inst_line ∷ ks) j line rest) r
+    inst_other k ek e index' r s = stepped_else job index index' from _ _ r (kind_other inst_line ks j line rest inst_go inst_read_lem inst_is_lem (go inst_read_lem (rw e at ek.says))) s
       where
-        go : (x : Option (Checked Inst)) → none ≡ name_of x → x ≡ none
-        go none h = refl
-        go (some (bad n)) h = absurd (let z : ◌≡◌ {A = ℕ} 0 1 = cc in omega arith)
-        go (some (good i)) h = absurd (let z : ◌≡◌ {A = ℕ} 0 1 = cc in omega arith)
+        go : (x : Option (Checked Inst)) → None ≡ name_of x → x ≡ None
+        go None h = refl
+        go (Some (bad n)) h = absurd (let z : ◌≡◌ {A = ℕ} 0 1 = cc in omega arith)
+        go (Some (good i)) h = absurd (let z : ◌≡◌ {A = ℕ} 0 1 = cc in omega arith)
 
-    pub inst_refused : (x : ℕ) → k ≡ looked.Refused x → Stepped job index index from (first_of (inst_line ∷ ks) j line rest) (step.Refused x)
-    inst_refused x e = refused_is job index from x _ (sym (kind_refused inst_line ks j line rest inst_go inst_read_lem inst_is_lem x (go inst_read_lem (rw e at ek.says))))
+    pub inst_refused : (x : Refusal) → InstSeen l (rows (inst_at job index) o.ninsts) (Err x) → (r : Result Step Refusal) → IsErrAnd r (λ y. y ≡ x) → Stepped job index index from (first_of (inst_line ∷ ks) j line rest) r
+    inst_refused x ek r q =
+        let p = err_from_is_err_and r q in
+        rw (p.1, p.2) (refused_is job index from x _ (sym (kind_refused inst_line ks j line rest inst_go inst_read_lem inst_is_lem (number_of x) (go inst_read_lem (number_of x) ek.says))))
       where
-        go : (y : Option (Checked Inst)) → some (bad x) ≡ name_of y → y ≡ some (bad x)
-        go none h = absurd (let z : ◌≡◌ {A = ℕ} 0 1 = cc in omega arith)
-        go (some (bad n)) h = let z : x ≡ n = cc in ap (λ q. some (bad q)) (sym z)
-        go (some (good i)) h = absurd (let z : ◌≡◌ {A = ℕ} 0 1 = cc in omega arith)
+        go : (y : Option (Checked Inst)) (n : ℕ) → Some (bad n) ≡ name_of y → y ≡ Some (bad n)
+        go None n h = absurd (let z : ◌≡◌ {A = ℕ} 0 1 = cc in omega arith)
+        go (Some (bad m)) n h = let z : n ≡ m = cc in ap (λ q. Some (bad q)) (sym z)
+        go (Some (good i)) n h = absurd (let z : ◌≡◌ {A = ℕ} 0 1 = cc in omega arith)
 
-    module _ (n len : ℕ) (e : k ≡ looked.Good n len) where
+    module _ (a : Span) (ek : InstSeen l (rows (inst_at job index) o.ninsts) (Ok (Some a))) where
       abbrev name : Bytes
-      name = take len (drop n (drop 5 l))
+      name = take a.len (drop a.at (drop 5 l))
 
-      inst_good_is : (i : Inst) × ((inst_read_lem ≡ some (good i)) × (i.name ≡ name))
-      inst_good_is = go inst_read_lem refl (rw e at ek.says)
+      inst_good_is : (i : Inst) × ((inst_read_lem ≡ Some (good i)) × (i.name ≡ name))
+      inst_good_is = go inst_read_lem refl (ek.says)
         where
-          go : (y : Option (Checked Inst)) → inst_read_lem ≡ y → some (good name) ≡ name_of y → (i : Inst) × ((inst_read_lem ≡ some (good i)) × (i.name ≡ name))
-          go none er h = absurd (let z : ◌≡◌ {A = ℕ} 0 1 = cc in omega arith)
-          go (some (bad n)) er h = absurd (let z : ◌≡◌ {A = ℕ} 0 1 = cc in omega arith)
-          go (some (good i)) er h = (i, (er, cc))
+          go : (y : Option (Checked Inst)) → inst_read_lem ≡ y → Some (good name) ≡ name_of y → (i : Inst) × ((inst_read_lem ≡ Some (good i)) × (i.name ≡ name))
+          go None er h = absurd (let z : ◌≡◌ {A = ℕ} 0 1 = cc in omega arith)
+          go (Some (bad n)) er h = absurd (let z : ◌≡◌ {A = ℕ} 0 1 = cc in omega arith)
+          go (Some (good i)) er h = (i, (er, cc))
 
       inst_few : o.ninsts < 64
       inst_few =
           let g = inst_good_is in
           omega (arith, (inst_taken l (rows (inst_at job index) o.ninsts) g.0 g.1.0).1.1, rows_length (inst_at job index) o.ninsts)
 
-      name_room : n + len ≤ length (drop 5 l)
-      name_room = rw e at ek.within
+      name_room : a.at + a.len ≤ length (drop 5 l)
+      name_room = ek.within
 
       value_length : length (drop 5 l) ≡ end - from - 5
       value_length = rw (length-drop 5 l, el, line_length job from end pre.line)
 
       -- the name's place in the job
-      name_at_lem : bytes_at job (from + 5 + n) len ≡ name
+      name_at_lem : bytes_at job (from + 5 + a.at) a.len ≡ name
       name_at_lem =
           rw (
             el,
             drop_take 5 (end - from) (drop from job),
             drop-drop 5 from job,
-            drop_take n (end - from - 5) (drop (from + 5) job),
-            drop-drop n (from + 5) job,
-            take-take len (end - from - 5 - n) (drop (from + 5 + n) job) (omega (arith, name_room, value_length)),
+            drop_take a.at (end - from - 5) (drop (from + 5) job),
+            drop-drop a.at (from + 5) job,
+            take-take a.len (end - from - 5 - a.at) (drop (from + 5 + a.at) job) (omega (arith, name_room, value_length)),
           )
 
       abbrev named : List ℕ
-      named = with_name index o.ninsts (from + 5 + n) len
+      named = with_name index o.ninsts (from + 5 + a.at) a.len
 
       abbrev insted : Open
       insted = inst_more (end + 1) o
@@ -352,7 +361,7 @@ module _ (job index : List ℕ) (from end : ℕ) (head : Header) (o : Open) (l :
       whole_insts : Whole (section job o.insts from)
       whole_insts = pre.stands.insts_whole
 
-      module _ (i : Inst) (hi : inst_here line ≡ some i) (hf : i.conns ≡ []) (hn : i.name ≡ name) where
+      module _ (i : Inst) (hi : inst_here line ≡ Some i) (hf : i.conns ≡ []) (hn : i.name ≡ name) where
         fresh : with_conns i [] ≡ i
         fresh = rw (← hf)
 
@@ -383,30 +392,31 @@ module _ (job index : List ℕ) (from end : ℕ) (head : Header) (o : Open) (l :
               decls_count = w.decls_count;
               insts_few = omega (arith, inst_few);
               insts_names =
-                  names_put_lem job index o.ninsts (from + 5 + n) len inst_few pre.room
+                  names_put_lem job index o.ninsts (from + 5 + a.at) a.len inst_few pre.room
                   ∙ rw (w.insts_names, name_at_lem, ← hn, insts_added) (sym (map-append (λ (i : Inst). i.name) (insts_in (section job o.insts from)) (i ∷ [])));
               conns_count = rw (insts_added, last_is no_inst (insts_in (section job o.insts from)) i, hf);
             }
 
-    pub inst_good : (n len : ℕ) → k ≡ looked.Good n len → (index' : List ℕ) (r : Step) → (r ≡ inst_on end head o) × (index' ≡ with_name index o.ninsts (from + 5 + n) len) → Stepped job index index' from (first_of (inst_line ∷ ks) j line rest) r
-    inst_good n len e index' r er =
-        let g = inst_good_is n len e in
+    pub inst_good : (k : Option Span) → InstSeen l (rows (inst_at job index) o.ninsts) (Ok k) → (a : Span) → k ≡ Some a → (index' : List ℕ) (r : Step) → (r ≡ inst_on end head o) × (index' ≡ with_name index o.ninsts (from + 5 + a.at) a.len) → Stepped job index index' from (first_of (inst_line ∷ ks) j line rest) (Ok r)
+    inst_good k sk a e index' r er =
+        let ek : InstSeen l (rows (inst_at job index) o.ninsts) (Ok (Some a)) = rw e at sk in
+        let g = inst_good_is a ek in
         let t = inst_taken l (rows (inst_at job index) o.ninsts) g.0 g.1.0 in
-        let hi : inst_here line ≡ some g.0 = ap inst_here (sym el) ∙ t.0 in
-        let few = inst_few n len e in
+        let hi : inst_here line ≡ Some g.0 = ap inst_here (sym el) ∙ t.0 in
+        let few = inst_few a ek in
         let i = g.0 in
-        let s : Stepped job index (named n len e) from (first_of (inst_line ∷ ks) j line rest) (inst_on end head o) = record {
+        let s : Stepped job index (named a ek) from (first_of (inst_line ∷ ks) j line rest) (Ok (inst_on end head o)) = record {
           says =
               sym (kind_good inst_line ks j line rest inst_go inst_read_lem inst_is_lem i g.1.0
               ∙ rw (
                 on_last_lem (add_inst i) before m,
-                inst_module n len e i hi t.1.0 g.1.1,
-                name_files job index o.ninsts (from + 5 + n) len few pre.room head.files pre.stands.files,
-                name_modules job index o.ninsts (from + 5 + n) len few pre.room head.modules (omega (arith, pre.stands.modules)),
+                inst_module a ek i hi t.1.0 g.1.1,
+                name_files job index o.ninsts (from + 5 + a.at) a.len few pre.room head.files pre.stands.files,
+                name_modules job index o.ninsts (from + 5 + a.at) a.len few pre.room head.modules (omega (arith, pre.stands.modules)),
               ));
-          stands = (omega (arith, from_end job from end pre.line), record { within = inst_inside n len e i hi t.1.0 g.1.1; some_inst = omega arith });
-          long = name_long job index o.ninsts (from + 5 + n) len few pre.room;
-          kept = name_kept job index o.ninsts (from + 5 + n) len few pre.room;
+          stands = (omega (arith, from_end job from end pre.line), record { within = inst_inside a ek i hi t.1.0 g.1.1; some_inst = omega arith });
+          long = name_long job index o.ninsts (from + 5 + a.at) a.len few pre.room;
+          kept = name_kept job index o.ninsts (from + 5 + a.at) a.len few pre.room;
         } in
         rw (er.0, er.1) s
 
@@ -443,7 +453,7 @@ module _ (job index : List ℕ) (from end : ℕ) (head : Header) (o : Open) (pre
     leave_job =
         rw (e, modules_put job index head.modules o pre.stands.modules pre.room, module_files job index head.modules o pre.stands.modules pre.room head.files pre.stands.files)
 
-    pub leave_is : (r : Step) → Stepped job index' index' from (first_of (module_line ∷ end_line ∷ []) (job_of job index' left) (line_of job from end) (drop (end + 1) job)) r
+    pub leave_is : (r : Result Step Refusal) → Stepped job index' index' from (first_of (module_line ∷ end_line ∷ []) (job_of job index' left) (line_of job from end) (drop (end + 1) job)) r
         → Stepped job index index' from (first_of (module_line ∷ end_line ∷ []) (job_in job index head o) (line_of job from end) (drop (end + 1) job)) r
     leave_is r s =
         record {
@@ -454,37 +464,40 @@ module _ (job index : List ℕ) (from end : ℕ) (head : Header) (o : Open) (pre
         }
 
 -- ---- how far the counts and the places go, where a line is good
-module _ (o : Open) (l : Bytes) (k : Look) where
-  pub port_small : k ≡ verdict (port_read (style_at o.style) o.nports l) → k ≡ look.Good → o.nports < 2 ^ 32
+module _ (o : Open) (l : Bytes) (k : Bool) where
+  pub port_small : Ok k ≡ verdict (port_read (style_is o.style) o.nports l) → k ≡ true → o.nports < 2 ^ 32
   port_small ek e =
-      let w = was_good (port_read (style_at o.style) o.nports l) (sym e ∙ ek) in
-      omega (arith, (port_taken l (style_at o.style) o.nports w.0 w.1).1)
+      let w = was_good (port_read (style_is o.style) o.nports l) (ap Ok (sym e) ∙ ek) in
+      omega (arith, (port_taken l (style_is o.style) o.nports w.0 w.1).1)
 
-  pub decl_small : k ≡ verdict (decl_read o.ndecls l) → k ≡ look.Good → o.ndecls < 2 ^ 32
+  pub decl_small : Ok k ≡ verdict (decl_read o.ndecls l) → k ≡ true → o.ndecls < 2 ^ 32
   decl_small ek e =
-      let w = was_good (decl_read o.ndecls l) (sym e ∙ ek) in
+      let w = was_good (decl_read o.ndecls l) (ap Ok (sym e) ∙ ek) in
       omega (arith, (decl_taken l o.ndecls w.0 w.1).1)
 
-  pub conn_small : k ≡ verdict (conn_read o.nconns l) → k ≡ look.Good → o.nconns < 2 ^ 32
+  pub conn_small : Ok k ≡ verdict (conn_read o.nconns l) → k ≡ true → o.nconns < 2 ^ 32
   conn_small ek e =
-      let w = was_good (conn_read o.nconns l) (sym e ∙ ek) in
+      let w = was_good (conn_read o.nconns l) (ap Ok (sym e) ∙ ek) in
       omega (arith, (conn_taken l o.nconns w.0 w.1).1.1)
 
-module _ (job index : List ℕ) (from end : ℕ) (head : Header) (o : Open) (l : Bytes) (el : l ≡ take (end - from) (drop from job)) (pre : Asked job index from end (Inside job index head o from)) (k : InstLook) (ek : InstSeen l (rows (inst_at job index) o.ninsts) k) (n len : ℕ) (e : k ≡ looked.Good n len) where
-  pub inst_room : o.ninsts < 64
-  inst_room = inst_few job index from end head o l el [] pre k ek n len e
+module _ (job index : List ℕ) (from end : ℕ) (head : Header) (o : Open) (l : Bytes) (el : l ≡ take (end - from) (drop from job)) (pre : Asked job index from end (Inside job index head o from)) (k : Option Span) (sk : InstSeen l (rows (inst_at job index) o.ninsts) (Ok k)) (a : Span) (e : k ≡ Some a) where
+  known : InstSeen l (rows (inst_at job index) o.ninsts) (Ok (Some a))
+  known = rw e at sk
 
-  inst_in : (n + len ≤ end - from - 5) × (end - from ≤ 65536)
+  pub inst_room : o.ninsts < 64
+  inst_room = inst_few job index from end head o l el [] pre a known
+
+  inst_in : (a.at + a.len ≤ end - from - 5) × (end - from ≤ 65536)
   inst_in =
-      let a = name_room job index from end head o l el [] pre k ek n len e in
-      let b = value_length job index from end head o l el [] pre k ek n len e in
+      let x = name_room job index from end head o l el [] pre a known in
+      let y = value_length job index from end head o l el [] pre a known in
       (omega arith, omega (arith, pre.line.inside, pre.line.small))
 
-  pub inst_at_small : from + 5 + n < 2 ^ 32
+  pub inst_at_small : from + 5 + a.at < 2 ^ 32
   inst_at_small = omega (arith, inst_in, pre.line.inside, pre.line.small)
 
-  pub inst_at_fits : from + 5 + n < 2 ^ 64
+  pub inst_at_fits : from + 5 + a.at < 2 ^ 64
   inst_at_fits = omega (arith, inst_at_small)
 
-  pub inst_len_small : len < 2 ^ 32
+  pub inst_len_small : a.len < 2 ^ 32
   inst_len_small = omega (arith, inst_in)

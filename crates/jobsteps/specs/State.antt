@@ -1,6 +1,6 @@
 -- The state of the reading: what the code's numbers stand for between two lines, and what holds of them.
 -- Assumes nothing.
-use Rattle.std.specs.Prelude.{ℕ, ◌+◌, ◌^◌, ◌≤◌, ◌<◌, ◌≡◌, List, [], ◌∷◌, ◌++◌, map, length, drop}
+use Rattle.std.specs.Prelude.{ℕ, ◌+◌, ◌^◌, ◌≤◌, ◌<◌, ◌≡◌, List, [], ◌∷◌, ◌++◌, map, length, drop, Result, Ok, Err}
 use Rattle.text.specs.Ascii.{Bytes, byte}
 use Rattle.text.specs.Scan.{up_to}
 use Rattle.joblines.specs.Job.{Inst, Module, Job}
@@ -13,7 +13,9 @@ use Rattle.jobindex.specs.declared.Open.{Open}
 use Rattle.jobsteps.specs.declared.Due.{Due}
 use Rattle.jobsteps.specs.declared.Due.TheVariants as due
 use Rattle.jobsteps.specs.declared.Step.{Step}
-use Rattle.jobsteps.specs.declared.Step.TheVariants as step
+use Rattle.joblines.specs.Forms.{number_of}
+use Rattle.joblines.specs.declared.Refusal.{Refusal}
+use Rattle.fields.specs.Meant.{style_number}
 use Rattle.jobindex.specs.Index.{index_size, bytes_at, section, module_of, inst_at, rows, job_of}
 
 -- ---- what the numbers stand for
@@ -33,7 +35,7 @@ due_of job due.Nothing = due_nothing
 
 -- the module that is being read
 abbrev pub open_of : Bytes → Open → Module
-open_of job o = module_of job o.name.at o.name.len o.style o.ports o.decls o.insts o.end
+open_of job o = module_of job o.name.at o.name.len (style_number o.style) o.ports o.decls o.insts o.end
 
 -- the job so far, within a module
 abbrev pub job_in : Bytes → List ℕ → Header → Open → Job
@@ -52,9 +54,9 @@ job_now job index due.Decls head o = job_in job index head o
 job_now job index due.Insts head o = job_in job index head o
 job_now job index due.Nothing head o = job_of job index head
 
-abbrev pub meant : Bytes → List ℕ → Step → Read
-meant job index (step.Refused x) = refuse x
-meant job index (step.On at d head o) = on (due_of job d) (job_now job index d head o) (drop at job)
+abbrev pub meant : Bytes → List ℕ → Result Step Refusal → Read
+meant job index (Err x) = refuse (number_of x)
+meant job index (Ok s) = on (due_of job s.due) (job_now job index s.due s.head s.opened) (drop s.at job)
 
 -- ---- what holds of them
 
@@ -131,9 +133,9 @@ Stands job index due.Insts head o at = InstsDue job index head o at
 Stands job index due.Nothing head o at = Outside job head at
 
 -- a step on is past the line's first byte
-abbrev pub StandsOn : Bytes → List ℕ → ℕ → Step → Type 0
-StandsOn job index from (step.Refused x) = Unit {0}
-StandsOn job index from (step.On at d head o) = (from < at) × Stands job index d head o at
+abbrev pub StandsOn : Bytes → List ℕ → ℕ → Result Step Refusal → Type 0
+StandsOn job index from (Err x) = Unit {0}
+StandsOn job index from (Ok s) = (from < s.at) × Stands job index s.due s.head s.opened s.at
 
 -- ---- contracts
 
@@ -152,7 +154,7 @@ pub record Asked (job : Bytes) (index : List ℕ) (from end : ℕ) (S : Type 0) 
   pub room : index_size ≤ length index
 
 -- what a step comes to: what the definition reads, a state that stands, and nothing changed behind the index
-pub record Stepped (job : Bytes) (index₀ index : List ℕ) (from : ℕ) (read : Read) (r : Step) : Type 0 where
+pub record Stepped (job : Bytes) (index₀ index : List ℕ) (from : ℕ) (read : Read) (r : Result Step Refusal) : Type 0 where
   pub says : meant job index r ≡ read
   pub stands : StandsOn job index from r
   pub long : length index ≡ length index₀
@@ -161,10 +163,10 @@ pub record Stepped (job : Bytes) (index₀ index : List ℕ) (from : ℕ) (read 
 -- ---- the state after a line that is good
 
 abbrev pub file_on : Bytes → ℕ → ℕ → Header → Open → Step
-file_on line from end head o = step.On (end + 1) (due.Bytes (from + 5) (length (drop 5 line))) head o
+file_on line from end head o = record { at = end + 1; due = (due.Bytes (from + 5) (length (drop 5 line))); head = head; opened = o }
 
 abbrev pub module_on : Bytes → ℕ → ℕ → Header → Open → Step
-module_on line from end head o = step.On (end + 1) (due.Style (from + 7) (length (drop 7 line))) head o
+module_on line from end head o = record { at = end + 1; due = (due.Style (from + 7) (length (drop 7 line))); head = head; opened = o }
 
 -- the module with one port more, that ends at n
 abbrev pub port_more : ℕ → Open → Open
@@ -228,13 +230,13 @@ conn_more n o =
     }
 
 abbrev pub port_on : ℕ → Header → Open → Step
-port_on end head o = step.On (end + 1) due.Ports head (port_more (end + 1) o)
+port_on end head o = record { at = end + 1; due = due.Ports; head = head; opened = (port_more (end + 1) o) }
 
 abbrev pub decl_on : ℕ → Header → Open → Step
-decl_on end head o = step.On (end + 1) due.Decls head (decl_more (end + 1) o)
+decl_on end head o = record { at = end + 1; due = due.Decls; head = head; opened = (decl_more (end + 1) o) }
 
 abbrev pub inst_on : ℕ → Header → Open → Step
-inst_on end head o = step.On (end + 1) due.Insts head (inst_more (end + 1) o)
+inst_on end head o = record { at = end + 1; due = due.Insts; head = head; opened = (inst_more (end + 1) o) }
 
 abbrev pub conn_on : ℕ → Header → Open → Step
-conn_on end head o = step.On (end + 1) due.Insts head (conn_more (end + 1) o)
+conn_on end head o = record { at = end + 1; due = due.Insts; head = head; opened = (conn_more (end + 1) o) }

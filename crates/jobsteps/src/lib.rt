@@ -7,13 +7,11 @@ ghost use Rattle.jobindex.specs.Index.{index_size, bytes_at, job_of};
 ghost use Rattle.jobindex.specs.Stores.{with_name};
 ghost use Rattle.jobsteps.specs.State.{line_of, job_in, Outside, Inside, BytesDue, StyleDue, PortsDue, DeclsDue, InstsDue, Alone, Asked, Stepped, file_on, module_on, port_on, decl_on, conn_on, inst_on};
 
-use jobindex::look::InstLook;
 use jobindex::{Header, Open, Span};
-use joblines::Look;
-use text::number::Num;
+use joblines::Refusal;
 
 // Which lines are due.
-#[derive(Clone, Copy)]
+#[derive(PartialEq, Eq, Clone, Copy, Debug)]
 pub enum Due {
     Top,
     Override,
@@ -28,26 +26,29 @@ pub enum Due {
     Nothing,
 }
 
-// What a line comes to: it is refused, by a number; or the reading goes on, at a place.
-#[derive(Clone, Copy)]
-pub enum Step {
-    Refused(u8),
-    On {
-        at: usize,
-        due: Due,
-        head: Header,
-        opened: Open,
-    },
+// The reading goes on, at a place.
+#[derive(PartialEq, Eq, Clone, Copy, Debug)]
+pub struct Step {
+    pub at: usize,
+    pub due: Due,
+    pub head: Header,
+    pub opened: Open,
 }
 
 // `top=NAME` is due.
-pub fn top_step(job: &[u8], from: usize, end: usize, head: Header, opened: Open) -> Step
+pub fn top_step(
+    job: &[u8],
+    from: usize,
+    end: usize,
+    head: Header,
+    opened: Open,
+) -> Result<Step, Refusal>
     requires { Alone job.now from end (Outside job.now head from) }
     ensures { (index : List ℕ) → Stepped job.now index index from (first_of (top_line ∷ []) (job_of job.now index head) (line_of job.now from end) (drop (end + 1) job.now)) result }
 {
     let line = text::part::part(job, from, end - from);
     if !joblines::is_top(line) {
-        return Step::Refused(4);
+        return Err(Refusal::Malformed);
     }
     let v = text::part::rest(line, 4);
     let top = Span {
@@ -56,22 +57,28 @@ pub fn top_step(job: &[u8], from: usize, end: usize, head: Header, opened: Open)
     };
     let mut head = head;
     head.top = top;
-    Step::On {
+    Ok(Step {
         at: end + 1,
         due: Due::Override,
         head,
         opened,
-    }
+    })
 }
 
 // `override=PATH` is due.
-pub fn override_step(job: &[u8], from: usize, end: usize, head: Header, opened: Open) -> Step
+pub fn override_step(
+    job: &[u8],
+    from: usize,
+    end: usize,
+    head: Header,
+    opened: Open,
+) -> Result<Step, Refusal>
     requires { Alone job.now from end (Outside job.now head from) }
     ensures { (index : List ℕ) → Stepped job.now index index from (first_of (override_line ∷ []) (job_of job.now index head) (line_of job.now from end) (drop (end + 1) job.now)) result }
 {
     let line = text::part::part(job, from, end - from);
     if !text::compare::starts_with(line, b"override=") {
-        return Step::Refused(4);
+        return Err(Refusal::Malformed);
     }
     let v = text::part::rest(line, 9);
     let over = Span {
@@ -80,22 +87,28 @@ pub fn override_step(job: &[u8], from: usize, end: usize, head: Header, opened: 
     };
     let mut head = head;
     head.over = over;
-    Step::On {
+    Ok(Step {
         at: end + 1,
         due: Due::Start,
         head,
         opened,
-    }
+    })
 }
 
 // `start=PATH` is due.
-pub fn start_step(job: &[u8], from: usize, end: usize, head: Header, opened: Open) -> Step
+pub fn start_step(
+    job: &[u8],
+    from: usize,
+    end: usize,
+    head: Header,
+    opened: Open,
+) -> Result<Step, Refusal>
     requires { Alone job.now from end (Outside job.now head from) }
     ensures { (index : List ℕ) → Stepped job.now index index from (first_of (start_line ∷ []) (job_of job.now index head) (line_of job.now from end) (drop (end + 1) job.now)) result }
 {
     let line = text::part::part(job, from, end - from);
     if !joblines::is_start(line) {
-        return Step::Refused(4);
+        return Err(Refusal::Malformed);
     }
     let v = text::part::rest(line, 6);
     let start = Span {
@@ -104,12 +117,12 @@ pub fn start_step(job: &[u8], from: usize, end: usize, head: Header, opened: Ope
     };
     let mut head = head;
     head.start = start;
-    Step::On {
+    Ok(Step {
         at: end + 1,
         due: Due::File,
         head,
         opened,
-    }
+    })
 }
 
 // The first `file=PATH` is due.
@@ -120,18 +133,16 @@ pub fn file_step(
     end: usize,
     head: Header,
     opened: Open,
-) -> Step
+) -> Result<Step, Refusal>
     requires { Asked job.now index.now from end (Outside job.now head from) }
     ensures { Stepped job.now index.now index.now from (first_of (file_line ∷ []) (job_of job.now index.now head) (line_of job.now from end) (drop (end + 1) job.now)) result }
 {
     let line = text::part::part(job, from, end - from);
     let count = head.files;
-    let look = jobindex::look::file_line(job, index, line, count);
-    match look {
-        Look::Other => Step::Refused(4),
-        Look::Refused(x) => Step::Refused(x),
-        Look::Good => file_on(line, from, end, head, opened),
+    if jobindex::look::file_line(job, index, line, count)? {
+        return Ok(file_on(line, from, end, head, opened));
     }
+    Err(Refusal::Malformed)
 }
 
 // A file's path is read, and its bytes are due.
@@ -144,7 +155,7 @@ fn file_on(line: &[u8], from: usize, end: usize, head: Header, opened: Open) -> 
         at: from + 5,
         len: v.len(),
     };
-    Step::On {
+    Step {
         at: end + 1,
         due,
         head,
@@ -162,32 +173,32 @@ pub fn bytes_step(
     len: usize,
     head: Header,
     opened: Open,
-) -> Step
+) -> Result<Step, Refusal>
     requires { Asked job.now index.old from end (BytesDue job.now head at len from) }
     ensures { Stepped job.now index.old index.new from (first_of (bytes_line (bytes_at job.now at len) ∷ []) (job_of job.now index.old head) (line_of job.now from end) (drop (end + 1) job.now)) result }
 {
     let line = text::part::part(job, from, end - from);
     let n = jobindex::look::bytes_line(line);
-    let Num::Of(size) = n else {
-        return Step::Refused(4);
+    let Some(size) = n else {
+        return Err(Refusal::Malformed);
     };
     let body = end + 1;
     if job.len() - body <= size {
-        return Step::Refused(4);
+        return Err(Refusal::Malformed);
     }
     if job[body + size] != b'\n' {
-        return Step::Refused(4);
+        return Err(Refusal::Malformed);
     }
     let files = head.files;
     jobindex::put_file(index, files, at, len, body, size);
     let mut head = head;
     head.files = files + 1;
-    Step::On {
+    Ok(Step {
         at: body + size + 1,
         due: Due::More,
         head,
         opened,
-    }
+    })
 }
 
 // Another file, or the first module, is due.
@@ -198,18 +209,16 @@ pub fn more_step(
     end: usize,
     head: Header,
     opened: Open,
-) -> Step
+) -> Result<Step, Refusal>
     requires { Asked job.now index.now from end (Outside job.now head from) }
     ensures { Stepped job.now index.now index.now from (first_of (file_line ∷ module_line ∷ []) (job_of job.now index.now head) (line_of job.now from end) (drop (end + 1) job.now)) result }
 {
     let line = text::part::part(job, from, end - from);
     let count = head.files;
-    let look = jobindex::look::file_line(job, index, line, count);
-    match look {
-        Look::Other => module_step(job, index, from, end, head, opened),
-        Look::Refused(x) => Step::Refused(x),
-        Look::Good => file_on(line, from, end, head, opened),
+    if jobindex::look::file_line(job, index, line, count)? {
+        return Ok(file_on(line, from, end, head, opened));
     }
+    module_step(job, index, from, end, head, opened)
 }
 
 // A module is due.
@@ -220,18 +229,16 @@ fn module_step(
     end: usize,
     head: Header,
     opened: Open,
-) -> Step
+) -> Result<Step, Refusal>
     requires { Asked job.now index.now from end (Outside job.now head from) }
     ensures { Stepped job.now index.now index.now from (first_of (module_line ∷ []) (job_of job.now index.now head) (line_of job.now from end) (drop (end + 1) job.now)) result }
 {
     let line = text::part::part(job, from, end - from);
     let count = head.modules;
-    let look = jobindex::look::module_line(job, index, line, count);
-    match look {
-        Look::Other => Step::Refused(4),
-        Look::Refused(x) => Step::Refused(x),
-        Look::Good => module_on(line, from, end, head, opened),
+    if jobindex::look::module_line(job, index, line, count)? {
+        return Ok(module_on(line, from, end, head, opened));
     }
+    Err(Refusal::Malformed)
 }
 
 // A module's name is read, and its style is due.
@@ -244,7 +251,7 @@ fn module_on(line: &[u8], from: usize, end: usize, head: Header, opened: Open) -
         at: from + 7,
         len: v.len(),
     };
-    Step::On {
+    Step {
         at: end + 1,
         due,
         head,
@@ -253,18 +260,24 @@ fn module_on(line: &[u8], from: usize, end: usize, head: Header, opened: Open) -
 }
 
 // `style=` is due, for the module with the name at `at`.
-pub fn style_step(job: &[u8], from: usize, end: usize, at: usize, len: usize, head: Header) -> Step
+pub fn style_step(
+    job: &[u8],
+    from: usize,
+    end: usize,
+    at: usize,
+    len: usize,
+    head: Header,
+) -> Result<Step, Refusal>
     requires { Alone job.now from end (StyleDue job.now head at len from) }
     ensures { (index : List ℕ) → Stepped job.now index index from (first_of (style_line (bytes_at job.now at len) ∷ []) (job_of job.now index head) (line_of job.now from end) (drop (end + 1) job.now)) result }
 {
     let line = text::part::part(job, from, end - from);
     if !text::compare::starts_with(line, b"style=") {
-        return Step::Refused(4);
+        return Err(Refusal::Malformed);
     }
-    let style = fields::style_number(text::part::rest(line, 6));
-    if 2 < style {
-        return Step::Refused(4);
-    }
+    let Some(style) = fields::read_style(text::part::rest(line, 6)) else {
+        return Err(Refusal::Malformed);
+    };
     let next = end + 1;
     let name = Span { at, len };
     let opened = Open {
@@ -279,12 +292,12 @@ pub fn style_step(job: &[u8], from: usize, end: usize, at: usize, len: usize, he
         ninsts: 0,
         nconns: 0,
     };
-    Step::On {
+    Ok(Step {
         at: next,
         due: Due::Ports,
         head,
         opened,
-    }
+    })
 }
 
 // In a module, behind its style or a port.
@@ -295,19 +308,17 @@ pub fn ports_step(
     end: usize,
     head: Header,
     opened: Open,
-) -> Step
+) -> Result<Step, Refusal>
     requires { Asked job.now index.old from end (PortsDue job.now index.old head opened from) }
     ensures { Stepped job.now index.old index.new from (first_of (port_line ∷ decl_line ∷ inst_line ∷ module_line ∷ end_line ∷ []) (job_in job.now index.old head opened) (line_of job.now from end) (drop (end + 1) job.now)) result }
 {
     let line = text::part::part(job, from, end - from);
     let style = opened.style;
     let count = opened.nports;
-    let look = joblines::port_line(line, style, count);
-    match look {
-        Look::Other => decls_step(job, index, from, end, head, opened),
-        Look::Refused(x) => Step::Refused(x),
-        Look::Good => port_on(end, head, opened),
+    if joblines::port_line(line, style, count)? {
+        return Ok(port_on(end, head, opened));
     }
+    decls_step(job, index, from, end, head, opened)
 }
 
 // A port is read.
@@ -321,7 +332,7 @@ fn port_on(end: usize, head: Header, opened: Open) -> Step
     opened.insts = next;
     opened.end = next;
     opened.nports = opened.nports + 1;
-    Step::On {
+    Step {
         at: next,
         due: Due::Ports,
         head,
@@ -337,18 +348,16 @@ pub fn decls_step(
     end: usize,
     head: Header,
     opened: Open,
-) -> Step
+) -> Result<Step, Refusal>
     requires { Asked job.now index.old from end (DeclsDue job.now index.old head opened from) }
     ensures { Stepped job.now index.old index.new from (first_of (decl_line ∷ inst_line ∷ module_line ∷ end_line ∷ []) (job_in job.now index.old head opened) (line_of job.now from end) (drop (end + 1) job.now)) result }
 {
     let line = text::part::part(job, from, end - from);
     let count = opened.ndecls;
-    let look = joblines::decl_line(line, count);
-    match look {
-        Look::Other => insts_step(job, index, from, end, head, opened),
-        Look::Refused(x) => Step::Refused(x),
-        Look::Good => decl_on(end, head, opened),
+    if joblines::decl_line(line, count)? {
+        return Ok(decl_on(end, head, opened));
     }
+    insts_step(job, index, from, end, head, opened)
 }
 
 // A declaration is read.
@@ -361,7 +370,7 @@ fn decl_on(end: usize, head: Header, opened: Open) -> Step
     opened.insts = next;
     opened.end = next;
     opened.ndecls = opened.ndecls + 1;
-    Step::On {
+    Step {
         at: next,
         due: Due::Decls,
         head,
@@ -377,18 +386,16 @@ pub fn conns_step(
     end: usize,
     head: Header,
     opened: Open,
-) -> Step
+) -> Result<Step, Refusal>
     requires { Asked job.now index.old from end (InstsDue job.now index.old head opened from) }
     ensures { Stepped job.now index.old index.new from (first_of (conn_line ∷ inst_line ∷ module_line ∷ end_line ∷ []) (job_in job.now index.old head opened) (line_of job.now from end) (drop (end + 1) job.now)) result }
 {
     let line = text::part::part(job, from, end - from);
     let count = opened.nconns;
-    let look = joblines::conn_line(line, count);
-    match look {
-        Look::Other => insts_step(job, index, from, end, head, opened),
-        Look::Refused(x) => Step::Refused(x),
-        Look::Good => conn_on(end, head, opened),
+    if joblines::conn_line(line, count)? {
+        return Ok(conn_on(end, head, opened));
     }
+    insts_step(job, index, from, end, head, opened)
 }
 
 // A connection is read.
@@ -400,7 +407,7 @@ fn conn_on(end: usize, head: Header, opened: Open) -> Step
     let mut opened = opened;
     opened.end = next;
     opened.nconns = opened.nconns + 1;
-    Step::On {
+    Step {
         at: next,
         due: Due::Insts,
         head,
@@ -416,18 +423,16 @@ fn insts_step(
     end: usize,
     head: Header,
     opened: Open,
-) -> Step
+) -> Result<Step, Refusal>
     requires { Asked job.now index.old from end (Inside job.now index.old head opened from) }
     ensures { Stepped job.now index.old index.new from (first_of (inst_line ∷ module_line ∷ end_line ∷ []) (job_in job.now index.old head opened) (line_of job.now from end) (drop (end + 1) job.now)) result }
 {
     let line = text::part::part(job, from, end - from);
     let count = opened.ninsts;
-    let look = jobindex::look::inst_line(job, &index[..], line, count);
-    match look {
-        InstLook::Other => leave_step(job, index, from, end, head, opened),
-        InstLook::Refused(x) => Step::Refused(x),
-        InstLook::Good { name, len } => inst_on(index, from + 5 + name, len, end, head, opened),
+    if let Some(name) = jobindex::look::inst_line(job, &index[..], line, count)? {
+        return Ok(inst_on(index, from + 5 + name.at, name.len, end, head, opened));
     }
+    leave_step(job, index, from, end, head, opened)
 }
 
 // An instance is read, whose name stands at `at`.
@@ -442,7 +447,7 @@ fn inst_on(index: &mut [u32], at: usize, len: usize, end: usize, head: Header, o
     opened.end = next;
     opened.ninsts = count + 1;
     opened.nconns = 0;
-    Step::On {
+    Step {
         at: next,
         due: Due::Insts,
         head,
@@ -458,7 +463,7 @@ fn leave_step(
     end: usize,
     head: Header,
     opened: Open,
-) -> Step
+) -> Result<Step, Refusal>
     requires { Asked job.now index.old from end (Inside job.now index.old head opened from) }
     ensures { Stepped job.now index.old index.new from (first_of (module_line ∷ end_line ∷ []) (job_in job.now index.old head opened) (line_of job.now from end) (drop (end + 1) job.now)) result }
 {
@@ -470,33 +475,44 @@ fn leave_step(
 }
 
 // Another module, or `end=`, is due.
-fn next_step(job: &[u8], index: &[u32], from: usize, end: usize, head: Header, opened: Open) -> Step
+fn next_step(
+    job: &[u8],
+    index: &[u32],
+    from: usize,
+    end: usize,
+    head: Header,
+    opened: Open,
+) -> Result<Step, Refusal>
     requires { Asked job.now index.now from end (Outside job.now head from) }
     ensures { Stepped job.now index.now index.now from (first_of (module_line ∷ end_line ∷ []) (job_of job.now index.now head) (line_of job.now from end) (drop (end + 1) job.now)) result }
 {
     let line = text::part::part(job, from, end - from);
     let count = head.modules;
-    let look = jobindex::look::module_line(job, index, line, count);
-    match look {
-        Look::Other => end_step(job, from, end, head, opened),
-        Look::Refused(x) => Step::Refused(x),
-        Look::Good => module_on(line, from, end, head, opened),
+    if jobindex::look::module_line(job, index, line, count)? {
+        return Ok(module_on(line, from, end, head, opened));
     }
+    end_step(job, from, end, head, opened)
 }
 
 // `end=` is due.
-fn end_step(job: &[u8], from: usize, end: usize, head: Header, opened: Open) -> Step
+fn end_step(
+    job: &[u8],
+    from: usize,
+    end: usize,
+    head: Header,
+    opened: Open,
+) -> Result<Step, Refusal>
     requires { Alone job.now from end (Outside job.now head from) }
     ensures { (index : List ℕ) → Stepped job.now index index from (first_of (end_line ∷ []) (job_of job.now index head) (line_of job.now from end) (drop (end + 1) job.now)) result }
 {
     let line = text::part::part(job, from, end - from);
     if !text::compare::same(line, b"end=") {
-        return Step::Refused(4);
+        return Err(Refusal::Malformed);
     }
-    Step::On {
+    Ok(Step {
         at: end + 1,
         due: Due::Nothing,
         head,
         opened,
-    }
+    })
 }

@@ -4,7 +4,7 @@ use native.Mathlib.Omega.{arith}
 use mathlib.Core.Path.{◌≡◌, refl, sym, ap, ◌∙◌}
 use mathlib.Core.Bool.{Bool, true, false, cond, not, ◌||◌}
 use mathlib.Core.List.{List, [], ◌∷◌, ◌++◌}
-use mathlib.Core.Option.{none, some}
+use Rattle.std.specs.Prelude.{None, Some}
 use lib.Dec.{eqb}
 use lib.ListN.{length, length-append}
 use borrow.Author.Rules.{rules}
@@ -13,7 +13,7 @@ use Rattle.text.specs.Ascii.{Bytes, ascii}
 use Rattle.text.specs.Compare.{same}
 use Rattle.text.specs.Scan.{any}
 use Rattle.text.specs.Sames.{no_true}
-use Rattle.out.specs.Emit.{◌▸◌, emit}
+use Rattle.out.specs.Emit.{Out, ◌▸◌, emit}
 use Rattle.out.specs.Fill.{fill, turns}
 use Rattle.out.specs.Items.{each}
 use Rattle.spans.specs.Span.{◌⋯◌}
@@ -138,10 +138,12 @@ unfolding turns
 warning_is n p = warned_line (ascii "isolation strategy '{0}': port '{1}' actual is not a plain net; not simulated") n p [] [] [] refl ∙ sym (one_warning (not_plain n p))
 
 module _ (warn : Bool) (c : Cover) (out : Bytes) where
-  pub plain_warned : (job mem : Bytes) (scope : List Bytes) (top : Bytes) (n : Name) (p : Ref) (a b : Arg) (out' : Bytes) (o : ℕ) (r : Cover)
-      → out' ▸ o ≡ emit (out ▸ c.at) (fill (ascii "warning: isolation strategy '{0}': port '{1}' actual is not a plain net; not simulated\n") (arg_of job mem scope top a) (arg_of job mem scope top b) [] [] [])
+  pub plain_warned : (job mem : Bytes) (scope : List Bytes) (top : Bytes) (n : Name) (p : Ref) (a b : Arg) (z₀ z₁ : Out) (out' : Bytes) (o : ℕ) (r : Cover)
+      → z₁ ≡ emit z₀ (fill (ascii "warning: isolation strategy '{0}': port '{1}' actual is not a plain net; not simulated\n") (arg_of job mem scope top a) (arg_of job mem scope top b) [] [] [])
+      → z₀ ≡ out ▸ c.at → out' ▸ o ≡ z₁
       → a ≡ name_arg n → b ≡ wrapped_arg 0 p → r ≡ warned_cover c o → not warn ≡ false → Remarked warn (not_plain (name_of mem n) (text_of job mem p)) c out r out'
-  plain_warned job mem scope top n p a b out' o r e f g h w =
+  plain_warned job mem scope top n p a b z₀ z₁ out' o r e₁ e₀ k f g h w =
+      let e : out' ▸ o ≡ emit (out ▸ c.at) (fill (ascii "warning: isolation strategy '{0}': port '{1}' actual is not a plain net; not simulated\n") (arg_of job mem scope top a) (arg_of job mem scope top b) [] [] []) = k ∙ (rw e₀ at e₁) in
       let s : arg_of job mem scope top a ≡ name_of mem n = ap (arg_of job mem scope top) f ∙ name_arg_lem job mem scope top n in
       let q : arg_of job mem scope top b ≡ text_of job mem p = ap (arg_of job mem scope top) g ∙ plain_arg job mem scope top p in
       let z : out' ▸ o ≡ emit (out ▸ c.at) (each warning_line (not_plain (name_of mem n) (text_of job mem p) ∷ [])) = e ∙ rw (s, q) (ap (emit (out ▸ c.at)) (warning_is (name_of mem n) (text_of job mem p))) in
@@ -211,11 +213,11 @@ module _ (job mem : Bytes) (warn : Bool) (c : Cover) (out : Bytes) (t : List ℕ
 
   -- one is kept
   kept_answer : is_in key_now (keys_of rows_now) ≡ false → (y : Isolated) (w : Bytes) → kept_of job mem y ≡ kept x.strategy key_now w → (r : Cover) (t' : List ℕ) → KeepSeen c y t r t' → length t' ≡ length t
-      → Answer job mem warn c out (gain_from x.strategy name key_now rows_now (some w)) r out t'
+      → Answer job mem warn c out (gain_from x.strategy name key_now rows_now (Some w)) r out t'
   unfolding emit counted
   kept_answer k y w e r t' m lt = go (eqb c.ports 256) refl m.answer m.table
     where
-      go : (d : Bool) → eqb c.ports 256 ≡ d → r ≡ cond d refused_cover (counted_cover c) → t' ≡ cond d t (port_put t c.ports y) → Answer job mem warn c out (gain_from x.strategy name key_now rows_now (some w)) r out t'
+      go : (d : Bool) → eqb c.ports 256 ≡ d → r ≡ cond d refused_cover (counted_cover c) → t' ≡ cond d t (port_put t c.ports y) → Answer job mem warn c out (gain_from x.strategy name key_now rows_now (Some w)) r out t'
       go true d a f =
           let v : r.over ≡ true = ap (λ (z : Cover). z.over) a in
           let l : length (rows_now ++ (kept x.strategy key_now w ∷ [])) ≡ length rows_now + 1 = length-append rows_now (kept x.strategy key_now w ∷ []) in

@@ -1,6 +1,5 @@
 -- How the code's numbers, its table and its text stand for what has been gained. Assumes nothing.
-use Rattle.std.specs.Prelude.{ℕ, ◌+◌, ◌≤◌, ◌<◌, ◌≡◌, Bool, true, false, cond, List, [], ◌∷◌, eqb, ltb, length}
-use Rattle.std.proofs.Math.Option.{Option, none, some}
+use Rattle.std.specs.Prelude.{ℕ, ◌+◌, ◌≤◌, ◌<◌, ◌≡◌, Bool, true, false, cond, List, [], ◌∷◌, eqb, ltb, length, Option, None, Some}
 use Rattle.text.specs.Ascii.{Bytes}
 use Rattle.out.specs.Emit.{◌▸◌, emit}
 use Rattle.out.specs.Items.{each}
@@ -71,9 +70,9 @@ with_net x n =
     }
 
 abbrev pub net_for : Bytes → Bytes → Isolated → Net → Option Bytes
-net_for job mem x net.None = none
-net_for job mem x net.Own = some (text_of job mem (net_ref x))
-net_for job mem x (net.Of n) = some (text_of job mem (net_ref (with_net x n)))
+net_for job mem x net.None = None
+net_for job mem x net.Own = Some (text_of job mem (net_ref x))
+net_for job mem x (net.Of n) = Some (text_of job mem (net_ref (with_net x n)))
 
 abbrev pub aim_of : Bytes → Bytes → Isolated → Net → Aim
 aim_of job mem x n = record { key = text_of job mem (port_ref x); net = net_for job mem x n }

@@ -1,7 +1,6 @@
 -- What a strategy gains from the ports that it aims at: ports that it keeps, lines of the report, and warnings. Assumes nothing.
-use Rattle.std.specs.Prelude.{ℕ, ◌+◌, ◌≤◌, ◌≡◌, refl, Bool, true, false, cond, List, [], ◌∷◌, ◌++◌, length}
+use Rattle.std.specs.Prelude.{ℕ, ◌+◌, ◌≤◌, ◌≡◌, refl, Bool, true, false, cond, List, [], ◌∷◌, ◌++◌, length, Option, None, Some}
 use Rattle.std.proofs.Common.{arith, sym, ap, ◌∙◌, append_assoc, append-nil, length-append}
-use Rattle.std.proofs.Math.Option.{Option, none, some}
 use Rattle.text.specs.Ascii.{Bytes}
 use Rattle.out.specs.Fill.{format2}
 use Rattle.design.specs.Lists.{is_in}
@@ -32,8 +31,8 @@ not_plain name key = format2 "isolation strategy '{0}': port '{1}' actual is not
 
 -- strategy n, of this name, aims at a port: "the first to cover a port keeps it"
 abbrev pub gain_from : ℕ → Bytes → Bytes → List Kept → Option Bytes → Gain
-gain_from n name key l none = record { rows = l; report = []; remarks = not_plain name key ∷ [] }
-gain_from n name key l (some w) = record { rows = l ++ (kept n key w ∷ []); report = []; remarks = [] }
+gain_from n name key l None = record { rows = l; report = []; remarks = not_plain name key ∷ [] }
+gain_from n name key l (Some w) = record { rows = l ++ (kept n key w ∷ []); report = []; remarks = [] }
 
 unfoldable pub gain_of : ℕ → Bytes → Aim → List Kept → Gain
 gain_of n name a l = cond (is_in a.key (keys_of l)) (stay l) (gain_from n name a.key l a.net)
@@ -80,8 +79,8 @@ one_grows n name a l = go (is_in a.key (keys_of l)) a.net
   where
     go : (b : Bool) (o : Option Bytes) → length l ≤ length (cond b (stay l) (gain_from n name a.key l o)).rows
     go true o = omega arith
-    go false none = omega arith
-    go false (some w) = omega (arith, length-append l (kept n a.key w ∷ []))
+    go false None = omega arith
+    go false (Some w) = omega (arith, length-append l (kept n a.key w ∷ []))
 
 pub gains_grow : (n : ℕ) (name : Bytes) (xs : List Aim) (l : List Kept) → length l ≤ length (gains n name xs l).rows
 unfolding gains

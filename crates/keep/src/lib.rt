@@ -17,6 +17,7 @@ use format::fill::fill2;
 use isolated::{Isolated, is_other, port, port_at, put};
 use jobindex::Span as Part;
 use names::name::Name;
+use out::emit::Text;
 use refs::{Ref, no_name, same_refs};
 use spans::span::{Span, least};
 
@@ -30,6 +31,7 @@ pub struct Cover {
 }
 
 // A span of the stored memory in numbers that can be held: what lies behind the end has no bytes.
+#[tactic(auto, using(crate::proofs::Aims::numbers))]
 fn held_span(files: &[u8], area: &[u8], s: Span) -> Span
     requires { length files.now + length area.now < 2 ^ 31 }
     ensures { result ≡ held_span (files.now ++ area.now) s }
@@ -42,6 +44,7 @@ fn held_span(files: &[u8], area: &[u8], s: Span) -> Span
 }
 
 // A name in numbers that can be held.
+#[tactic(auto, using(crate::proofs::Aims::made))]
 pub fn held(files: &[u8], area: &[u8], n: Name) -> Name
     requires { length files.now + length area.now < 2 ^ 31 }
     ensures { result ≡ held_name (files.now ++ area.now) n }
@@ -57,6 +60,7 @@ pub fn held(files: &[u8], area: &[u8], n: Name) -> Name
 }
 
 // A part of the job in numbers that can be held.
+#[tactic(auto, using(crate::proofs::Aims::numbers))]
 pub fn held_part(job: &[u8], s: Part) -> Part
     ensures { result ≡ held_part job.now s }
 {
@@ -67,6 +71,7 @@ pub fn held_part(job: &[u8], s: Part) -> Part
 }
 
 // Whether the port of row k is this one, as a text.
+#[tactic(auto, using(crate::proofs::Aims::rows))]
 fn is_row<'a>(job: &[u8], files: &'a [u8], area: &'a [u8], ports: &[u32], k: usize, p: Ref) -> bool
     requires { k < 256 }
     ensures { result ≡ same (text_of job.now (files.now ++ area.now) p) (text_of job.now (files.now ++ area.now) (port_ref (port_row ports.now k))) }
@@ -76,6 +81,7 @@ fn is_row<'a>(job: &[u8], files: &'a [u8], area: &'a [u8], ports: &[u32], k: usi
 }
 
 // Whether a port, which as a text is p, is isolated already.
+#[tactic(auto, using(crate::proofs::Aims::seeks))]
 fn is_covered<'a>(
     job: &[u8],
     files: &'a [u8],
@@ -88,16 +94,13 @@ fn is_covered<'a>(
     requires { (n ≤ 256) × (p ≡ port_ref x) }
     ensures { result ≡ is_in (text_of job.now (files.now ++ area.now) p) (keys_of (kept_in job.now (files.now ++ area.now) ports.now n)) }
 {
-    let mut k = 0;
-    while k < n {
+    for k in 0..n {
         if is_other(job, files, area, ports, k, x) {
-            k += 1;
             continue;
         }
         if is_row(job, files, area, ports, k, p) {
             return true;
         }
-        k += 1;
     }
     false
 }
@@ -115,16 +118,15 @@ pub fn refused() -> Cover
 }
 
 // A warning more. Past 512 the number says only that there are too many.
+#[tactic(auto, using(crate::proofs::Aims::numbers))]
 fn one_more(n: usize) -> usize
     ensures { result ≡ more n }
 {
-    if n < 513 {
-        return n + 1;
-    }
-    n
+    if n < 513 { n + 1 } else { n }
 }
 
 // The text goes on at o, with a warning more.
+#[tactic(auto, using(crate::proofs::Aims::made))]
 pub fn warned(c: Cover, o: usize) -> Cover
     ensures { result ≡ warned_cover c o }
 {
@@ -137,6 +139,7 @@ pub fn warned(c: Cover, o: usize) -> Cover
 }
 
 // A port more.
+#[tactic(auto, using(crate::proofs::Aims::keeps))]
 fn keep(ports: &mut [u32], c: Cover, x: Isolated) -> Cover
     requires { Ready c ports.old × Fits x }
     ensures { KeepSeen c x ports.old result ports.new }
@@ -155,6 +158,7 @@ fn keep(ports: &mut [u32], c: Cover, x: Isolated) -> Cover
 }
 
 // A warning more: a port of an instance has no plain net.
+#[tactic(auto, using(crate::proofs::Aims::warns))]
 fn not_plain(
     out: &mut [u8],
     warn: bool,
@@ -170,9 +174,9 @@ fn not_plain(
     if !warn {
         return warned(c, c.at);
     }
-    let o = fill2(
-        out,
-        c.at,
+    let mut text = Text::over(out, c.at);
+    fill2(
+        &mut text,
         b"warning: isolation strategy '{0}': port '{1}' actual is not a plain net; not simulated\n",
         job,
         files,
@@ -183,10 +187,12 @@ fn not_plain(
         name_arg(name),
         wrapped(0, p),
     );
+    let o = text.end();
     warned(c, o)
 }
 
 // The port with a net that is named in the job.
+#[tactic(auto, using(crate::proofs::Aims::nets))]
 fn with_net(job: &[u8], x: Isolated, n: Part) -> Isolated
     ensures { result ≡ with_net x (held_part job.now n) }
 {
@@ -206,6 +212,7 @@ fn with_net(job: &[u8], x: Isolated, n: Part) -> Isolated
 }
 
 // A port more, with a net that is named in the job.
+#[tactic(auto, using(crate::proofs::Aims::withs))]
 fn keep_net(job: &[u8], ports: &mut [u32], c: Cover, x: Isolated, n: Part) -> Cover
     requires { Ready c ports.old × (Fits x × (length job.now < 2 ^ 32)) }
     ensures { KeepSeen c (with_net x (held_part job.now n)) ports.old result ports.new }
@@ -215,6 +222,7 @@ fn keep_net(job: &[u8], ports: &mut [u32], c: Cover, x: Isolated, n: Part) -> Co
 }
 
 // A port that a strategy aims at, with the parent's net that it has where that is of the port's own name.
+#[tactic(auto, using(crate::proofs::Aims::aims))]
 pub fn aim<'a>(
     out: &mut [u8],
     warn: bool,

@@ -9,8 +9,6 @@ ghost use Rattle.out.specs.Bytewise.{mangle, dotted, sv_str};
 ghost use Rattle.out.specs.Number.{decimal};
 ghost use Rattle.leaves.specs.Sample.{to_number, sample};
 
-use text::number::Num;
-
 pub fn leaves_same(a: &[u8], b: &[u8]) -> bool
     ensures { result ≡ same a.now b.now }
 {
@@ -33,10 +31,7 @@ pub fn leaves_less(a: &[u8], b: &[u8]) -> bool
 pub fn leaves_number(s: &[u8], most: u32) -> usize
     ensures { result ≡ to_number (number_of most s.now) }
 {
-    match text::number::number(s, most) {
-        Num::Of(n) => n,
-        Num::Bad => 4294967296,
-    }
+    text::number::number(s, most).unwrap_or(4294967296)
 }
 
 pub fn leaves_mangle(out: &mut [u8], piece: &[u8]) -> usize

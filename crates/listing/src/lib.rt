@@ -45,15 +45,12 @@ pub fn refused() -> Walk
 {
     Walk {
         over: true,
-        entered: 0,
-        count: 0,
-        end: 0,
-        used: 0,
-        stamp: 0,
+        ..start(0)
     }
 }
 
 // Whether a path is one of the first `count` of the list.
+#[tactic(auto, using(crate::proofs::Adds::lefts))]
 fn listed(
     files: &[u8],
     area: &[u8],
@@ -68,21 +65,20 @@ fn listed(
     requires { Sized (files.now ++ area.now) e elen tail.now name.now × (count ≤ length ends.now) }
     ensures { result ≡ is_in (dotted (name_of (files.now ++ area.now) e) ++ (tail.now ++ name.now)) (paths_of text.now ends.now count) }
 {
-    let mut k = 0;
     let mut at = 0;
-    while k < count {
+    for k in 0..count {
         let end = place(ends, k);
         let row = part(text, at, spans::span::minus(end, at));
         if paths::path::is_path(files, area, e, elen, tail, name, row) {
             return true;
         }
         at = end;
-        k += 1;
     }
     false
 }
 
 // The same, where the flags may be asked first: a path whose flag has not the stamp is not listed.
+#[tactic(auto, using(crate::proofs::Adds::flags))]
 fn flagged(
     files: &[u8],
     area: &[u8],
@@ -99,13 +95,11 @@ fn flagged(
     requires { Sized (files.now ++ area.now) e elen tail.now name.now × ((count ≤ length ends.now) × ((flag ≡ flag_place (dotted (name_of (files.now ++ area.now) e) ++ (tail.now ++ name.now))) × Flagged stamp ends.now (paths_of text.now ends.now count))) }
     ensures { result ≡ is_in (dotted (name_of (files.now ++ area.now) e) ++ (tail.now ++ name.now)) (paths_of text.now ends.now count) }
 {
-    if num(ends, flag) != stamp {
-        return false;
-    }
-    listed(files, area, e, elen, tail, name, text, ends, count)
+    num(ends, flag) == stamp && listed(files, area, e, elen, tail, name, text, ends, count)
 }
 
 // The list with a path behind it that it does not have.
+#[tactic(auto, using(crate::proofs::Adds::news))]
 fn add_new(
     files: &[u8],
     area: &[u8],
@@ -149,6 +143,7 @@ fn add_new(
 
 // The list with a path behind it, where the list does not have it yet. `prefix` is what the scope's path adds to each path; `number` is that of the path
 // without its name.
+#[tactic(auto, using(crate::proofs::Adds::adds, crate::proofs::Adds::adds_new))]
 pub fn add(
     files: &[u8],
     area: &[u8],

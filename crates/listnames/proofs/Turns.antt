@@ -1,4 +1,5 @@
 -- Loops over the entries of a value, and over the names of a table: laws as the needs ask them. Assumes nothing.
+use Rattle.std.specs.Prelude.{Option, Some, None}
 use Prim.Native.Nat.{ℕ, suc, ◌+◌, ◌-◌, ◌*◌, ◌≤◌, ◌<◌, ◌^◌}
 use native.Mathlib.Omega.{arith}
 use mathlib.Core.Path.{◌≡◌, refl, sym, ap, ◌∙◌}
@@ -15,9 +16,8 @@ use Rattle.tcl.specs.Lists.{list}
 use Rattle.entries.specs.Entry.{entry_bytes, entries_left}
 use Rattle.entries.specs.Together.{list_is}
 use Rattle.entries.specs.View.{Finds}
-use Rattle.entries.specs.Loops.{entries_none, entries_first, one_more}
+use Rattle.entries.specs.Loops.{entries_none, entries_first, entry_less, one_more}
 use Rattle.entries.specs.declared.item.Item.{Item}
-use Rattle.entries.specs.declared.item.Item.TheVariants.{Entry, None}
 use Rattle.names.specs.Scoped.{scoped}
 use Rattle.names.specs.Name.{named, name_of, entry_of, Makes}
 use Rattle.names.specs.declared.name.Name.{Name}
@@ -51,7 +51,7 @@ lists_long g mem text table₀ n table k at first inv = inv.long
 pub lists_start : (g : Bytes → Bytes) (mem text : Bytes) (table : List ℕ) (n : ℕ) → Lists g mem text table n table n 0 true
 lists_start g mem text table n = record { names = rw (list_is text); count = rw (list_is text); long = refl }
 
-module _ (g : Bytes → Bytes) (mem text : Bytes) (table₀ : List ℕ) (n : ℕ) (table : List ℕ) (k at : ℕ) (first : Bool) (inv : Lists g mem text table₀ n table k at first) (r : Item) (f : Finds text (entries_left first (drop at text)) r) where
+module _ (g : Bytes → Bytes) (mem text : Bytes) (table₀ : List ℕ) (n : ℕ) (table : List ℕ) (k at : ℕ) (first : Bool) (inv : Lists g mem text table₀ n table k at first) (r : Option Item) (f : Finds text (entries_left first (drop at text)) r) where
   lists_end : r ≡ None → Listed mem table₀ n (map g (list text)) table k
   lists_end h =
       let z : entries_left first (drop at text) ≡ [] = entries_none text (entries_left first (drop at text)) r f h in
@@ -61,26 +61,30 @@ module _ (g : Bytes → Bytes) (mem text : Bytes) (table₀ : List ℕ) (n : ℕ
         long = inv.long;
       }
 
-  module _ (s : Span) (q : Bool) (e : ℕ) (h : r ≡ Entry s q e) where
-    row_in : k + 1 ≤ n + length (list text)
-    row_in = omega (arith, inv.count, one_more text at first r f s q e h)
+  module _ (x : Item) (h : r ≡ Some x) where
+    -- fewer are left behind it
+    pub item_less : length (entries_left false (drop x.next text)) < length (entries_left first (drop at text))
+    item_less = entry_less text at first r f x.entry x.quoted x.next h
 
-    lists_step : (x : Name) → 5 * k + 5 ≤ length table → name_of mem x ≡ g (entry_bytes q (bytes text s)) → Lists g mem text table₀ n (row_put table k x) (k + 1) e false
-    lists_step x room is =
-        let t = entries_left false (drop e text) in
-        let z : entries_left first (drop at text) ≡ entry_bytes q (bytes text s) ∷ t = entries_first text (entries_left first (drop at text)) r f s q e h in
+    row_in : k + 1 ≤ n + length (list text)
+    row_in = omega (arith, inv.count, one_more text at first r f x.entry x.quoted x.next h)
+
+    lists_step : (y : Name) → 5 * k + 5 ≤ length table → name_of mem y ≡ g (entry_bytes x.quoted (bytes text x.entry)) → Lists g mem text table₀ n (row_put table k y) (k + 1) x.next false
+    lists_step y room is =
+        let t = entries_left false (drop x.next text) in
+        let z : entries_left first (drop at text) ≡ entry_bytes x.quoted (bytes text x.entry) ∷ t = entries_first text (entries_left first (drop at text)) r f x.entry x.quoted x.next h in
         record {
           names =
-              ap (λ (l : List Bytes). l ++ map g t) (put_names mem table k x room ∙ ap (λ (b : Bytes). table_names mem table k ++ (b ∷ [])) is)
-              ∙ append_assoc (table_names mem table k) (g (entry_bytes q (bytes text s)) ∷ []) (map g t)
+              ap (λ (l : List Bytes). l ++ map g t) (put_names mem table k y room ∙ ap (λ (b : Bytes). table_names mem table k ++ (b ∷ [])) is)
+              ∙ append_assoc (table_names mem table k) (g (entry_bytes x.quoted (bytes text x.entry)) ∷ []) (map g t)
               ∙ (rw z at inv.names);
-          count = omega (arith, inv.count, one_more text at first r f s q e h);
+          count = omega (arith, inv.count, one_more text at first r f x.entry x.quoted x.next h);
           long = simp length-set inv.long;
         }
 
     module _ (scope v : Span) (reads : Reads mem scope v text table₀ n) where
-      pub inside_small : v.at + s.at < 2 ^ 64
-      inside_small = inside_fits mem v text reads.is (entries_left first (drop at text)) r f s q e h reads.small
+      pub inside_small : v.at + x.entry.at < 2 ^ 64
+      inside_small = inside_fits mem v text reads.is (entries_left first (drop at text)) r f x.entry x.quoted x.next h reads.small
 
       pub row_few : k ≤ 65536
       row_few = omega (arith, row_in, reads.rows)
@@ -91,12 +95,12 @@ module _ (g : Bytes → Bytes) (mem text : Bytes) (table₀ : List ℕ) (n : ℕ
       pub row_room : 5 * k + 5 ≤ length table
       row_room = omega (arith, row_in, reads.room, inv.long)
 
-      module _ (w : Span) (ew : w ≡ (v.at + s.at) ⋯ s.len) where
+      module _ (w : Span) (ew : w ≡ (v.at + x.entry.at) ⋯ x.entry.len) where
         w_small : w.at + w.len < 2 ^ 32
-        w_small = rw ew (omega (arith, inside_ends mem v text reads.is (entries_left first (drop at text)) r f s q e h, reads.small))
+        w_small = rw ew (omega (arith, inside_ends mem v text reads.is (entries_left first (drop at text)) r f x.entry x.quoted x.next h, reads.small))
 
-        pub stores_made : (form : ℕ) (x : Name) → Makes mem scope w form x → Stores x
-        stores_made form x m =
+        pub stores_made : (form : ℕ) (y : Name) → Makes mem scope w form y → Stores y
+        stores_made form y m =
             record {
               scope_at = omega (arith, m.ends, w_small, reads.scope_small);
               scope_len = omega (arith, m.ends, w_small, reads.scope_small);
@@ -104,8 +108,8 @@ module _ (g : Bytes → Bytes) (mem text : Bytes) (table₀ : List ℕ) (n : ℕ
               word_len = omega (arith, m.ends, w_small, reads.scope_small);
             }
 
-        pub stores_alone : (form : ℕ) (x : Name) → x ≡ named (0 ⋯ 0) false w form → Stores x
-        stores_alone form x ex = rw ex (record { scope_at = omega arith; scope_len = omega arith; word_at = omega (arith, w_small); word_len = omega (arith, w_small) })
+        pub stores_alone : (form : ℕ) (y : Name) → y ≡ named (0 ⋯ 0) false w form → Stores y
+        stores_alone form y ex = rw ex (record { scope_at = omega arith; scope_len = omega arith; word_at = omega (arith, w_small); word_len = omega (arith, w_small) })
 
 -- ---- the two loops
 
@@ -113,26 +117,26 @@ map_same : (l : List Bytes) → map (λ (b : Bytes). b) l ≡ l
 map_same [] = refl
 map_same (x ∷ l) = ap (λ (t : List Bytes). x ∷ t) (map_same l)
 
-module _ (mem text : Bytes) (table₀ : List ℕ) (n : ℕ) (table : List ℕ) (k at : ℕ) (first : Bool) (scope v : Span) (reads : Reads mem scope v text table₀ n) (r : Item) (f : Finds text (entries_left first (drop at text)) r) where
+module _ (mem text : Bytes) (table₀ : List ℕ) (n : ℕ) (table : List ℕ) (k at : ℕ) (first : Bool) (scope v : Span) (reads : Reads mem scope v text table₀ n) (r : Option Item) (f : Finds text (entries_left first (drop at text)) r) where
   module _ (inv : Lists (scoped (bytes mem scope)) mem text table₀ n table k at first) where
     pub below_end : r ≡ None → Listed mem table₀ n (map (scoped (bytes mem scope)) (list text)) table k
     below_end h = lists_end (scoped (bytes mem scope)) mem text table₀ n table k at first inv r f h
 
-    pub below_step : (s : Span) (q : Bool) (e : ℕ) (w : Span) (form : ℕ) (x : Name) (table' : List ℕ) → r ≡ Entry s q e → table' ≡ row_put table k x → Makes mem scope w form x → w ≡ (v.at + s.at) ⋯ s.len → entry_of form (bytes text s) ≡ entry_bytes q (bytes text s) → Lists (scoped (bytes mem scope)) mem text table₀ n table' (k + 1) e false
-    below_step s q e w form x table' h et m ew ef =
-        let room = row_room (scoped (bytes mem scope)) mem text table₀ n table k at first inv r f s q e h scope v reads in
-        let is : name_of mem x ≡ scoped (bytes mem scope) (entry_bytes q (bytes text s)) = m.is ∙ rw ew (ap (scoped (bytes mem scope)) (inside_formed mem v text reads.is (entries_left first (drop at text)) r f s q e h form ef)) in
-        rw et (lists_step (scoped (bytes mem scope)) mem text table₀ n table k at first inv r f s q e h x room is)
+    pub below_step : (x : Item) (w : Span) (form : ℕ) (y : Name) (table' : List ℕ) → r ≡ Some x → table' ≡ row_put table k y → Makes mem scope w form y → w ≡ (v.at + x.entry.at) ⋯ x.entry.len → entry_of form (bytes text x.entry) ≡ entry_bytes x.quoted (bytes text x.entry) → Lists (scoped (bytes mem scope)) mem text table₀ n table' (k + 1) x.next false
+    below_step x w form y table' h et m ew ef =
+        let room = row_room (scoped (bytes mem scope)) mem text table₀ n table k at first inv r f x h scope v reads in
+        let is : name_of mem y ≡ scoped (bytes mem scope) (entry_bytes x.quoted (bytes text x.entry)) = m.is ∙ rw ew (ap (scoped (bytes mem scope)) (inside_formed mem v text reads.is (entries_left first (drop at text)) r f x.entry x.quoted x.next h form ef)) in
+        rw et (lists_step (scoped (bytes mem scope)) mem text table₀ n table k at first inv r f x h y room is)
 
   module _ (inv : Lists (λ (b : Bytes). b) mem text table₀ n table k at first) where
     pub plain_end : r ≡ None → Listed mem table₀ n (list text) table k
     plain_end h = rw (map_same (list text)) at (lists_end (λ (b : Bytes). b) mem text table₀ n table k at first inv r f h)
 
-    pub plain_step : (s : Span) (q : Bool) (e : ℕ) (w : Span) (form : ℕ) (x : Name) (table' : List ℕ) → r ≡ Entry s q e → table' ≡ row_put table k x → x ≡ named (0 ⋯ 0) false w form → w ≡ (v.at + s.at) ⋯ s.len → entry_of form (bytes text s) ≡ entry_bytes q (bytes text s) → Lists (λ (b : Bytes). b) mem text table₀ n table' (k + 1) e false
-    plain_step s q e w form x table' h et ex ew ef =
-        let room = row_room (λ (b : Bytes). b) mem text table₀ n table k at first inv r f s q e h scope v reads in
-        let is : name_of mem x ≡ entry_bytes q (bytes text s) = rw ex (alone_is mem w form ∙ rw ew (inside_formed mem v text reads.is (entries_left first (drop at text)) r f s q e h form ef)) in
-        rw et (lists_step (λ (b : Bytes). b) mem text table₀ n table k at first inv r f s q e h x room is)
+    pub plain_step : (x : Item) (w : Span) (form : ℕ) (y : Name) (table' : List ℕ) → r ≡ Some x → table' ≡ row_put table k y → y ≡ named (0 ⋯ 0) false w form → w ≡ (v.at + x.entry.at) ⋯ x.entry.len → entry_of form (bytes text x.entry) ≡ entry_bytes x.quoted (bytes text x.entry) → Lists (λ (b : Bytes). b) mem text table₀ n table' (k + 1) x.next false
+    plain_step x w form y table' h et ex ew ef =
+        let room = row_room (λ (b : Bytes). b) mem text table₀ n table k at first inv r f x h scope v reads in
+        let is : name_of mem y ≡ entry_bytes x.quoted (bytes text x.entry) = rw ex (alone_is mem w form ∙ rw ew (inside_formed mem v text reads.is (entries_left first (drop at text)) r f x.entry x.quoted x.next h form ef)) in
+        rw et (lists_step (λ (b : Bytes). b) mem text table₀ n table k at first inv r f x h y room is)
 
 -- ---- the names of a table, joined
 

@@ -1,4 +1,5 @@
 -- A value whole, and its entries one by one: laws as the needs ask them. Assumes nothing.
+use Rattle.std.specs.Prelude.{Option, Some, None}
 use Prim.Native.Nat.{ℕ, zero, suc, ◌+◌, ◌-◌, ◌≤◌, ◌<◌, ◌^◌, max}
 use native.Mathlib.Omega.{arith}
 use mathlib.Core.Path.{◌≡◌, refl, sym, ap, ◌∙◌}
@@ -20,7 +21,6 @@ use Rattle.entries.specs.Entry.{entry_bytes, entries_left}
 use Rattle.entries.specs.View.{Finds}
 use Rattle.entries.specs.Loops.{entries_none, entries_first}
 use Rattle.entries.specs.declared.item.Item.{Item}
-use Rattle.entries.specs.declared.item.Item.TheVariants.{Entry, None}
 use Rattle.model.specs.Commands.{nth}
 use Rattle.names.specs.Scoped.{scoped}
 use Rattle.names.specs.Name.{named, name_of, entry_of, Makes}
@@ -97,7 +97,7 @@ nth_below_lem scope (suc k) [] = refl
 nth_below_lem scope zero (e ∷ es) = refl
 nth_below_lem scope (suc k) (e ∷ es) = nth_below_lem scope k es
 
-module _ (files area : Bytes) (v : Span) (k : ℕ) (whole : Whole (length files) v) (text : Bytes) (value : Held (length files) v → text ≡ bytes (files ++ area) v) (r : Item) (f : Finds text (drop k (list text)) r) where
+module _ (files area : Bytes) (v : Span) (k : ℕ) (whole : Whole (length files) v) (text : Bytes) (value : Held (length files) v → text ≡ bytes (files ++ area) v) (r : Option Item) (f : Finds text (drop k (list text)) r) where
   abbrev mem : Bytes
   mem = files ++ area
 
@@ -113,15 +113,15 @@ module _ (files area : Bytes) (v : Span) (k : ℕ) (whole : Whole (length files)
   pub below_missing : (scope : Span) (x : Name) → r ≡ None → x ≡ named (0 ⋯ 0) false (0 ⋯ 0) 0 → Known (files ++ area) (nth_below (bytes (files ++ area) scope) k (list (bytes (files ++ area) v))) (max (scope.at + scope.len) (v.at + v.len)) x
   below_missing scope x g e = record { is = rw e (empty_name mem ∙ sym (nth_below_lem (bytes mem scope) k (list (bytes mem v)) ∙ ap (below_of_lem (bytes mem scope)) (no_entry g))); ends = rw e (omega arith) }
 
-  module _ (s : Span) (q : Bool) (e : ℕ) (g : r ≡ Entry s q e) (w : Span) (ew : w ≡ (v.at + s.at) ⋯ s.len) (form : ℕ) (ef : entry_of form (bytes text s) ≡ entry_bytes q (bytes text s)) where
-    one_entry : drop k (list (bytes mem v)) ≡ entry_of form (bytes mem w) ∷ entries_left false (drop e text)
+  module _ (i : Item) (g : r ≡ Some i) (w : Span) (ew : w ≡ (v.at + i.entry.at) ⋯ i.entry.len) (form : ℕ) (ef : entry_of form (bytes text i.entry) ≡ entry_bytes i.quoted (bytes text i.entry)) where
+    one_entry : drop k (list (bytes mem v)) ≡ entry_of form (bytes mem w) ∷ entries_left false (drop i.next text)
     one_entry =
-        let p : drop k (list (bytes mem v)) ≡ entry_bytes q (bytes text s) ∷ entries_left false (drop e text) = rw (← is) (entries_first text (drop k (list text)) r f s q e g) in
-        let z : entry_of form (bytes mem w) ≡ entry_bytes q (bytes text s) = rw ew (inside_formed mem v text is (drop k (list text)) r f s q e g form ef) in
-        p ∙ ap (λ (b : Bytes). b ∷ entries_left false (drop e text)) (sym z)
+        let p : drop k (list (bytes mem v)) ≡ entry_bytes i.quoted (bytes text i.entry) ∷ entries_left false (drop i.next text) = rw (← is) (entries_first text (drop k (list text)) r f i.entry i.quoted i.next g) in
+        let z : entry_of form (bytes mem w) ≡ entry_bytes i.quoted (bytes text i.entry) = rw ew (inside_formed mem v text is (drop k (list text)) r f i.entry i.quoted i.next g form ef) in
+        p ∙ ap (λ (b : Bytes). b ∷ entries_left false (drop i.next text)) (sym z)
 
     w_ends : w.at + w.len ≤ v.at + v.len
-    w_ends = rw ew (inside_ends mem v text is (drop k (list text)) r f s q e g)
+    w_ends = rw ew (inside_ends mem v text is (drop k (list text)) r f i.entry i.quoted i.next g)
 
     pub nth_there : (x : Name) → x ≡ named (0 ⋯ 0) false w form → Known (files ++ area) (nth k (list (bytes (files ++ area) v))) (v.at + v.len) x
     nth_there x ex = record { is = rw ex (alone_is mem w form ∙ sym (nth_head k (list (bytes mem v)) ∙ ap head_of one_entry)); ends = rw ex (omega (arith, w_ends)) }
@@ -129,5 +129,5 @@ module _ (files area : Bytes) (v : Span) (k : ℕ) (whole : Whole (length files)
     pub below_there : (scope : Span) (x : Name) → Makes (files ++ area) scope w form x → Known (files ++ area) (nth_below (bytes (files ++ area) scope) k (list (bytes (files ++ area) v))) (max (scope.at + scope.len) (v.at + v.len)) x
     below_there scope x m = record { is = m.is ∙ sym (nth_below_lem (bytes mem scope) k (list (bytes mem v)) ∙ ap (below_of_lem (bytes mem scope)) one_entry); ends = omega (arith, m.ends, w_ends) }
 
-pub inside_whole : (files area : Bytes) (v : Span) (text : Bytes) (t : List Bytes) (r : Item) (s : Span) (q : Bool) (e : ℕ) → r ≡ Entry s q e → Finds text t r → (Held (length files) v → text ≡ bytes (files ++ area) v) → Whole (length files) v → v.at + s.at < 2 ^ 64
-inside_whole files area v text t r s q e g f is w = inside_fits (files ++ area) v text (is w.held) t r f s q e g w.small
+pub inside_whole : (files area : Bytes) (v : Span) (text : Bytes) (t : List Bytes) (r : Option Item) (i : Item) → r ≡ Some i → Finds text t r → (Held (length files) v → text ≡ bytes (files ++ area) v) → Whole (length files) v → v.at + i.entry.at < 2 ^ 64
+inside_whole files area v text t r i g f is w = inside_fits (files ++ area) v text (is w.held) t r f i.entry i.quoted i.next g w.small

@@ -1,4 +1,5 @@
 -- Laws for all who read a stored value entry by entry: an entry is a stored string. Assumes nothing.
+use Rattle.std.specs.Prelude.{Option, Some, None}
 use Rattle.std.specs.Prelude.{ℕ, ◌+◌, ◌≤◌, ◌<◌, ◌^◌, ◌≡◌, Bool, List, length}
 use Rattle.std.proofs.Common.{arith, sym, ap, ◌∙◌}
 use Rattle.text.specs.Ascii.{Bytes}
@@ -8,11 +9,10 @@ use Rattle.spans.specs.declared.span.Span.{Span}
 use Rattle.entries.specs.Entry.{entry_bytes}
 use Rattle.entries.specs.View.{Finds}
 use Rattle.entries.specs.declared.item.Item.{Item}
-use Rattle.entries.specs.declared.item.Item.TheVariants.{Entry}
 use Rattle.names.specs.Name.{entry_of}
 use Rattle.listnames.specs.Lists.{form_of, form_is}
 
-module _ (mem : Bytes) (v : Span) (text : Bytes) (is : text ≡ bytes mem v) (t : List Bytes) (r : Item) (f : Finds text t r) (s : Span) (q : Bool) (e : ℕ) (g : r ≡ Entry s q e) where
+module _ (mem : Bytes) (v : Span) (text : Bytes) (is : text ≡ bytes mem v) (t : List Bytes) (r : Option Item) (f : Finds text t r) (s : Span) (q : Bool) (e : ℕ) (g : r ≡ Some (record { entry = s; quoted = q; next = e })) where
   ends_in : s.at + s.len ≤ v.len
   ends_in = let h : s.at + s.len ≤ length text = rw g at f.within in let k : length text ≤ v.len = rw is (size_in mem v) in omega arith
 

@@ -2,7 +2,7 @@
 #![tactic(auto)]
 
 ghost use Rattle.std.specs.Prelude.{◌≡◌, ◌++◌, map, ◌+◌, ◌≤◌, ◌<◌, ◌^◌, max, length};
-ghost use Rattle.out.specs.Emit.{◌▸◌, emit};
+ghost use Rattle.out.specs.Text.{Writes};
 ghost use Rattle.out.specs.Items.{joined};
 ghost use Rattle.spans.specs.Span.{◌⋯◌, bytes};
 ghost use Rattle.tcl.specs.Lists.{list};
@@ -13,12 +13,12 @@ ghost use Rattle.names.specs.Scoped.{scoped as Scoped·scoped};
 ghost use Rattle.nametable.specs.Table.{table_names};
 ghost use Rattle.listnames.specs.Lists.{form_of, nth_below, Rooms, Reads, Whole, Listed, Known};
 
-use entries::item::{Item, entry, next_entry};
+use entries::item::{entry, next_entry};
 use lists::value;
 use names::name::{Name, alone, scoped};
 use names::put::put_name;
 use nametable::{put_row, row};
-use out::items::unless;
+use out::emit::Text;
 use spans::span::Span;
 use text::part::part;
 use text::scan::find;
@@ -71,18 +71,20 @@ fn put_below(
     let mut k = n;
     let mut at = 0;
     let mut first = true;
-    loop {
-        match next_entry(text, at, first) {
-            Item::None => return k,
-            Item::Entry(s, q, e) => {
-                let name = scoped(files, area, scope, inside(v, s), form_in(text, s, q));
-                put_row(table, k, name);
-                k += 1;
-                at = e;
-                first = false;
-            }
-        }
+    while let Some(item) = next_entry(text, at, first) {
+        let name = scoped(
+            files,
+            area,
+            scope,
+            inside(v, item.entry),
+            form_in(text, item.entry, item.quoted),
+        );
+        put_row(table, k, name);
+        k += 1;
+        at = item.next;
+        first = false;
     }
+    k
 }
 
 // Puts the entries of a value, each below a scope, behind the first n names of a table, and returns how many there are then.
@@ -116,18 +118,17 @@ fn put_entries(
     let mut k = n;
     let mut at = 0;
     let mut first = true;
-    loop {
-        match next_entry(text, at, first) {
-            Item::None => return k,
-            Item::Entry(s, q, e) => {
-                let name = alone(inside(v, s), form_in(text, s, q));
-                put_row(table, k, name);
-                k += 1;
-                at = e;
-                first = false;
-            }
-        }
+    while let Some(item) = next_entry(text, at, first) {
+        let name = alone(
+            inside(v, item.entry),
+            form_in(text, item.entry, item.quoted),
+        );
+        put_row(table, k, name);
+        k += 1;
+        at = item.next;
+        first = false;
     }
+    k
 }
 
 // Puts the entries of a value, each as it is.
@@ -145,10 +146,13 @@ pub fn nth<'a>(files: &'a [u8], area: &'a [u8], v: Span, k: usize) -> Name
     ensures { Known (files.now ++ area.now) (Commands·nth k (list (bytes (files.now ++ area.now) v))) (v.at + v.len) result }
 {
     let text = value(files, area, v);
-    match entry(text, k) {
-        Item::None => alone(Span { at: 0, len: 0 }, 0),
-        Item::Entry(s, q, _) => alone(inside(v, s), form_in(text, s, q)),
-    }
+    let Some(item) = entry(text, k) else {
+        return alone(Span { at: 0, len: 0 }, 0);
+    };
+    alone(
+        inside(v, item.entry),
+        form_in(text, item.entry, item.quoted),
+    )
 }
 
 // Entry k of a value below a scope; empty where there is none.
@@ -157,31 +161,25 @@ pub fn nth_below<'a>(files: &'a [u8], area: &'a [u8], scope: Span, v: Span, k: u
     ensures { Known (files.now ++ area.now) (nth_below (bytes (files.now ++ area.now) scope) k (list (bytes (files.now ++ area.now) v))) (max (scope.at + scope.len) (v.at + v.len)) result }
 {
     let text = value(files, area, v);
-    match entry(text, k) {
-        Item::None => alone(Span { at: 0, len: 0 }, 0),
-        Item::Entry(s, q, _) => scoped(files, area, scope, inside(v, s), form_in(text, s, q)),
-    }
+    let Some(item) = entry(text, k) else {
+        return alone(Span { at: 0, len: 0 }, 0);
+    };
+    scoped(
+        files,
+        area,
+        scope,
+        inside(v, item.entry),
+        form_in(text, item.entry, item.quoted),
+    )
 }
 
 // Writes the names of a table, a text between them.
-pub fn put_names(
-    out: &mut [u8],
-    at: usize,
-    files: &[u8],
-    area: &[u8],
-    table: &[u32],
-    n: usize,
-    sep: &[u8],
-) -> usize
+pub fn put_names(to: &mut Text, files: &[u8], area: &[u8], table: &[u32], n: usize, sep: &[u8])
     requires { n ≤ 65536 }
-    ensures { out.new ▸ result ≡ emit (out.old ▸ at) (joined sep.now (table_names (files.now ++ area.now) table.now n)) }
+    ensures { Writes to.old (joined sep.now (table_names (files.now ++ area.now) table.now n)) to.new }
 {
-    let mut o = at;
-    let mut k = 0;
-    while k < n {
-        o = unless(out, o, k, sep);
-        o = put_name(out, o, files, area, row(table, k));
-        k += 1;
+    for k in 0..n {
+        to.unless(k, sep);
+        put_name(to, files, area, row(table, k));
     }
-    o
 }

@@ -1,28 +1,27 @@
 -- Laws for all who read the states of a command one after the other: what is left, and that they are few. Assumes nothing.
-use Rattle.std.specs.Prelude.{ℕ, zero, suc, ◌+◌, ◌-◌, ◌≤◌, ◌<◌, ◌≡◌, refl, Bool, true, false, List, [], ◌∷◌, length, drop}
+use Rattle.std.specs.Prelude.{ℕ, zero, suc, ◌+◌, ◌-◌, ◌≤◌, ◌<◌, ◌≡◌, refl, Bool, true, false, List, [], ◌∷◌, length, drop, None, Some}
 use Rattle.std.proofs.Common.{arith, ap}
-use Rattle.std.proofs.Math.Option.{none, some}
 use Rattle.text.specs.Ascii.{Bytes}
 use Rattle.text.specs.Compare.{same}
 use Rattle.spans.specs.Span.{bytes, pair_at, pairs, strings}
 use Rattle.tcl.specs.Arguments.{states, states_from}
 use Rattle.args.specs.View.{words_from, pick}
 
-pub pick_none : {A : Type 0} (k : ℕ) (xs : List A) → none ≡ pick k xs → drop k xs ≡ []
+pub pick_none : {A : Type 0} (k : ℕ) (xs : List A) → None ≡ pick k xs → drop k xs ≡ []
 unfolding pick
 pick_none zero [] e = refl
 pick_none (suc k) [] e = refl
 pick_none zero (x ∷ xs) e = absurd (let z : ◌≡◌ {A = ℕ} 0 1 = cc in omega arith)
 pick_none (suc k) (x ∷ xs) e = pick_none k xs e
 
-pub pick_some : {A : Type 0} (k : ℕ) (xs : List A) (y : A) → some y ≡ pick k xs → drop k xs ≡ y ∷ drop (k + 1) xs
+pub pick_some : {A : Type 0} (k : ℕ) (xs : List A) (y : A) → Some y ≡ pick k xs → drop k xs ≡ y ∷ drop (k + 1) xs
 unfolding pick
 pick_some zero [] y e = absurd (let z : ◌≡◌ {A = ℕ} 0 1 = cc in omega arith)
 pick_some (suc k) [] y e = absurd (let z : ◌≡◌ {A = ℕ} 0 1 = cc in omega arith)
 pick_some zero (x ∷ xs) y e = let q : x ≡ y = cc in rw q
 pick_some (suc k) (x ∷ xs) y e = let q : suc k + 1 ≡ suc (k + 1) = omega arith in rw q (pick_some k xs y e)
 
-pub pick_in : {A : Type 0} (k : ℕ) (xs : List A) (y : A) → some y ≡ pick k xs → k < length xs
+pub pick_in : {A : Type 0} (k : ℕ) (xs : List A) (y : A) → Some y ≡ pick k xs → k < length xs
 unfolding pick
 pick_in zero [] y e = absurd (let z : ◌≡◌ {A = ℕ} 0 1 = cc in omega arith)
 pick_in (suc k) [] y e = absurd (let z : ◌≡◌ {A = ℕ} 0 1 = cc in omega arith)

@@ -1,6 +1,5 @@
 -- The values that a command reads as lists, and that each is whole in the files or in the area. Assumes nothing.
-use Rattle.std.specs.Prelude.{ℕ, ◌≤◌, ◌<◌, ◌^◌, List, [], ◌∷◌, ◌++◌, length}
-use Rattle.std.proofs.Math.Option.{Option, none, some}
+use Rattle.std.specs.Prelude.{ℕ, ◌≤◌, ◌<◌, ◌^◌, List, [], ◌∷◌, ◌++◌, length, Option, None, Some}
 use Rattle.text.specs.Ascii.{Bytes, ascii}
 use Rattle.spans.specs.Span.{pairs}
 use Rattle.spans.specs.Reach.{last_of, reach}
@@ -14,8 +13,8 @@ pub record Whole (files area : Bytes) (words : List ℕ) (n : ℕ) : Type 0 wher
 
 -- the value of an option, one or none
 abbrev pub optional : Option Bytes → List Bytes
-optional none = []
-optional (some v) = v ∷ []
+optional None = []
+optional (Some v) = v ∷ []
 
 -- the values of a switch, in the order in which they are read; `line` has all words, `ws` those behind the name
 abbrev pub switch_values : List Bytes → List Bytes → List Bytes

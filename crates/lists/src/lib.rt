@@ -13,17 +13,10 @@ ghost use Rattle.lists.specs.Count.{counted, and_one, size_of, Counts};
 ghost use Rattle.lists.specs.Values.{Whole, optional, switch_values};
 
 use args::argument::option;
-use args::state::{State as Word, state_at};
+use args::state::state_at;
 use entries::item::count;
-use spans::span::{Found, Span};
+use spans::span::Span;
 use text::part::part;
-
-// The entries of all values read as lists so far; or a reading limit is passed.
-#[derive(Clone, Copy)]
-pub enum Count {
-    Of(usize),
-    Over,
-}
 
 // The value as a part of whichever slice holds it; all of it, where it does not cross from one to the other.
 pub fn value<'a>(files: &'a [u8], area: &'a [u8], v: Span) -> &'a [u8]
@@ -45,23 +38,20 @@ pub fn has_entries<'a>(files: &'a [u8], area: &'a [u8], v: Span) -> bool
 }
 
 // The entries of a value more.
-fn and_value<'a>(files: &'a [u8], area: &'a [u8], v: Span, c: Count) -> Count
+#[tactic(auto, using(crate::proofs::Laws::one_64))]
+fn and_value<'a>(files: &'a [u8], area: &'a [u8], v: Span, c: Option<usize>) -> Option<usize>
     requires { Held (length files.now) v × (size_of c ≤ 1024) }
     ensures { result ≡ and_one (length (list (bytes (files.now ++ area.now) v))) c }
 {
-    match c {
-        Count::Over => Count::Over,
-        Count::Of(t) => {
-            let k = count(value(files, area, v));
-            if 64 < k {
-                return Count::Over;
-            }
-            if 1024 < t + k {
-                return Count::Over;
-            }
-            Count::Of(t + k)
-        }
+    let t = c?;
+    let k = count(value(files, area, v));
+    if 64 < k {
+        return None;
     }
+    if 1024 < t + k {
+        return None;
+    }
+    Some(t + k)
 }
 
 // The entries of an option's value more.
@@ -71,14 +61,14 @@ fn and_option<'a>(
     words: &[u32],
     n: usize,
     key: &[u8],
-    c: Count,
-) -> Count
+    c: Option<usize>,
+) -> Option<usize>
     requires { Whole files.now area.now words.now n × (size_of c ≤ 1024) }
     ensures { Counts (entries_of (optional (option_of key.now (words_from (files.now ++ area.now) words.now n 1)))) c result }
 {
     match option(files, area, words, n, key) {
-        Found::None => c,
-        Found::At(v) => and_value(files, area, v, c),
+        None => c,
+        Some(v) => and_value(files, area, v, c),
     }
 }
 
@@ -90,26 +80,28 @@ fn and_states<'a>(
     n: usize,
     one: &[u8],
     two: &[u8],
-    c: Count,
-) -> Count
+    c: Option<usize>,
+) -> Option<usize>
     requires { Whole files.now area.now words.now n × (size_of c ≤ 1024) }
     ensures { Counts (entries_of (state_values (Arguments·states one.now two.now (strings (files.now ++ area.now) words.now 0 n)))) c result }
 {
     let mut k = 0;
     let mut t = c;
-    loop {
-        match state_at(files, area, words, n, one, two, k) {
-            Word::None => return t,
-            Word::At(_, v) => {
-                t = and_value(files, area, v, t);
-                k += 1;
-            }
-        }
+    while let Some((_, v)) = state_at(files, area, words, n, one, two, k) {
+        t = and_value(files, area, v, t);
+        k += 1;
     }
+    t
 }
 
 // The entries of all values of a switch more.
-fn and_switch<'a>(files: &'a [u8], area: &'a [u8], words: &[u32], n: usize, c: Count) -> Count
+fn and_switch<'a>(
+    files: &'a [u8],
+    area: &'a [u8],
+    words: &[u32],
+    n: usize,
+    c: Option<usize>,
+) -> Option<usize>
     requires { Whole files.now area.now words.now n × (size_of c ≤ 1024) }
     ensures { Counts (entries_of (switch_values (words_from (files.now ++ area.now) words.now n 1) (strings (files.now ++ area.now) words.now 0 n))) c result }
 {
@@ -127,11 +119,11 @@ pub fn entries<'a>(
     n: usize,
     c: usize,
     before: usize,
-) -> Count
+) -> Option<usize>
     requires { Whole files.now area.now words.now n × (before ≤ 1024) }
     ensures { result ≡ counted before (entries_of (lists_by (named_by c) (bytes (files.now ++ area.now) (pair_at words.now 0)) (words_from (files.now ++ area.now) words.now n 1))) }
 {
-    let b = Count::Of(before);
+    let b = Some(before);
     match c {
         5 => and_option(files, area, words, n, b"-elements", b),
         8 => and_option(files, area, words, n, b"-ports", b),

@@ -5,7 +5,7 @@ use native.Mathlib.Nat.{add-zero}
 use mathlib.Core.Path.{◌≡◌, refl, sym, ap, ◌∙◌}
 use mathlib.Core.Bool.{Bool, true, false, cond}
 use mathlib.Core.List.{List, ◌++◌}
-use mathlib.Core.Option.{Option, none, some}
+use Rattle.std.specs.Prelude.{Option, None, Some}
 use lib.Dec.{leb}
 use lib.ListN.{length, take, drop}
 use lib.Seq.{length-take-le}
@@ -28,8 +28,6 @@ use Rattle.model.specs.Within.{Counted, total}
 use Rattle.read.specs.Reading.{Reading, refused, restored, joined_path, file_named, read_body, read_file}
 use Rattle.store.specs.Strings.{string}
 use Rattle.store.specs.View.{model_of}
-use Rattle.store.specs.declared.stored.Maybe.{Maybe}
-use Rattle.store.specs.declared.stored.Maybe.TheVariants.{Not, Given}
 use Rattle.store.specs.declared.stored.Stored.{Stored}
 use Rattle.store.specs.declared.state.Head.{Head}
 use Rattle.store.specs.declared.state.State.{State}
@@ -44,18 +42,6 @@ use Rattle.loads.specs.declared.Load.{Load}
 use Rattle.loads.specs.Steps.{line_at, step_from, load_at, files_in, file_reads}
 use Rattle.loads.specs.Loads.{head_back, load_of, Asked, Loading, Loaded}
 use Rattle.loads.specs.Scoped.{line_is_lem, words_grow, in_held, in_model, in_counted, in_log, still_held, scope_within, now_within, far, cond_is}
-
--- ---- the heads behind a load
-head_is : (r : Head) (x : Stored) (t : Maybe) → r.scope ≡ x → r.top ≡ t → r ≡ record { scope = x; top = t }
-head_is r x t p q = rw (← p, ← q)
-
-pub back_not : (h g r : Head) → h.top ≡ Not → r.scope ≡ h.scope → r.top ≡ g.top → r ≡ head_back h g
-back_not h g r e p q = rw e (head_is r h.scope g.top p q)
-
-pub back_given : (h g r : Head) (t : Stored) → h.top ≡ Given t → r.scope ≡ h.scope → r.top ≡ Given t → r ≡ head_back h g
-back_given h g r t e p q = rw e (head_is r h.scope (Given t) p q)
-
-pub ruleset backs = (rules, back_not, back_given)
 
 -- ---- loads
 cond_true : (b : Bool) (x y : Reading) → b ≡ true → cond b x y ≡ x
@@ -93,13 +79,13 @@ module _ (job files area nums words : List ℕ) (count n k left : ℕ) (s : Stat
   unfolding model_of
   scope_is_lem text = refl
 
-  d_none : (text : Bytes) → option_of (ascii "-scope") ws ≡ none → D text ≡ restored (m text) (load by (counted_of s) (m text))
+  d_none : (text : Bytes) → option_of (ascii "-scope") ws ≡ None → D text ≡ restored (m text) (load by (counted_of s) (m text))
   unfolding all total
   d_none text e =
       rw (line_is_lem (mem_of files area s) words n v.named, e, add-zero s.count.scopes, add-zero s.count.entries)
       (cond_true _ _ _ (now_within files area nums s v.held v.counted text))
 
-  d_some : (text w : Bytes) → option_of (ascii "-scope") ws ≡ some w
+  d_some : (text w : Bytes) → option_of (ascii "-scope") ws ≡ Some w
       → D text ≡ cond (scope_fits s.count.scopes (target w)) (restored (m text) (load by (counts (target w)) (with_scope (m text) (target w)))) (refused 10 s.count.commands)
   unfolding all total
   d_some text w e =
@@ -119,7 +105,7 @@ module _ (job files area nums words : List ℕ) (count n k left : ℕ) (s : Stat
       log : r.state.fill.log ≡ s.fill.log
       is : (text : Bytes) → D text ≡ restored (m text) (load by (counted_of r.state) (model_at files area' nums r.state text))
 
-    went_same : option_of (ascii "-scope") ws ≡ none → Same area area' s r → Went
+    went_same : option_of (ascii "-scope") ws ≡ None → Same area area' s r → Went
     went_same e g =
         record {
           kept = rw g.same;
@@ -130,7 +116,7 @@ module _ (job files area nums words : List ℕ) (count n k left : ℕ) (s : Stat
           is = λ text. d_none text e ∙ rw (g.state, g.same);
         }
 
-    went_in : (w : Bytes) → option_of (ascii "-scope") ws ≡ some w → scope_fits s.count.scopes (target w) ≡ true → In files area area' s (target w) r → Went
+    went_in : (w : Bytes) → option_of (ascii "-scope") ws ≡ Some w → scope_fits s.count.scopes (target w) ≡ true → In files area area' s (target w) r → Went
     went_in w e b g =
         let f : s.count.scopes + length (target w) ≤ 8192 = leb-true (s.count.scopes + length (target w)) 8192 (both (leb (length (target w)) 512) (leb (s.count.scopes + length (target w)) 8192) b).1 in
         let h = in_held files area area' nums s v.held lends (target w) r g f v.counted in
@@ -143,16 +129,16 @@ module _ (job files area nums words : List ℕ) (count n k left : ℕ) (s : Stat
           is = λ text. d_some text w e ∙ rw (b, in_counted files area area' nums s v.held lends (target w) r g f v.counted, in_model files area area' nums s v.held lends (target w) r g f v.counted text);
         }
 
-    went_by : (w : Bytes) → option_of (ascii "-scope") ws ≡ some w → (b : Bool) → scope_fits s.count.scopes (target w) ≡ b → Moves files area area' s (target w) r b → r.tag ≡ 0 → Went
+    went_by : (w : Bytes) → option_of (ascii "-scope") ws ≡ Some w → (b : Bool) → scope_fits s.count.scopes (target w) ≡ b → Moves files area area' s (target w) r b → r.tag ≡ 0 → Went
     went_by w e true q g z = went_in w e q g
     went_by w e false q g z = absurd (omega (arith, g.tag, z))
 
     went : (o : Option Bytes) → option_of (ascii "-scope") ws ≡ o → Enters files area area' s o r → r.tag ≡ 0 → Went
-    went none e g z = went_same e g
-    went (some w) e g z = went_by w e (scope_fits s.count.scopes (target w)) refl g z
+    went None e g z = went_same e g
+    went (Some w) e g z = went_by w e (scope_fits s.count.scopes (target w)) refl g z
 
     -- the scope is past its limits
-    over_by : (w : Bytes) → option_of (ascii "-scope") ws ≡ some w → (b : Bool) → scope_fits s.count.scopes (target w) ≡ b → Moves files area area' s (target w) r b → (r.tag ≡ 0 → ⊥) → Loaded job files area area' nums count words n k left s r 0
+    over_by : (w : Bytes) → option_of (ascii "-scope") ws ≡ Some w → (b : Bool) → scope_fits s.count.scopes (target w) ≡ b → Moves files area area' s (target w) r b → (r.tag ≡ 0 → ⊥) → Loaded job files area area' nums count words n k left s r 0
     over_by w e true q g z = absurd (z g.tag)
     over_by w e false q g z =
         record {
@@ -163,8 +149,8 @@ module _ (job files area nums words : List ℕ) (count n k left : ℕ) (s : Stat
         }
 
     over : (o : Option Bytes) → option_of (ascii "-scope") ws ≡ o → Enters files area area' s o r → (r.tag ≡ 0 → ⊥) → Loaded job files area area' nums count words n k left s r 0
-    over none e g z = absurd (z g.tag)
-    over (some w) e g z = over_by w e (scope_fits s.count.scopes (target w)) refl g z
+    over None e g z = absurd (z g.tag)
+    over (Some w) e g z = over_by w e (scope_fits s.count.scopes (target w)) refl g z
 
     module _ (g : Enters files area area' s (option_of (ascii "-scope") ws) r) where
       pub loaded_over : (r.tag ≡ 0 → ⊥) → Loaded job files area area' nums count words n k left s r 0
@@ -247,8 +233,8 @@ module _ (files area words : List ℕ) (count n k : ℕ) (p : Place) (v : Asked 
   shifts_in t false e g = stays_in g.place
 
   leads_in : (o : Option Bytes) → Leads files area area' p o w → w.place.end ≤ length area'
-  leads_in none g = stays_in g.place
-  leads_in (some x) g =
+  leads_in None g = stays_in g.place
+  leads_in (Some x) g =
       shifts_in (entered (string (files ++ take p.end area) p.scope) x) (scope_fits p.scopes (entered (string (files ++ take p.end area) p.scope) x)) refl g
 
   module _ (g : Leads files area area' p (option_of (ascii "-scope") (words_from (files ++ take p.end area) words n 1)) w) where

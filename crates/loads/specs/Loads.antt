@@ -1,12 +1,12 @@
 -- A load: what stands before it reads its file, and what is back behind it. Assumes nothing.
+use Rattle.std.specs.Prelude.{Option, Some, None}
+use Rattle.store.specs.declared.stored.Stored.{Stored}
 use Rattle.std.specs.Prelude.{ℕ, ◌-◌, ◌≤◌, ◌<◌, ◌≡◌, List, take, drop}
 use Rattle.text.specs.Ascii.{Bytes}
 use Rattle.jobindex.specs.Index.{path_at}
 use Rattle.model.specs.Names.{load_upf}
 use Rattle.read.specs.Reading.{refused, restored}
 use Rattle.store.specs.Added.{scope_set, top_set}
-use Rattle.store.specs.declared.stored.Maybe.{Maybe}
-use Rattle.store.specs.declared.stored.Maybe.TheVariants.{Not, Given}
 use Rattle.store.specs.declared.state.Head.{Head}
 use Rattle.store.specs.declared.state.State.{State}
 use Rattle.scopes.specs.declared.go.Out.{Out}
@@ -17,17 +17,17 @@ use Rattle.loads.specs.declared.Load.{Load}
 use Rattle.loads.specs.Steps.{line_at, step_from, load_at, files_in, Texts, file_reads}
 
 -- the loader m had a design top, or not
-abbrev pub restored_by : State → State → Maybe → State
-restored_by m s Not = scope_set s m.head.scope
-restored_by m s (Given t) = top_set (scope_set s m.head.scope) (Given t)
+abbrev pub restored_by : State → State → Option Stored → State
+restored_by m s None = scope_set s m.head.scope
+restored_by m s (Some t) = top_set (scope_set s m.head.scope) (Some t)
 
 abbrev pub Restores : State → State → State → Type 0
 Restores m s r = r ≡ restored_by m s m.head.top
 
 -- of the heads alone: before the load h, behind it g
-abbrev pub top_back : Maybe → Maybe → Maybe
-top_back Not t = t
-top_back (Given x) t = Given x
+abbrev pub top_back : Option Stored → Option Stored → Option Stored
+top_back None t = t
+top_back (Some x) t = Some x
 
 abbrev pub head_back : Head → Head → Head
 head_back h g = record { scope = h.scope; top = top_back h.top g.top }

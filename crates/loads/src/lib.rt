@@ -10,24 +10,14 @@ use args::argument::name;
 use filepaths::find_file;
 use scopes::go::{Place, Went, load_scope};
 use store::state::Head;
-use store::stored::Maybe;
 
 // Behind a load: the scope that stood before it, and the design top where there was one, else that of the load.
 pub fn back(h: Head, g: Head) -> Head
     ensures { result ≡ head_back h g }
 {
-    let scope = h.scope;
-    let top = h.top;
-    let other = g.top;
-    match top {
-        Maybe::Not => Head {
-            scope: scope,
-            top: other,
-        },
-        Maybe::Given(t) => Head {
-            scope: scope,
-            top: Maybe::Given(t),
-        },
+    Head {
+        scope: h.scope,
+        top: h.top.or(g.top),
     }
 }
 
@@ -42,9 +32,8 @@ pub struct Load {
 fn told(tag: usize, p: Place, file: usize) -> Load
     ensures { result ≡ load_of tag p file }
 {
-    let w = Went { tag: tag, place: p };
     Load {
-        went: w,
+        went: Went { tag: tag, place: p },
         file: file,
     }
 }

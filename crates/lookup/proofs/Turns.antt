@@ -1,12 +1,13 @@
 -- One turn of a lookup: the answer is that of what is left.
 -- Assumes nothing.
+use Rattle.std.specs.Prelude.{Some, None}
 use mathlib.Core.Path.{◌≡◌, ap, ◌∙◌, sym}
 use Prim.Native.Nat.{ℕ, ◌+◌, ◌-◌, ◌<◌, ◌≤◌}
 use native.Mathlib.Numerals.{add-one}
 use native.Mathlib.Omega.{arith}
 use mathlib.Core.Bool.{Bool, true, false}
 use mathlib.Core.List.{List}
-use mathlib.Core.Option.{Option}
+use Rattle.std.specs.Prelude.{Option}
 use lib.ListN.{drop, drop_of_length-le}
 use borrow.Author.Rules.{rules}
 use Rattle.text.specs.Ascii.{Bytes}
@@ -21,7 +22,6 @@ use Rattle.design.specs.Lists.{first}
 use Rattle.design.specs.Lookup.{module_named, instance_named}
 use Rattle.lines.specs.Cursors.{spanned, InstSeen, Stepped}
 use Rattle.lines.specs.declared.InstAt.{InstAt}
-use Rattle.lines.specs.declared.InstAt.TheVariants as inst
 use Rattle.lookup.specs.Rows.{modules, row_is, ModuleSeen, insts_from, insts_end, insts_are, InstanceSeen, below}
 
 -- ---- modules
@@ -53,40 +53,37 @@ module _ (job : Bytes) (index : List ℕ) (k : ℕ) (name : Bytes) (end : ℕ) (
   pub inst_start : (at : ℕ) → at ≡ insts_from index k → instance_named (module_row job index k) name ≡ named_in job at end name
   inst_start at ea = rw (insts_are job index k, ee, ea)
 
-  module _ (at : ℕ) (inv : instance_named (module_row job index k) name ≡ named_in job at end name) (r : InstAt) (seen : InstSeen job at end r) where
-    pub inst_none : r ≡ inst.End → InstanceSeen job index k name inst.End
+  module _ (at : ℕ) (inv : instance_named (module_row job index k) name ≡ named_in job at end name) where
+    pub inst_none : InstSeen job at end None → InstanceSeen job index k name None
     unfolding first
-    inst_none g = record { says = sym (inv ∙ rw (← seen.says, g)) }
+    inst_none seen = record { says = sym (inv ∙ rw (← seen.says)) }
 
-    module _ (d : Dims) (n t : Span) (next : ℕ) (g : r ≡ inst.Inst d n t next) where
-      on : Stepped job at end next
-      on = rw g at seen.goes
+    module _ (i : InstAt) (seen : InstSeen job at end (Some i)) where
+      pub inst_less : end - i.next < end - at
+      inst_less = omega (arith, seen.goes.further, seen.goes.within)
 
-      pub inst_less : end - next < end - at
-      inst_less = omega (arith, on.further, on.within)
-
-      module _ (p : Bytes) (ep : p ≡ spanned job n) (b : Bool) (eb : b ≡ same p name) where
-        test_name : same (spanned job n) name ≡ b
+      module _ (p : Bytes) (ep : p ≡ spanned job i.name) (b : Bool) (eb : b ≡ same p name) where
+        test_name : same (spanned job i.name) name ≡ b
         test_name = sym (eb ∙ ap (λ (q : Bytes). same q name) ep)
 
-        pub inst_found : b ≡ true → InstanceSeen job index k name (inst.Inst d n t next)
+        pub inst_found : b ≡ true → InstanceSeen job index k name (Some i)
         unfolding first
-        inst_found h = record { says = rw (← ee) (sym (inv ∙ rw (← seen.says, g, test_name, h))) }
+        inst_found h = record { says = rw (← ee) (sym (inv ∙ rw (← seen.says, test_name, h))) }
 
-        pub inst_next : b ≡ false → instance_named (module_row job index k) name ≡ named_in job next end name
+        pub inst_next : b ≡ false → instance_named (module_row job index k) name ≡ named_in job i.next end name
         unfolding first
-        inst_next h = inv ∙ rw (← seen.says, g, test_name, h)
+        inst_next h = inv ∙ rw (← seen.says, test_name, h)
 
 pub ruleset inst_turns = (rules, inst_start, inst_none, inst_less, inst_found, inst_next)
 
 -- ---- one instance down
-module _ (job : Bytes) (index : List ℕ) (count k : ℕ) (name : Bytes) (r : InstAt) (seen : InstanceSeen job index k name r) where
-  pub below_none : r ≡ inst.End → ModuleSeen job index count (below (modules job index count) (module_row job index k) name) 0
+module _ (job : Bytes) (index : List ℕ) (count k : ℕ) (name : Bytes) where
+  pub below_none : InstanceSeen job index k name None → ModuleSeen job index count (below (modules job index count) (module_row job index k) name) 0
   unfolding row_is
-  below_none g = record { says = rw (← seen.says, g); within = omega arith }
+  below_none seen = record { says = rw (← seen.says); within = omega arith }
 
-  pub below_some : (d : Dims) (n t : Span) (next : ℕ) → r ≡ inst.Inst d n t next → (p : Bytes) → p ≡ spanned job t → (q : ℕ) → ModuleSeen job index count (module_named (modules job index count) p) q
+  pub below_some : (i : InstAt) → InstanceSeen job index k name (Some i) → (p : Bytes) → p ≡ spanned job i.kind → (q : ℕ) → ModuleSeen job index count (module_named (modules job index count) p) q
       → ModuleSeen job index count (below (modules job index count) (module_row job index k) name) q
-  below_some d n t next g p ep q s = record { says = s.says ∙ rw (← seen.says, g, ep); within = s.within }
+  below_some i seen p ep q s = record { says = s.says ∙ rw (← seen.says, ep); within = s.within }
 
 pub ruleset belows = (rules, below_none, below_some)

@@ -1,7 +1,6 @@
 -- What a lookup comes to. A module is one more than the number of its row, 0 is none; the modules of the job are the rows of its index.
 -- Assumes nothing.
-use Rattle.std.specs.Prelude.{ℕ, zero, suc, ◌+◌, ◌≤◌, ◌-◌, ◌≡◌, refl, List, [], ◌∷◌}
-use Rattle.std.proofs.Math.Option.{Option, none, some}
+use Rattle.std.specs.Prelude.{ℕ, zero, suc, ◌+◌, ◌≤◌, ◌-◌, ◌≡◌, refl, List, [], ◌∷◌, Option, None, Some}
 use Rattle.text.specs.Ascii.{Bytes}
 use Rattle.joblines.specs.Job.{Inst, Module}
 use Rattle.joblines.specs.Sections.{insts_in}
@@ -10,7 +9,6 @@ use Rattle.design.specs.Lists.{on_some}
 use Rattle.design.specs.Lookup.{module_named, instance_named, module_at}
 use Rattle.lines.specs.Cursors.{inst_is}
 use Rattle.lines.specs.declared.InstAt.{InstAt}
-use Rattle.lines.specs.declared.InstAt.TheVariants as inst
 use Rattle.std.proofs.Common.{arith}
 
 -- the modules of the job, in the order of their lines
@@ -19,14 +17,14 @@ modules job index count = rows (module_row job index) count
 
 -- the module that a number stands for
 unfoldable pub row_is : Bytes → List ℕ → ℕ → Option Module
-row_is job index zero = none
-row_is job index (suc k) = some (module_row job index k)
+row_is job index zero = None
+row_is job index (suc k) = Some (module_row job index k)
 
-pub row_none : (job : Bytes) (index : List ℕ) → row_is job index 0 ≡ none
+pub row_none : (job : Bytes) (index : List ℕ) → row_is job index 0 ≡ None
 unfolding row_is
 row_none job index = refl
 
-pub row_some : (job : Bytes) (index : List ℕ) (q : ℕ) → (q ≡ 0 → ⊥) → row_is job index q ≡ some (module_row job index (q - 1))
+pub row_some : (job : Bytes) (index : List ℕ) (q : ℕ) → (q ≡ 0 → ⊥) → row_is job index q ≡ Some (module_row job index (q - 1))
 unfolding row_is
 row_some job index zero h = absurd (h refl)
 row_some job index (suc q) h = let z : suc q - 1 ≡ q = omega arith in rw z
@@ -47,25 +45,25 @@ unfolding module_row
 insts_are job index k = refl
 
 -- the instance that a line is, of a module that ends at `end`
-abbrev pub line_is : Bytes → ℕ → InstAt → Option Inst
-line_is job end inst.End = none
-line_is job end (inst.Inst d n t next) = some (inst_is job end d n t next)
+abbrev pub line_is : Bytes → ℕ → Option InstAt → Option Inst
+line_is job end None = None
+line_is job end (Some r) = Some (inst_is job end r.dims r.name r.kind r.next)
 
-pub record InstanceSeen (job : Bytes) (index : List ℕ) (k : ℕ) (name : Bytes) (r : InstAt) : Type 0 where
+pub record InstanceSeen (job : Bytes) (index : List ℕ) (k : ℕ) (name : Bytes) (r : Option InstAt) : Type 0 where
   pub says : line_is job (insts_end index k) r ≡ instance_named (module_row job index k) name
 
 -- ---- one instance down
 abbrev pub below : List Module → Module → Bytes → Option Module
-below d m n = on_some (instance_named m n) none λ i. module_named d i.type
+below d m n = on_some (instance_named m n) None λ i. module_named d i.type
 
-pub at_none : (d : List Module) (m : Module) → module_at d m [] ≡ some m
+pub at_none : (d : List Module) (m : Module) → module_at d m [] ≡ Some m
 unfolding module_at
 at_none d m = refl
 
-pub at_more : (d : List Module) (m : Module) (n : Bytes) (ns : List Bytes) → module_at d m (n ∷ ns) ≡ on_some (below d m n) none λ m'. module_at d m' ns
+pub at_more : (d : List Module) (m : Module) (n : Bytes) (ns : List Bytes) → module_at d m (n ∷ ns) ≡ on_some (below d m n) None λ m'. module_at d m' ns
 unfolding module_at
 at_more d m n ns = go (instance_named m n)
   where
-    go : (o : Option Inst) → on_some o none (λ i. on_some (module_named d i.type) none λ m'. module_at d m' ns) ≡ on_some (on_some o none λ i. module_named d i.type) none λ m'. module_at d m' ns
-    go none = refl
-    go (some i) = refl
+    go : (o : Option Inst) → on_some o None (λ i. on_some (module_named d i.type) None λ m'. module_at d m' ns) ≡ on_some (on_some o None λ i. module_named d i.type) None λ m'. module_at d m' ns
+    go None = refl
+    go (Some i) = refl

@@ -26,58 +26,44 @@ pub fn insts_end(index: &[u32], k: usize) -> usize
 }
 
 // The first module of a name among the first `count`.
+#[tactic(auto, using(crate::proofs::Turns::module_turns))]
 pub fn module_named(job: &[u8], index: &[u32], count: usize, name: &[u8]) -> usize
     requires { count ≤ 128 }
     ensures { ModuleSeen job.now index.now count (module_named (modules job.now index.now count) name.now) result }
 {
-    let mut k = 0;
-    while k < count {
+    for k in 0..count {
         if text::compare::same(jobindex::name_at(job, index, k), name) {
             return k + 1;
         }
-        k += 1;
     }
     0
 }
 
 // The first instance of a name in module k, dimensions not looked at.
-pub fn instance_named(job: &[u8], index: &[u32], k: usize, name: &[u8]) -> InstAt
+#[tactic(auto, using(crate::proofs::Turns::inst_turns))]
+pub fn instance_named(job: &[u8], index: &[u32], k: usize, name: &[u8]) -> Option<InstAt>
     requires { k ≤ 128 }
     ensures { InstanceSeen job.now index.now k name.now result }
 {
     let end = insts_end(index, k);
     let mut at = insts_from(index, k);
-    loop {
-        let r = lines::next_inst(job, at, end);
-        let InstAt::Inst {
-            dims: _,
-            name: own,
-            kind: _,
-            next,
-        } = r
-        else {
-            return InstAt::End;
-        };
-        if text::compare::same(lines::part_of(job, own), name) {
-            return r;
+    while let Some(inst) = lines::next_inst(job, at, end) {
+        if text::compare::same(lines::part_of(job, inst.name), name) {
+            return Some(inst);
         }
-        at = next;
+        at = inst.next;
     }
+    None
 }
 
 // The module of the instance of a name in module k.
+#[tactic(auto, using(crate::proofs::Turns::belows))]
 pub fn module_below(job: &[u8], index: &[u32], count: usize, k: usize, name: &[u8]) -> usize
     requires { (count ≤ 128) × (k ≤ 128) }
     ensures { ModuleSeen job.now index.now count (below (modules job.now index.now count) (module_row job.now index.now k) name.now) result }
 {
-    let r = instance_named(job, index, k, name);
-    match r {
-        InstAt::End => 0,
-        InstAt::Inst {
-            dims: _,
-            name: _,
-            kind,
-            next: _,
-        } => module_named(job, index, count, lines::part_of(job, kind)),
-    }
+    let Some(inst) = instance_named(job, index, k, name) else {
+        return 0;
+    };
+    module_named(job, index, count, lines::part_of(job, inst.kind))
 }

@@ -1,10 +1,9 @@
 -- Laws: a command is carried out where the state that it leaves is in order, since every such state is within the limits of records. Assumes nothing.
-use Rattle.std.specs.Prelude.{ℕ, ◌<◌, ◌≡◌, refl, true, List, length}
+use Rattle.std.specs.Prelude.{Some, None}
+use Rattle.spans.specs.declared.span.Span.{Span}
+use Rattle.std.specs.Prelude.{ℕ, ◌<◌, ◌≡◌, refl, true, List, length, Option, option_map}
 use Rattle.std.proofs.Common.{arith, sym, ap, ◌∙◌, ne_eqb}
-use Rattle.std.proofs.Math.Option.{Option, map}
 use Rattle.text.specs.Ascii.{Bytes}
-use Rattle.spans.specs.declared.span.Found.{Found}
-use Rattle.spans.specs.declared.span.Found.TheVariants.{At, None}
 use Rattle.args.specs.View.{Finds}
 use Rattle.model.specs.Scope.{scoped}
 use Rattle.model.specs.Records.{Model}
@@ -38,7 +37,6 @@ module _ (long : ℕ) (mem : Bytes) (st : Store) (log : Bytes) (s : State) (v : 
       record { result = rw (z, e, in_limits (rowed st r) (row_counted s) t e w); shaped = rw z w; bounded = rw z c; packs = p; kept = record { count = refl; scope = refl; end = refl; log = refl; words = refl } }
 
 -- what was found, below a scope
-pub below_found_lem : (mem : Bytes) (words : List ℕ) (n : ℕ) (t : Option Bytes) (f : Found) (scope : Stored) → Finds mem words n t f → maybe_below_of mem (below_found scope f) ≡ map (scoped (string mem scope)) t
-unfolding map
+pub below_found_lem : (mem : Bytes) (words : List ℕ) (n : ℕ) (t : Option Bytes) (f : Option Span) (scope : Stored) → Finds mem words n t f → maybe_below_of mem (below_found scope f) ≡ option_map (scoped (string mem scope)) t
 below_found_lem mem words n t None scope a = rw (← a.is)
-below_found_lem mem words n t (At s) scope a = rw (← a.is)
+below_found_lem mem words n t (Some s) scope a = rw (← a.is)

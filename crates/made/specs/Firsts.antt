@@ -1,6 +1,9 @@
 -- Laws: the first record of a table that passes a test, looked for from the front. Assumes nothing.
-use Rattle.std.specs.Prelude.{ℕ, suc, ◌+◌, ◌≤◌, ◌<◌, ◌≡◌, refl, Bool, true, false, cond, List, [], ◌∷◌, map, get_or, take, drop}
-use Rattle.std.proofs.Common.{arith, add-one, sym, ap, ◌∙◌, get_or-take}
+use Rattle.std.specs.Prelude.{ℕ, suc, ◌+◌, ◌≤◌, ◌<◌, ◌≡◌, refl, Bool, true, false, cond, List, [], ◌∷◌, map, get_or, take, drop, Option, Some, None, unwrap_or}
+use Rattle.std.specs.List.{position_or_len}
+use Rattle.std.proofs.Common.{arith, add-one, sym, ap, ◌∙◌, get_or-take, ltb}
+use Rattle.std.proofs.lemmas.Bool.Decides.{nat_tests}
+use Rattle.std.proofs.lemmas.List.Recursion.{is_position_or_len}
 use Rattle.std.proofs.Math.ListN.{length}
 use Rattle.std.proofs.lemmas.List.{length-map}
 use Rattle.std.proofs.Math.Seq.{drop-length, length-take-le}
@@ -21,6 +24,18 @@ first_le t (x ∷ l) = go (t x) (first_le t l)
     go : (b : Bool) → first_at t l ≤ length l → cond b 0 (suc (first_at t l)) ≤ suc (length l)
     go true h = omega arith
     go false h = omega arith
+
+-- what `position` found, or how many were looked through
+first_is : {A : Type 0} (t : A → Bool) (l : List A) → first_at t l ≡ position_or_len t l
+unfolding first_at
+first_is t = is_position_or_len (first_at t) t refl (λ x xs. ap (cond (t x) 0) (omega arith))
+
+pub first_found : {A : Type 0} (t : A → Bool) (l : List A) (n : ℕ) (o : Option ℕ) (r : ℕ) → length l ≡ n → o ≡ cond (ltb (position_or_len t l) (length l)) (Some (position_or_len t l)) None → r ≡ unwrap_or o n → r ≡ first_at t l
+first_found t l n o r e h k = rw (k, h, ← first_is t l) (go (ltb (first_at t l) (length l)) refl)
+  where
+    go : (found : Bool) → ltb (first_at t l) (length l) ≡ found → unwrap_or (cond found (Some (first_at t l)) None) n ≡ first_at t l
+    go true q = refl
+    go false q = grind (arith, nat_tests, first_le t l)
 
 -- records and what they stand for, tests that agree
 pub first_map : {A B : Type 0} (f : A → B) (t : B → Bool) (u : A → Bool) → ((x : A) → u x ≡ t (f x)) → (l : List A) → first_at t (map f l) ≡ first_at u l

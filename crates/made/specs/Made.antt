@@ -1,6 +1,5 @@
 -- What a command answers, as the code makes it, and how it stands for the records. Assumes nothing.
-use Rattle.std.specs.Prelude.{ℕ, ◌+◌, ◌≤◌, ◌<◌, ◌^◌, ◌≡◌, cond, List, ◌++◌, eqb, leb, length}
-use Rattle.std.proofs.Math.Option.{Option, none, some}
+use Rattle.std.specs.Prelude.{ℕ, ◌+◌, ◌≤◌, ◌<◌, ◌^◌, ◌≡◌, cond, List, ◌++◌, eqb, leb, length, Option, None, Some}
 use Rattle.text.specs.Ascii.{Bytes}
 use Rattle.spans.specs.Span.{pairs}
 use Rattle.spans.specs.Reach.{span_end, last_of, reach}
@@ -88,11 +87,11 @@ Fits s (deed.PortState x e) = s.portstates.n < 32
 
 -- ---- the records that an answer stands for; none where it refuses
 abbrev pub made_of : Bytes → Store → Bytes → Made → Option Model
-made_of mem st log r = cond (eqb r.tag 0) (some (model_of mem (with_row st r.row) r.state log)) none
+made_of mem st log r = cond (eqb r.tag 0) (Some (model_of mem (with_row st r.row) r.state log)) None
 
 -- the records that a command leaves, where they are within the limits
 abbrev pub fitted : Model → Option Model
-fitted m = cond (records_fit m) (some m) none
+fitted m = cond (records_fit m) (Some m) None
 
 -- how far a stored string reaches, where the files are `long`
 abbrev pub reach_of : ℕ → Stored → ℕ

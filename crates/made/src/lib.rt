@@ -6,7 +6,7 @@ ghost use Rattle.made.specs.Made.{brief_of};
 
 use store::row::Row;
 use store::state::{Domain, Isolation, Port, PortState, Retention, Shifter, State, Switch, Table};
-use store::stored::{Below, Maybe, Stored};
+use store::stored::{Below, Stored};
 
 // What a command does to the records: nothing; a reading limit is passed; a warning about a word; a row; a record more, or one anew. A switch and a
 // port state come with the end of the words of the store.
@@ -17,7 +17,7 @@ pub enum Deed {
     Warning(u32, Stored),
     Row(Row),
     Variable(Stored, Stored),
-    Top(Maybe),
+    Top(Option<Stored>),
     Domain(Domain),
     Supplied(usize, Domain),
     Net(Below),
@@ -35,7 +35,7 @@ pub enum Deed {
 #[derive(Clone, Copy)]
 pub struct Brief {
     pub scope: Stored,
-    pub top: Maybe,
+    pub top: Option<Stored>,
     pub words: usize,
     pub domains: usize,
     pub ports: usize,
@@ -52,12 +52,9 @@ pub struct Brief {
 pub fn brief_of(s: State) -> Brief
     ensures { result ≡ brief_of s }
 {
-    let h = s.head;
-    let scope = h.scope;
-    let top = h.top;
     Brief {
-        scope: scope,
-        top: top,
+        scope: s.head.scope,
+        top: s.head.top,
         words: s.fill.words,
         domains: s.domains.n,
         ports: s.ports.n,

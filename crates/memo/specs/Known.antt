@@ -1,9 +1,8 @@
 -- What a memo of instances says: in slot h stand one more than the number of a module, and a place of the job. The first instance of the module's lines from
 -- that place on is the first of its name in the module. Laws as the needs of those who look up by it ask them.
 -- Assumes nothing.
-use Rattle.std.specs.Prelude.{ℕ, zero, suc, ◌+◌, ◌*◌, ◌≤◌, ◌<◌, ◌^◌, ◌≡◌, refl, Bool, true, false, List, [], ◌∷◌, eqb, length, set, get_or, replicate}
+use Rattle.std.specs.Prelude.{ℕ, zero, suc, ◌+◌, ◌*◌, ◌≤◌, ◌<◌, ◌^◌, ◌≡◌, refl, Bool, true, false, List, [], ◌∷◌, eqb, length, set, get_or, replicate, Option, Some}
 use Rattle.std.proofs.Common.{sym, ap, ◌∙◌, arith, length-set, get_or-set_same, get_or-set_other, eqb-true}
-use Rattle.std.proofs.Math.Option.{Option, some}
 use Rattle.std.proofs.lemmas.List.{length-replicate}
 use Rattle.std.proofs.lemmas.Bool.{eqb-false}
 use Rattle.text.specs.Ascii.{Bytes}
@@ -18,7 +17,6 @@ use Rattle.design.specs.Lists.{first}
 use Rattle.design.specs.Lookup.{instance_named}
 use Rattle.lines.specs.Cursors.{spanned, inst_is, InstSeen}
 use Rattle.lines.specs.declared.InstAt.{InstAt}
-use Rattle.lines.specs.declared.InstAt.TheVariants as inst
 use Rattle.lookup.specs.Rows.{insts_from, insts_end, insts_are}
 
 abbrev pub slots : ℕ
@@ -38,7 +36,7 @@ pub record Begins (job : Bytes) (index : List ℕ) (k : ℕ) (w : Bytes) (p : �
 
 -- the first instance of the lines of module k from p on is the first of its name
 pub record Leads (job : Bytes) (index : List ℕ) (k p : ℕ) : Type 0 where
-  pub leads : (i : Inst) (is : List Inst) → insts_in (section job p (insts_end index k)) ≡ i ∷ is → instance_named (module_row job index k) i.name ≡ some i
+  pub leads : (i : Inst) (is : List Inst) → insts_in (section job p (insts_end index k)) ≡ i ∷ is → instance_named (module_row job index k) i.name ≡ Some i
 
 pub record Known (job : Bytes) (index memo : List ℕ) : Type 0 where
   pub long : length memo ≡ memo_size
@@ -83,14 +81,14 @@ begins_row job index k w p b = b.row
 pub begins_first : (job : Bytes) (index : List ℕ) (k : ℕ) (w : Bytes) (p : ℕ) → k ≤ 128 → p ≡ insts_from index k → Begins job index k w p
 begins_first job index k w p h e = record { row = h; keeps = rw (insts_are job index k, e) }
 
-module _ (job : Bytes) (index : List ℕ) (k p : ℕ) (r : InstAt) (seen : InstSeen job p (insts_end index k) r) (d : Dims) (n t : Span) (next : ℕ) (g : r ≡ inst.Inst d n t next) (w : Bytes) (ew : spanned job n ≡ w) where
+module _ (job : Bytes) (index : List ℕ) (k p : ℕ) (r : Option InstAt) (seen : InstSeen job p (insts_end index k) r) (d : Dims) (n t : Span) (next : ℕ) (g : r ≡ Some (record { dims = d; name = n; kind = t; next = next })) (w : Bytes) (ew : spanned job n ≡ w) where
   abbrev here : Inst
   here = inst_is job (insts_end index k) d n t next
 
   insts_here : insts_in (section job p (insts_end index k)) ≡ here ∷ insts_in (section job next (insts_end index k))
   insts_here = rw g at (sym seen.says)
 
-  named_here : named_from job index k p w ≡ some here
+  named_here : named_from job index k p w ≡ Some here
   unfolding first
   named_here = rw (insts_here, same_of (spanned job n) w ew)
 
@@ -102,8 +100,8 @@ module _ (job : Bytes) (index : List ℕ) (k p : ℕ) (r : InstAt) (seen : InstS
       record {
         leads = λ i is e.
             let h : here ≡ i = head_same here i (insts_in (section job next (insts_end index k))) is (sym insts_here ∙ e) in
-            let f : instance_named (module_row job index k) here.name ≡ some here = ap (instance_named (module_row job index k)) ew ∙ b.keeps ∙ named_here in
-            ap (λ (j : Inst). instance_named (module_row job index k) j.name) (sym h) ∙ f ∙ ap some h;
+            let f : instance_named (module_row job index k) here.name ≡ Some here = ap (instance_named (module_row job index k)) ew ∙ b.keeps ∙ named_here in
+            ap (λ (j : Inst). instance_named (module_row job index k) j.name) (sym h) ∙ f ∙ ap Some h;
       }
     where
       head_same : (a b : Inst) (us vs : List Inst) → ◌≡◌ {A = List Inst} (a ∷ us) (b ∷ vs) → a ≡ b

@@ -6,22 +6,12 @@ ghost use Rattle.std.specs.Prelude.{◌≡◌, ◌+◌, ◌*◌, ◌≤◌, ◌<
 ghost use Rattle.jobindex.specs.Index.{num};
 ghost use Rattle.memo.specs.Known.{slots};
 
-// The number at i; 0 past the end.
-fn at(memo: &[usize], i: usize) -> usize
-    ensures { result ≡ num memo.now i }
-{
-    if i < memo.len() {
-        return memo[i];
-    }
-    0
-}
-
 // One more than the number of the module in slot h; 0 where the slot is empty.
 pub fn row_in(memo: &[usize], h: usize) -> usize
     requires { h < slots }
     ensures { result ≡ num memo.now (2 * h) }
 {
-    at(memo, 2 * h)
+    text::part::get_or(memo, 2 * h, 0)
 }
 
 // The place in slot h.
@@ -29,7 +19,7 @@ pub fn place_in(memo: &[usize], h: usize) -> usize
     requires { h < slots }
     ensures { result ≡ num memo.now (2 * h + 1) }
 {
-    at(memo, 2 * h + 1)
+    text::part::get_or(memo, 2 * h + 1, 0)
 }
 
 // Puts a place of module k into slot h.

@@ -1,10 +1,8 @@
 -- What each command does to the records (document 01, "Files and commands"; the Rust's `parse_upf_file`). `w` is the command's name as written,
 -- `ws` the words behind it. Assumes nothing.
-use Rattle.std.specs.Prelude.{ℕ, Bool, cond, not, ◌&&◌, ◌||◌}
+use Rattle.std.specs.Prelude.{ℕ, Bool, cond, not, ◌&&◌, ◌||◌, option_map, Option, None, Some}
 use Prim.Native.String.{String}
 use mathlib.Core.List.{List, [], ◌∷◌, ◌++◌, map, flat_map}
-use Rattle.std.proofs.Math.Option
-use Rattle.std.proofs.Math.Option.{Option, none, some}
 use Rattle.text.specs.Ascii.{Bytes, ascii}
 use Rattle.text.specs.Compare.{same}
 use Rattle.text.specs.Scan.{any}
@@ -18,13 +16,13 @@ use Rattle.model.specs.Names.{Command, is_query}
 -- ---- options
 
 abbrev pub or_else : Option Bytes → Bytes → Bytes
-or_else none z = z
-or_else (some v) z = v
+or_else None z = z
+or_else (Some v) z = v
 
 -- the value of an option, read as a list; nothing where it is not given
 abbrev pub list_of : Option Bytes → List Bytes
-list_of none = []
-list_of (some v) = list v
+list_of None = []
+list_of (Some v) = list v
 
 abbrev pub option_list : String → List Bytes → List Bytes
 option_list key ws = list_of (option_of (ascii key) ws)
@@ -47,12 +45,12 @@ warned m t = with_warnings m (m.warnings ++ (t ∷ []))
 
 -- ---- records found by a test: the first one is changed; `none` where there is none
 unfoldable pub on_first : {A : Type 0} → (A → Bool) → (A → A) → List A → Option (List A)
-on_first t f [] = none
-on_first {A = A} t f (x ∷ xs) = cond (t x) (some (f x ∷ xs)) (Option.map (λ (ys : List A). x ∷ ys) (on_first t f xs))
+on_first t f [] = None
+on_first {A = A} t f (x ∷ xs) = cond (t x) (Some (f x ∷ xs)) (option_map (λ (ys : List A). x ∷ ys) (on_first t f xs))
 
 abbrev pub or_warned : {A : Type 0} → Option (List A) → (List A → Model) → Model → Model
-or_warned none go m = m
-or_warned (some xs) go m = go xs
+or_warned None go m = m
+or_warned (Some xs) go m = go xs
 
 -- ---- set: with two positional words or more the first is a variable's name and the second its value
 abbrev pub set_to : Model → List Bytes → Model
@@ -69,8 +67,8 @@ puts_command m ws = with_log m (m.log ++ (ascii "[UPF] " ++ (last_positional ws 
 
 -- ---- set_design_top: taken at the root, and the first one only
 abbrev pub top_unless : Option Bytes → Bytes → Bytes → Option Bytes
-top_unless (some t) scope name = some t
-top_unless none scope name = cond (same scope []) (some name) none
+top_unless (Some t) scope name = Some t
+top_unless None scope name = cond (same scope []) (Some name) None
 
 unfoldable pub design_top_command : Model → List Bytes → Model
 design_top_command m ws = with_design_top m (top_unless m.design_top m.scope (name_of ws))
@@ -85,8 +83,8 @@ domain_command m ws =
     with_domains m (m.domains ++ (record {
       name = name_of ws;
       elements = all_below m (option_list "-elements" ws) ++ cond (has_flag (ascii "-include_scope") ws) (m.scope ∷ []) [];
-      power = none;
-      ground_net = none;
+      power = None;
+      ground_net = None;
       scope = m.scope;
     } ∷ []))
 
@@ -112,7 +110,7 @@ supplied p g d = record { name = d.name; elements = d.elements; power = p; groun
 unfoldable pub supply_command : Model → List Bytes → Model
 supply_command m ws =
     or_warned
-    (on_first (λ (d : Domain). same d.name (name_of ws)) (supplied (Option.map (below_scope m) (option_of (ascii "-primary_power_net") ws)) (Option.map (below_scope m) (option_of (ascii "-primary_ground_net") ws))) m.domains)
+    (on_first (λ (d : Domain). same d.name (name_of ws)) (supplied (option_map (below_scope m) (option_of (ascii "-primary_power_net") ws)) (option_map (below_scope m) (option_of (ascii "-primary_ground_net") ws))) m.domains)
     (with_domains m)
     (warned m (format1 "set_domain_supply_net: unknown power domain '{0}'" (name_of ws)))
 
@@ -155,8 +153,8 @@ switch_command m w ws =
 -- ---- set_isolation
 
 abbrev pub given : Option Bytes → Option Bytes → Option Bytes
-given none old = old
-given (some v) old = some v
+given None old = old
+given (Some v) old = Some v
 
 abbrev pub replaced : List Bytes → List Bytes → List Bytes
 replaced [] old = old

@@ -1,7 +1,6 @@
 -- "The command names stand in one constant table": thirty names. Assumes nothing.
 use Prim.Native.String.{String}
-use Rattle.std.specs.Prelude.{Bool, List, [], ◌∷◌}
-use Rattle.std.proofs.Math.Option.{Option, none, some}
+use Rattle.std.specs.Prelude.{Bool, List, [], ◌∷◌, Option, None, Some}
 use Rattle.text.specs.Ascii.{Bytes, ascii}
 use Rattle.text.specs.Compare.{starts_with}
 use Rattle.fields.specs.Fields.{among}
@@ -34,8 +33,8 @@ names =
     ∷ ("add_port_state", other add_port_state) ∷ ("create_pst", other create_pst) ∷ ("add_pst_state", other add_pst_state) ∷ []
 
 abbrev pub or_unknown : Option Named → Named
-or_unknown none = unknown
-or_unknown (some c) = c
+or_unknown None = unknown
+or_unknown (Some c) = c
 
 unfoldable pub command_named : Bytes → Named
 command_named w = or_unknown (among names w)

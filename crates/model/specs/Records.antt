@@ -1,7 +1,6 @@
 -- The records that the commands enter (document 01, "Files and commands"; the Rust's `Model`). Names are as the Rust stores them: scoped where it
 -- scopes them. Assumes nothing.
-use Rattle.std.specs.Prelude.{List, []}
-use Rattle.std.proofs.Math.Option.{Option, none}
+use Rattle.std.specs.Prelude.{List, [], Option, None}
 use Rattle.text.specs.Ascii.{Bytes}
 use Rattle.tcl.specs.Substitution.{Variable}
 
@@ -108,7 +107,7 @@ pub record Model : Type 0 where
 abbrev pub no_records : Model
 no_records =
     record {
-      design_top = none;
+      design_top = None;
       scope = [];
       domains = [];
       nets = [];

@@ -1,7 +1,6 @@
 -- "Command by command, before it acts: within the reading limits?" What counts towards the limits, and when a command is within them. Assumes nothing.
-use Rattle.std.specs.Prelude.{ℕ, ◌+◌, Bool, ◌&&◌, List, [], ◌∷◌, ◌++◌, map, leb, length}
+use Rattle.std.specs.Prelude.{ℕ, ◌+◌, Bool, ◌&&◌, List, [], ◌∷◌, ◌++◌, map, leb, length, Option, None, Some}
 use Prim.Native.String.{String}
-use Rattle.std.proofs.Math.Option.{Option, none, some}
 use Rattle.text.specs.Ascii.{Bytes, ascii}
 use Rattle.text.specs.Scan.{all}
 use Rattle.tcl.specs.Lists.{list}
@@ -17,8 +16,8 @@ abbrev pub option_value : String → List Bytes → List Bytes
 option_value key ws = values (option_of (ascii key) ws)
   where
     values : Option Bytes → List Bytes
-    values none = []
-    values (some v) = v ∷ []
+    values None = []
+    values (Some v) = v ∷ []
 
 abbrev pub state_values : List State → List Bytes
 state_values ss = map (λ (s : State). s.value) ss

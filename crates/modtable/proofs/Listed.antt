@@ -1,5 +1,6 @@
 -- The non-output ports of a module, listed one after the other: those stored so far, and those behind the cursor, are all; and a name looked for among them.
 -- Assumes nothing.
+use Rattle.std.specs.Prelude.{Some, None}
 use Prim.Native.Nat.{ℕ, ◌+◌, ◌*◌, ◌≤◌, ◌<◌}
 use mathlib.Core.Path.{◌≡◌, refl, sym, ap, ap₂, ◌∙◌}
 use mathlib.Core.Bool.{Bool, true, false, ◌||◌}
@@ -12,12 +13,10 @@ use Rattle.text.specs.Compare.{same}
 use Rattle.text.specs.Scan.{any}
 use Rattle.jobindex.specs.Index.{module_row, rows}
 use Rattle.jobindex.specs.Rows.{rows_more, rows_length, rows_same, rows_here}
-use Rattle.jobindex.specs.declared.Span.{Span}
 use Rattle.lines.specs.Cursors.{spanned}
 use Rattle.ports.specs.declared.Cursor.{Cursor}
 use Rattle.ports.specs.declared.Cursor.TheVariants as cursor
 use Rattle.ports.specs.declared.Step.{Step}
-use Rattle.ports.specs.declared.Step.TheVariants as step
 use Rattle.ports.specs.Cursors.{ports_from, inputs_from, InputSeen}
 use Rattle.ports.specs.Starts.{inputs_start}
 use Rattle.design.specs.Lists.{is_in}
@@ -50,44 +49,43 @@ module _ (job : Bytes) (index : List ℕ) (k : ℕ) (inputs₀ : List ℕ) where
     all_long : i + length (inputs_from job index k c) ≡ length (input_ports (module_row job index k))
     all_long = sym (length-append (rows (input_in job inputs) i) (inputs_from job index k c) ∙ ap (λ n. n + length (inputs_from job index k c)) (rows_length (input_in job inputs) i)) ∙ ap length inv.done
 
-    module _ (r : Step) (seen : InputSeen job index k c r) where
-      pub inputs_end : r ≡ step.End → InputsPut job index k inputs i
-      inputs_end h =
-          let z : inputs_from job index k c ≡ [] = sym seen.says ∙ rw h in
-          record {
-            inputs_are = sym (append-nil (rows (input_in job inputs) i)) ∙ ap (λ (l : List Bytes). rows (input_in job inputs) i ++ l) (sym z) ∙ inv.done;
-            few = inv.low;
-          }
+    pub inputs_end : InputSeen job index k c None → InputsPut job index k inputs i
+    inputs_end seen =
+        let z : inputs_from job index k c ≡ [] = sym seen.says in
+        record {
+          inputs_are = sym (append-nil (rows (input_in job inputs) i)) ∙ ap (λ (l : List Bytes). rows (input_in job inputs) i ++ l) (sym z) ∙ inv.done;
+          few = inv.low;
+        }
 
-      module _ (n : Span) (next : Cursor) (h : r ≡ step.Name n next) where
-        left_is : inputs_from job index k c ≡ spanned job n ∷ inputs_from job index k next
-        left_is = sym seen.says ∙ rw h
+    module _ (r : Step) (seen : InputSeen job index k c (Some r)) where
+      left_is : inputs_from job index k c ≡ spanned job r.name ∷ inputs_from job index k r.next
+      left_is = sym seen.says
 
-        pub inputs_less : length (inputs_from job index k next) < length (inputs_from job index k c)
-        inputs_less = omega (arith, ap length left_is)
+      pub inputs_less : length (inputs_from job index k r.next) < length (inputs_from job index k c)
+      inputs_less = omega (arith, ap length left_is)
 
-        inputs_low : i < 192
-        inputs_low = omega (arith, all_long, ap length left_is, inv.given.few)
+      inputs_low : i < 192
+      inputs_low = omega (arith, all_long, ap length left_is, inv.given.few)
 
-        pub inputs_place : 2 * i + 1 < length inputs
-        inputs_place = omega (arith, inputs_low, inv.given.long, inv.long)
+      pub inputs_place : 2 * i + 1 < length inputs
+      inputs_place = omega (arith, inputs_low, inv.given.long, inv.long)
 
-        put_kept : (j : ℕ) → j < i → input_in job (part_put inputs (2 * i) n) j ≡ input_in job inputs j
-        put_kept j l = rw (put_other inputs (2 * i) n (2 * j) (λ e. omega (arith, e)) (λ e. omega (arith, e)), put_other inputs (2 * i) n (2 * j + 1) (λ e. omega (arith, e)) (λ e. omega (arith, e)))
+      put_kept : (j : ℕ) → j < i → input_in job (part_put inputs (2 * i) r.name) j ≡ input_in job inputs j
+      put_kept j l = rw (put_other inputs (2 * i) r.name (2 * j) (λ e. omega (arith, e)) (λ e. omega (arith, e)), put_other inputs (2 * i) r.name (2 * j + 1) (λ e. omega (arith, e)) (λ e. omega (arith, e)))
 
-        pub inputs_next : (t : List ℕ) → t ≡ part_put inputs (2 * i) n → InputsOn job index k inputs₀ t (i + 1) next
-        inputs_next t et =
-            rw et (record {
-              long = put_long inputs (2 * i) n ∙ inv.long;
-              low = omega (arith, inputs_low);
-              done =
-                  ap (λ (l : List Bytes). l ++ inputs_from job index k next) (rows_more (input_in job (part_put inputs (2 * i) n)) i
-                  ∙ ap₂ (λ (l : List Bytes) (x : Bytes). l ++ (x ∷ [])) (rows_same (input_in job (part_put inputs (2 * i) n)) (input_in job inputs) i put_kept) (put_part inputs (2 * i) n inputs_place job inv.given.small))
-                  ∙ append_assoc (rows (input_in job inputs) i) (spanned job n ∷ []) (inputs_from job index k next)
-                  ∙ ap (λ (l : List Bytes). rows (input_in job inputs) i ++ l) (sym left_is)
-                  ∙ inv.done;
-              given = inv.given;
-            })
+      pub inputs_next : (t : List ℕ) → t ≡ part_put inputs (2 * i) r.name → InputsOn job index k inputs₀ t (i + 1) r.next
+      inputs_next t et =
+          rw et (record {
+            long = put_long inputs (2 * i) r.name ∙ inv.long;
+            low = omega (arith, inputs_low);
+            done =
+                ap (λ (l : List Bytes). l ++ inputs_from job index k r.next) (rows_more (input_in job (part_put inputs (2 * i) r.name)) i
+                ∙ ap₂ (λ (l : List Bytes) (x : Bytes). l ++ (x ∷ [])) (rows_same (input_in job (part_put inputs (2 * i) r.name)) (input_in job inputs) i put_kept) (put_part inputs (2 * i) r.name inputs_place job inv.given.small))
+                ∙ append_assoc (rows (input_in job inputs) i) (spanned job r.name ∷ []) (inputs_from job index k r.next)
+                ∙ ap (λ (l : List Bytes). rows (input_in job inputs) i ++ l) (sym left_is)
+                ∙ inv.done;
+            given = inv.given;
+          })
 
 pub ruleset inputs = (rules, inputs_given_row, inputs_on, inputs_row, inputs_end, inputs_less, inputs_place, inputs_next)
 

@@ -5,13 +5,11 @@ ghost use Rattle.modtable.specs.Table.{low_of, part_put};
 use jobindex::Span;
 
 // A place of the job, or a length, in 32 bits: those past the end of every job are one.
+#[tactic(auto, using(crate::proofs::Numbers::lows))]
 pub fn low(x: usize) -> u32
     ensures { result ≡ low_of x }
 {
-    if x < 4294967295 {
-        return x as u32;
-    }
-    4294967295
+    u32::try_from(x).unwrap_or(u32::MAX)
 }
 
 // A part of the job into the numbers at p.

@@ -4,7 +4,7 @@ use native.Mathlib.Nat.{suc-add}
 use native.Mathlib.Omega.{arith}
 use mathlib.Core.Path.{◌≡◌, refl, sym, ap, ◌∙◌}
 use mathlib.Core.Bool.{Bool, true, false, cond, not}
-use mathlib.Core.Option.{none, some}
+use Rattle.std.specs.Prelude.{None, Some}
 use mathlib.Core.List.{List, [], ◌∷◌, ◌++◌, append-nil}
 use lib.Dec.{eqb}
 use lib.ListN.{length, take, drop, length-take, length-drop, length-append, drop_of_length-le}
@@ -132,7 +132,7 @@ module _ (p w : Bytes) (e : same (first_part (parts p)) w ≡ true) where
       let l : slash_at p < length p = omega (arith, slash_at_lem, up_to_lem, h) in
       cut_in p q l ∙ rw (first_w, slash_at_lem)
 
-found : (s w : Bytes) (qs : List Bytes) → parts s ≡ w ∷ qs → some qs ≡ behind w (parts s)
+found : (s w : Bytes) (qs : List Bytes) → parts s ≡ w ∷ qs → Some qs ≡ behind w (parts s)
 found s w qs e = rw (e, same_refl w)
 
 -- ---- the same of a string
@@ -180,21 +180,21 @@ rest_is mem s k =
     rw (a, b) (sym (drop_take (k + 1) s.len (drop s.at mem) ∙ rw (drop-drop (k + 1) s.at mem)))
 
 module _ (files area w : Bytes) (s : Span) (t : Bool) (e : t ≡ same (first_part (parts (bytes (files ++ area) s))) w) where
-  pub word_other : not t ≡ true → none ≡ behind w (parts (bytes (files ++ area) s))
+  pub word_other : not t ≡ true → None ≡ behind w (parts (bytes (files ++ area) s))
   word_other h = rw (← e, not-true t h)
 
   module _ (h : not t ≡ false) (k : ℕ) (l : k ≡ length (bytes (files ++ area) s)) where
     is_w : same (first_part (parts (bytes (files ++ area) s))) w ≡ true
     is_w = sym e ∙ not-false t h
 
-    pub word_last : length w ≡ k → some [] ≡ behind w (parts (bytes (files ++ area) s))
+    pub word_last : length w ≡ k → Some [] ≡ behind w (parts (bytes (files ++ area) s))
     word_last g = found (bytes (files ++ area) s) w [] (part_last (bytes (files ++ area) s) w is_w (g ∙ l))
 
     module _ (g : length w ≡ k → ⊥) where
       more : length w ≡ length (bytes (files ++ area) s) → ⊥
       more x = g (x ∙ sym l)
 
-      pub word_more_lem : (r : Name) → r ≡ named (0 ⋯ 0) false ((s.at + length w + 1) ⋯ (s.len - length w - 1)) 0 → some (parts (name_of (files ++ area) r)) ≡ behind w (parts (bytes (files ++ area) s))
+      pub word_more_lem : (r : Name) → r ≡ named (0 ⋯ 0) false ((s.at + length w + 1) ⋯ (s.len - length w - 1)) 0 → Some (parts (name_of (files ++ area) r)) ≡ behind w (parts (bytes (files ++ area) s))
       word_more_lem r q =
           let p = bytes (files ++ area) s in
           let a : name_of (files ++ area) r ≡ drop (length w + 1) p = ap (name_of (files ++ area)) q ∙ (alone_is (files ++ area) _ 0 ∙ rest_is (files ++ area) s (length w)) in
@@ -247,17 +247,17 @@ module _ (mem w : Bytes) (n : Name) (z : n.sep ≡ true) (t : Bool) (e : t ≡ s
   unfolding name_of
   name_is = rw z
 
-  pub scope_other : not t ≡ true → none ≡ behind w (parts (name_of mem n))
+  pub scope_other : not t ≡ true → None ≡ behind w (parts (name_of mem n))
   scope_other h = rw (name_is, first_front (bytes mem n.scope) (rear mem n), ← e, not-true t h)
 
   module _ (h : not t ≡ false) (k : ℕ) (l : k ≡ length (bytes mem n.scope)) where
-    pub scope_last : length w ≡ k → (r : Name) → r ≡ named (0 ⋯ 0) false n.word n.form → some (parts (name_of mem r)) ≡ behind w (parts (name_of mem n))
+    pub scope_last : length w ≡ k → (r : Name) → r ≡ named (0 ⋯ 0) false n.word n.form → Some (parts (name_of mem r)) ≡ behind w (parts (name_of mem n))
     scope_last g r q =
         let p = bytes mem n.scope in
         let a : name_of mem r ≡ rear mem n = ap (name_of mem) q ∙ alone_is mem n.word n.form in
         rw (name_is, a) (found (p ++ (byte "/" ∷ rear mem n)) w (parts (rear mem n)) (part_behind p w (sym e ∙ not-false t h) (g ∙ l) (rear mem n)))
 
-    pub scope_more : (length w ≡ k → ⊥) → some (parts (name_of mem (named ((n.scope.at + length w + 1) ⋯ (n.scope.len - length w - 1)) true n.word n.form))) ≡ behind w (parts (name_of mem n))
+    pub scope_more : (length w ≡ k → ⊥) → Some (parts (name_of mem (named ((n.scope.at + length w + 1) ⋯ (n.scope.len - length w - 1)) true n.word n.form))) ≡ behind w (parts (name_of mem n))
     scope_more g =
         let p = bytes mem n.scope in
         let a = under_is mem ((n.scope.at + length w + 1) ⋯ (n.scope.len - length w - 1)) n.word n.form in

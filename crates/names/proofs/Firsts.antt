@@ -1,5 +1,6 @@
 -- The first byte of a word or an entry and of a name, and a name below a scope: laws as the needs ask them. Assumes nothing.
-use Prim.Native.Nat.{ℕ, ◌+◌}
+use Rattle.std.specs.Prelude.{Option, Some, None}
+use Prim.Native.Nat.{ℕ}
 use mathlib.Core.Path.{◌≡◌, refl}
 use mathlib.Core.Bool.{Bool, true, false, ◌&&◌}
 use mathlib.Core.List.{[], ◌∷◌, ◌++◌}
@@ -11,25 +12,22 @@ use Rattle.text.specs.Ascii.{Bytes, ascii, byte}
 use Rattle.text.specs.Compare.{same}
 use Rattle.spans.specs.Span.{◌⋯◌, bytes, got_of}
 use Rattle.spans.specs.declared.span.Span.{Span}
-use Rattle.spans.specs.declared.span.Got.{Got}
-use Rattle.spans.specs.declared.span.Got.TheVariants.{Yes, No}
 use Rattle.entries.specs.Entry.{entry_bytes}
 use Rattle.entries.specs.View.{entry_got}
 use Rattle.names.specs.Scoped.{scoped}
 use Rattle.names.specs.Name.{named, entry_of, slash, name_of, form_got, step_of, Makes}
 use Rattle.names.specs.declared.name.Name.{Name}
-use Rattle.names.specs.declared.name.Step.{Step}
 
 -- ---- a word or an entry
 
 module _ (mem : Bytes) (s : Span) (form : ℕ) where
-  pub formed_plain : (r : Got) → bytes mem s ≡ got_of mem r → form ≡ 0 → entry_of form (bytes mem s) ≡ form_got form mem r
-  formed_plain (Yes b t) e h = rw (eq-eqb form 0 h) e
-  formed_plain No e h = rw (eq-eqb form 0 h) e
+  pub formed_plain : (r : Option (ℕ × Span)) → bytes mem s ≡ got_of mem r → form ≡ 0 → entry_of form (bytes mem s) ≡ form_got form mem r
+  formed_plain (Some (b, t)) e h = rw (eq-eqb form 0 h) e
+  formed_plain None e h = rw (eq-eqb form 0 h) e
 
-  pub formed_entry : (r : Got) → entry_bytes (eqb form 2) (bytes mem s) ≡ entry_got (eqb form 2) mem r → (form ≡ 0 → ⊥) → entry_of form (bytes mem s) ≡ form_got form mem r
-  formed_entry (Yes b t) e h = rw (ne_eqb form 0 h) e
-  formed_entry No e h = rw (ne_eqb form 0 h) e
+  pub formed_entry : (r : Option (ℕ × Span)) → entry_bytes (eqb form 2) (bytes mem s) ≡ entry_got (eqb form 2) mem r → (form ≡ 0 → ⊥) → entry_of form (bytes mem s) ≡ form_got form mem r
+  formed_entry (Some (b, t)) e h = rw (ne_eqb form 0 h) e
+  formed_entry None e h = rw (ne_eqb form 0 h) e
 
 pub ruleset formed = (rules, formed_plain, formed_entry)
 
@@ -40,20 +38,20 @@ module _ (mem : Bytes) (n : Name) where
   unfolding name_of bytes
   sep_byte h = rw h
 
-  module _ (p : Got) (e : entry_of n.form (bytes mem n.word) ≡ form_got n.form mem p) where
-    pub word_byte : (b : ℕ) (t : Span) → p ≡ Yes b t → n.sep ≡ false → slash n.sep ++ entry_of n.form (bytes mem n.word) ≡ b ∷ name_of mem (named (0 ⋯ 0) false t n.form)
+  module _ (p : Option (ℕ × Span)) (e : entry_of n.form (bytes mem n.word) ≡ form_got n.form mem p) where
+    pub word_byte : (b : ℕ) (t : Span) → p ≡ Some (b, t) → n.sep ≡ false → slash n.sep ++ entry_of n.form (bytes mem n.word) ≡ b ∷ name_of mem (named (0 ⋯ 0) false t n.form)
     unfolding name_of bytes
     word_byte b t h g = rw (g, e, h)
 
-    pub word_end : p ≡ No → n.sep ≡ false → slash n.sep ++ entry_of n.form (bytes mem n.word) ≡ []
+    pub word_end : p ≡ None → n.sep ≡ false → slash n.sep ++ entry_of n.form (bytes mem n.word) ≡ []
     word_end h g = rw (g, e, h)
 
-  module _ (p : Got) (e : bytes mem n.scope ≡ got_of mem p) where
-    pub scope_byte : (b : ℕ) (t : Span) → p ≡ Yes b t → name_of mem n ≡ b ∷ name_of mem (named t n.sep n.word n.form)
+  module _ (p : Option (ℕ × Span)) (e : bytes mem n.scope ≡ got_of mem p) where
+    pub scope_byte : (b : ℕ) (t : Span) → p ≡ Some (b, t) → name_of mem n ≡ b ∷ name_of mem (named t n.sep n.word n.form)
     unfolding name_of
     scope_byte b t h = rw (e, h)
 
-    pub scope_end : (r : Step) → slash n.sep ++ entry_of n.form (bytes mem n.word) ≡ step_of mem r → p ≡ No → name_of mem n ≡ step_of mem r
+    pub scope_end : (r : Option (ℕ × Name)) → slash n.sep ++ entry_of n.form (bytes mem n.word) ≡ step_of mem r → p ≡ None → name_of mem n ≡ step_of mem r
     unfolding name_of
     scope_end r f h = rw (e, h) f
 
@@ -69,17 +67,17 @@ and_false : (t : Bool) → false ≡ t && false
 and_false true = refl
 and_false false = refl
 
-module _ (mem w : Bytes) (form : ℕ) (p : Got) (e : w ≡ form_got form mem p) where
-  pub dot_none : p ≡ No → false ≡ same w (ascii ".")
+module _ (mem w : Bytes) (form : ℕ) (p : Option (ℕ × Span)) (e : w ≡ form_got form mem p) where
+  pub dot_none : p ≡ None → false ≡ same w (ascii ".")
   unfolding same
   dot_none h = rw (e, h)
 
-  module _ (b : ℕ) (t : Span) (h : p ≡ Yes b t) (q : Got) (f : entry_of form (bytes mem t) ≡ form_got form mem q) where
-    pub dot_one : q ≡ No → eqb b (byte ".") ≡ same w (ascii ".")
+  module _ (b : ℕ) (t : Span) (h : p ≡ Some (b, t)) (q : Option (ℕ × Span)) (f : entry_of form (bytes mem t) ≡ form_got form mem q) where
+    pub dot_one : q ≡ None → eqb b (byte ".") ≡ same w (ascii ".")
     unfolding same
     dot_one g = rw (e, h, f, g) (and_true (eqb b (byte ".")))
 
-    pub dot_more : (c : ℕ) (u : Span) → q ≡ Yes c u → false ≡ same w (ascii ".")
+    pub dot_more : (c : ℕ) (u : Span) → q ≡ Some (c, u) → false ≡ same w (ascii ".")
     unfolding same
     dot_more c u g = rw (e, h, f, g) (and_false (eqb b (byte ".")))
 
@@ -92,12 +90,12 @@ module _ (mem : Bytes) (s w : Span) (form : ℕ) (t : Bool) (f : t ≡ same (ent
   unfolding scoped name_of bytes
   scoped_dot r g h = record { is = rw (← f, h, g); ends = rw g (omega arith) }
 
-  module _ (p : Got) (k : bytes mem s ≡ got_of mem p) (h : t ≡ false) where
-    pub scoped_bare : (r : Name) → r ≡ named (0 ⋯ 0) false w form → p ≡ No → Makes mem s w form r
+  module _ (p : Option (ℕ × Span)) (k : bytes mem s ≡ got_of mem p) (h : t ≡ false) where
+    pub scoped_bare : (r : Name) → r ≡ named (0 ⋯ 0) false w form → p ≡ None → Makes mem s w form r
     unfolding scoped name_of bytes
     scoped_bare r e g = record { is = rw (← f, h, k, g, e); ends = rw e (omega arith) }
 
-    pub scoped_under : (b : ℕ) (u : Span) → p ≡ Yes b u → Makes mem s w form (named s true w form)
+    pub scoped_under : (b : ℕ) (u : Span) → p ≡ Some (b, u) → Makes mem s w form (named s true w form)
     unfolding scoped name_of
     scoped_under b u g = record { is = rw (← f, h, k, g); ends = omega arith }
 

@@ -1,6 +1,5 @@
 -- Worked examples. Assumes nothing.
-use Rattle.std.specs.Prelude.{◌≡◌, refl, true, false, [], ◌∷◌}
-use Rattle.std.proofs.Math.Option.{none, some}
+use Rattle.std.specs.Prelude.{◌≡◌, refl, true, false, [], ◌∷◌, None, Some}
 use Rattle.text.specs.Ascii.{ascii}
 use Rattle.text.specs.Compare.{same}
 use Rattle.text.specs.Scan.{split_at}
@@ -35,11 +34,11 @@ unfolding scoped same
 at_root = refl
 
 -- the parts of a name, one after the other, the empty ones too
-down : behind (ascii "u1") (parts (ascii "u1//x")) ≡ some ([] ∷ ascii "x" ∷ [])
+down : behind (ascii "u1") (parts (ascii "u1//x")) ≡ Some ([] ∷ ascii "x" ∷ [])
 unfolding split_at same
 down = refl
 
-other : behind (ascii "u") (parts (ascii "u1//x")) ≡ none
+other : behind (ascii "u") (parts (ascii "u1//x")) ≡ None
 unfolding split_at same
 other = refl
 

@@ -1,4 +1,5 @@
 -- Laws: a text with `/` as `.`, byte by byte, names that are words, and what is left of a name. Assumes nothing.
+use Rattle.std.specs.Prelude.{Option, Some}
 use Rattle.std.specs.Prelude.{ℕ, ◌<◌, ◌≡◌, refl, Bool, true, false, cond, not, [], ◌∷◌, ◌++◌, map, eqb, length}
 use Rattle.std.proofs.Common.{ap, sym, arith, eqb-true, eq-eqb, ne_eqb}
 use Rattle.text.specs.Ascii.{Bytes, byte}
@@ -8,8 +9,6 @@ use Rattle.out.specs.Bytewise.{flat, dotted_byte, dotted}
 use Rattle.spans.specs.Span.{bytes}
 use Rattle.names.specs.Name.{name_of, is_word, step_of}
 use Rattle.names.specs.declared.name.Name.{Name}
-use Rattle.names.specs.declared.name.Step.{Step}
-use Rattle.names.specs.declared.name.Step.TheVariants.{Byte}
 
 pub dot_slash : (b : ℕ) → b ≡ byte "/" → byte "." ≡ dot_of b
 dot_slash b h = sym (rw (eq-eqb b (byte "/") h))
@@ -47,5 +46,5 @@ word_is mem n h =
     no_is false g = refl
 
 -- what is left behind the first byte is shorter
-pub shorter : (mem : Bytes) (x u : Name) (p : Step) (b : ℕ) → name_of mem x ≡ step_of mem p → p ≡ Byte b u → length (name_of mem u) < length (name_of mem x)
+pub shorter : (mem : Bytes) (x u : Name) (p : Option (ℕ × Name)) (b : ℕ) → name_of mem x ≡ step_of mem p → p ≡ Some (b, u) → length (name_of mem u) < length (name_of mem x)
 shorter mem x u p b e h = rw (e, h) (omega arith)

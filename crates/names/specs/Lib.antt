@@ -1,5 +1,6 @@
 pub mod Scoped
 pub mod Name
+pub mod Stream
 pub mod Parts
 pub mod Frame
 pub mod Laws

@@ -1,15 +1,12 @@
 -- How a `Name` stands for a byte string: a scope, a slash, and a word or an entry of a list. Assumes nothing.
+use Rattle.std.specs.Prelude.{Option, Some, None}
 use Rattle.std.specs.Prelude.{ℕ, ◌+◌, ◌≤◌, max, ◌≡◌, Bool, cond, not, ◌&&◌, [], ◌∷◌, ◌++◌, eqb}
 use Rattle.text.specs.Ascii.{Bytes, ascii}
 use Rattle.spans.specs.Span.{bytes}
 use Rattle.spans.specs.declared.span.Span.{Span}
-use Rattle.spans.specs.declared.span.Got.{Got}
-use Rattle.spans.specs.declared.span.Got.TheVariants.{Yes, No}
 use Rattle.entries.specs.Entry.{entry_bytes}
 use Rattle.names.specs.Scoped.{scoped}
 use Rattle.names.specs.declared.name.Name.{Name}
-use Rattle.names.specs.declared.name.Step.{Step}
-use Rattle.names.specs.declared.name.Step.TheVariants.{Byte, End}
 
 abbrev pub named : Span → Bool → Span → ℕ → Name
 named s p w f = record { scope = s; sep = p; word = w; form = f }
@@ -39,14 +36,14 @@ name_end n = max (span_end n.scope) (span_end n.word)
 -- ---- what is left, as the answer of a read tells it
 
 -- of a word or an entry: its first byte, and the span without it
-abbrev pub form_got : ℕ → Bytes → Got → Bytes
-form_got f mem (Yes b w) = b ∷ entry_of f (bytes mem w)
-form_got f mem No = []
+abbrev pub form_got : ℕ → Bytes → Option (ℕ × Span) → Bytes
+form_got f mem (Some (b, w)) = b ∷ entry_of f (bytes mem w)
+form_got f mem None = []
 
 -- of a name
-abbrev pub step_of : Bytes → Step → Bytes
-step_of mem (Byte b n) = b ∷ name_of mem n
-step_of mem End = []
+abbrev pub step_of : Bytes → Option (ℕ × Name) → Bytes
+step_of mem (Some (b, n)) = b ∷ name_of mem n
+step_of mem None = []
 
 -- ---- a name that is made
 

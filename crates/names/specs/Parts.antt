@@ -1,14 +1,12 @@
 -- The parts of a name between its slashes, one after the other: `split_at (byte "/")` of its bytes. Assumes nothing.
-use Rattle.std.specs.Prelude.{ℕ, suc, ◌≡◌, refl, Bool, true, false, cond, List, [], ◌∷◌, eqb, length, get_or}
+use Rattle.std.specs.Prelude.{ℕ, suc, ◌≡◌, refl, Bool, true, false, cond, List, [], ◌∷◌, eqb, length, get_or, Option, None, Some}
 use Rattle.std.proofs.Common.{sym, ap, ◌∙◌, arith, eq-eqb, ne_eqb}
-use Rattle.std.proofs.Math.Option.{Option, none, some}
 use Rattle.text.specs.Ascii.{Bytes, byte}
 use Rattle.text.specs.Compare.{same}
 use Rattle.text.specs.Sames.{no_true, same_eq}
 use Rattle.text.specs.Scan.{onto, split_at}
 use Rattle.names.specs.Name.{name_of}
-use Rattle.names.specs.declared.part.Rest.{Rest}
-use Rattle.names.specs.declared.part.Rest.TheVariants.{More, None}
+use Rattle.names.specs.declared.name.Name.{Name}
 use Rattle.names.specs.declared.part.Part.{Part}
 use Rattle.names.specs.declared.part.Part.TheVariants.{Same, Last, Other}
 
@@ -27,7 +25,7 @@ others (p ∷ ps) = ps
 
 -- the others, where the first is w
 abbrev pub behind : Bytes → List Bytes → Option (List Bytes)
-behind w ps = cond (same (first_part ps) w) (some (others ps)) none
+behind w ps = cond (same (first_part ps) w) (Some (others ps)) None
 
 -- without the slashes at its start
 unfoldable pub unslashed : Bytes → Bytes
@@ -37,15 +35,15 @@ unslashed (x ∷ xs) = cond (eqb x (byte "/")) (unslashed xs) (x ∷ xs)
 -- ---- what the answers tell
 
 -- the parts that are left behind the first
-abbrev pub rest_of : Bytes → Rest → List Bytes
-rest_of mem (More n) = parts (name_of mem n)
+abbrev pub rest_of : Bytes → Option Name → List Bytes
+rest_of mem (Some n) = parts (name_of mem n)
 rest_of mem None = []
 
 -- the same where the first part was the one looked for
 abbrev pub part_of : Bytes → Part → Option (List Bytes)
-part_of mem (Same n) = some (parts (name_of mem n))
-part_of mem Last = some []
-part_of mem Other = none
+part_of mem (Same n) = Some (parts (name_of mem n))
+part_of mem Last = Some []
+part_of mem Other = None
 
 -- ---- laws for clients
 
@@ -117,18 +115,18 @@ first_on x s h = rw (ne_eqb x (byte "/") h) (go (parts s))
 
 -- what an answer holds, and whether it holds anything
 abbrev given : List Bytes → Option (List Bytes) → List Bytes
-given d none = d
-given d (some ps) = ps
+given d None = d
+given d (Some ps) = ps
 
 abbrev is_there : Option (List Bytes) → Bool
-is_there none = false
-is_there (some ps) = true
+is_there None = false
+is_there (Some ps) = true
 
 -- what was found: the part looked for is the first
-pub part_same : (s w : Bytes) (qs : List Bytes) → some qs ≡ behind w (parts s) → parts s ≡ w ∷ qs
+pub part_same : (s w : Bytes) (qs : List Bytes) → Some qs ≡ behind w (parts s) → parts s ≡ w ∷ qs
 part_same s w qs e = go (same (first_part (parts s)) w) refl e
   where
-    go : (t : Bool) → same (first_part (parts s)) w ≡ t → some qs ≡ cond t (some (others (parts s))) none → parts s ≡ w ∷ qs
+    go : (t : Bool) → same (first_part (parts s)) w ≡ t → Some qs ≡ cond t (Some (others (parts s))) None → parts s ≡ w ∷ qs
     go true h k =
         let p : first_part (parts s) ≡ w = same_eq (first_part (parts s)) w h in
         let q : qs ≡ others (parts s) = ap (λ (o : Option (List Bytes)). given [] o) k in
@@ -136,9 +134,9 @@ part_same s w qs e = go (same (first_part (parts s)) w) refl e
     go false h k = absurd (no_true (sym (ap (λ (o : Option (List Bytes)). is_there o) k)))
 
 -- and where it was not, the first is another
-pub part_other : (s w : Bytes) → none ≡ behind w (parts s) → same (first_part (parts s)) w ≡ false
+pub part_other : (s w : Bytes) → None ≡ behind w (parts s) → same (first_part (parts s)) w ≡ false
 part_other s w e = go (same (first_part (parts s)) w) e
   where
-    go : (t : Bool) → none ≡ cond t (some (others (parts s))) none → t ≡ false
+    go : (t : Bool) → None ≡ cond t (Some (others (parts s))) None → t ≡ false
     go true k = absurd (no_true (ap (λ (o : Option (List Bytes)). is_there o) k))
     go false k = refl

@@ -6,7 +6,7 @@ ghost use Rattle.spans.specs.Span.{bytes, ◌⋯◌};
 ghost use Rattle.names.specs.Name.{named, entry_of, slash, name_of, is_word, form_got, step_of, Makes};
 
 use entries::byte::first_byte;
-use spans::span::{Got, Span, first};
+use spans::span::{Span, first};
 
 // The bytes of the scope, a slash where `sep` is set, and the word: as it stands where `form` is 0, an entry of a list where it is 1, a quoted
 // entry where it is 2.
@@ -18,15 +18,9 @@ pub struct Name {
     pub form: u8,
 }
 
-// The first byte of a name, and the name without it.
-#[derive(Clone, Copy)]
-pub enum Step {
-    Byte(u8, Name),
-    End,
-}
-
 // The first byte of a word or an entry.
-fn first_formed(files: &[u8], area: &[u8], s: Span, form: u8) -> Got
+#[tactic(auto, using(crate::proofs::Firsts::formed))]
+fn first_formed(files: &[u8], area: &[u8], s: Span, form: u8) -> Option<(u8, Span)>
     ensures { entry_of form (bytes (files.now ++ area.now) s) ≡ form_got form (files.now ++ area.now) result }
 {
     if form == 0 {
@@ -36,53 +30,50 @@ fn first_formed(files: &[u8], area: &[u8], s: Span, form: u8) -> Got
 }
 
 // The first byte of what stands behind the scope.
-fn behind_scope(files: &[u8], area: &[u8], n: Name) -> Step
+#[tactic(auto, using(crate::proofs::Firsts::steps))]
+fn behind_scope(files: &[u8], area: &[u8], n: Name) -> Option<(u8, Name)>
     ensures { slash n.sep ++ entry_of n.form (bytes (files.now ++ area.now) n.word) ≡ step_of (files.now ++ area.now) result }
 {
-    let none = Span { at: 0, len: 0 };
-    let w = n.word;
     if n.sep {
-        return Step::Byte(
-            b'/',
-            Name {
-                scope: none,
-                sep: false,
-                word: w,
-                form: n.form,
-            },
-        );
+        return Some((b'/', alone(n.word, n.form)));
     }
-    match first_formed(files, area, w, n.form) {
-        Got::No => Step::End,
-        Got::Yes(b, t) => Step::Byte(
-            b,
-            Name {
-                scope: none,
-                sep: false,
-                word: t,
-                form: n.form,
-            },
-        ),
-    }
+    let (b, word) = first_formed(files, area, n.word, n.form)?;
+    Some((b, alone(word, n.form)))
 }
 
 // The first byte of what is left, and what is left then.
-pub fn next(files: &[u8], area: &[u8], n: Name) -> Step
+#[tactic(auto, using(crate::proofs::Firsts::steps))]
+pub fn next(files: &[u8], area: &[u8], n: Name) -> Option<(u8, Name)>
     ensures { name_of (files.now ++ area.now) n ≡ step_of (files.now ++ area.now) result }
 {
-    let s = n.scope;
-    let w = n.word;
-    match first(files, area, s) {
-        Got::Yes(b, t) => Step::Byte(
-            b,
-            Name {
-                scope: t,
-                sep: n.sep,
-                word: w,
-                form: n.form,
-            },
-        ),
-        Got::No => behind_scope(files, area, n),
+    match first(files, area, n.scope) {
+        Some((b, scope)) => Some((b, Name { scope, ..n })),
+        None => behind_scope(files, area, n),
+    }
+}
+
+// A name, read byte by byte: what is left of it.
+#[derive(Drop)]
+pub struct Stream<'a> {
+    pub files: &'a [u8],
+    pub area: &'a [u8],
+    pub left: Name,
+}
+
+impl Iterator for Stream<'_> {
+    ghost use Rattle.std.specs.Iterator.{item_count, YieldsFirst};
+    ghost use Rattle.names.specs.Stream.{left_of};
+
+    type Item = u8;
+
+    ghost next_gives = { YieldsFirst left_of };
+
+    ghost remaining = { item_count left_of };
+
+    fn next(&mut self) -> Option<u8> {
+        let (b, left) = next(self.files, self.area, self.left)?;
+        self.left = left;
+        Some(b)
     }
 }
 
@@ -90,12 +81,11 @@ pub fn next(files: &[u8], area: &[u8], n: Name) -> Step
 pub fn alone(w: Span, form: u8) -> Name
     ensures { result ≡ named (0 ⋯ 0) false w form }
 {
-    let none = Span { at: 0, len: 0 };
     Name {
-        scope: none,
+        scope: Span { at: 0, len: 0 },
         sep: false,
         word: w,
-        form: form,
+        form,
     }
 }
 
@@ -103,24 +93,25 @@ pub fn alone(w: Span, form: u8) -> Name
 pub fn is_word(n: Name) -> bool
     ensures { result ≡ is_word n }
 {
-    let s = n.scope;
-    (s.len == 0) & ((!n.sep) & (n.form == 0))
+    n.scope.len == 0 && !n.sep && n.form == 0
 }
 
 // Whether a word or an entry is `.`.
+#[tactic(auto, using(crate::proofs::Firsts::dots))]
 fn is_dot(files: &[u8], area: &[u8], w: Span, form: u8) -> bool
     ensures { result ≡ same (entry_of form (bytes (files.now ++ area.now) w)) (ascii ".") }
 {
-    match first_formed(files, area, w, form) {
-        Got::No => false,
-        Got::Yes(b, t) => match first_formed(files, area, t, form) {
-            Got::No => b == b'.',
-            Got::Yes(_, _) => false,
-        },
+    let Some((b, t)) = first_formed(files, area, w, form) else {
+        return false;
+    };
+    if first_formed(files, area, t, form).is_some() {
+        return false;
     }
+    b == b'.'
 }
 
 // The name of a word or an entry below a scope: the scope itself for `.`.
+#[tactic(auto, using(crate::proofs::Firsts::scopes))]
 pub fn scoped(files: &[u8], area: &[u8], scope: Span, w: Span, form: u8) -> Name
     ensures { Makes (files.now ++ area.now) scope w form result }
 {
@@ -128,12 +119,12 @@ pub fn scoped(files: &[u8], area: &[u8], scope: Span, w: Span, form: u8) -> Name
         return alone(scope, 0);
     }
     match first(files, area, scope) {
-        Got::No => alone(w, form),
-        Got::Yes(_, _) => Name {
-            scope: scope,
+        None => alone(w, form),
+        Some((_, _)) => Name {
+            scope,
             sep: true,
             word: w,
-            form: form,
+            form,
         },
     }
 }

@@ -5,18 +5,11 @@ ghost use Rattle.spans.specs.Span.{bytes};
 ghost use Rattle.names.specs.Name.{name_of};
 ghost use Rattle.names.specs.Parts.{parts, first_part, behind, unslashed, part_of};
 
-use super::name::{Name, Step, alone, is_word, next};
-use spans::span::{Span, minus, size};
+use super::name::{Name, alone, is_word, next};
+use spans::span::{Span, size};
 use text::compare::starts_with;
 use text::part::part;
 use text::scan::find;
-
-// What is left behind the first part.
-#[derive(Clone, Copy)]
-pub enum Rest {
-    More(Name),
-    None,
-}
 
 // The first part is the one looked for, with what is left behind its slash, or as the last part; or it is another.
 #[derive(Clone, Copy)]
@@ -27,29 +20,23 @@ pub enum Part {
 }
 
 // Whether the first part of a name is w, and what is left then, byte by byte.
+#[tactic(auto, using(crate::proofs::Parted::takes))]
 fn stepped_part(files: &[u8], area: &[u8], n: Name, w: &[u8]) -> Part
     ensures { part_of (files.now ++ area.now) result ≡ behind w.now (parts (name_of (files.now ++ area.now) n)) }
 {
     let mut x = n;
-    let mut i = 0;
-    while i < w.len() {
-        match next(files, area, x) {
-            Step::End => return Part::Other,
-            Step::Byte(b, u) => {
-                if b == b'/' {
-                    return Part::Other;
-                }
-                if b != w[i] {
-                    return Part::Other;
-                }
-                x = u;
-                i += 1;
-            }
+    for c in w {
+        let Some((b, u)) = next(files, area, x) else {
+            return Part::Other;
+        };
+        if b == b'/' || b != *c {
+            return Part::Other;
         }
+        x = u;
     }
     match next(files, area, x) {
-        Step::End => Part::Last,
-        Step::Byte(b, u) => {
+        None => Part::Last,
+        Some((b, u)) => {
             if b == b'/' {
                 return Part::Same(u);
             }
@@ -59,20 +46,19 @@ fn stepped_part(files: &[u8], area: &[u8], n: Name, w: &[u8]) -> Part
 }
 
 // Whether the first part of p is w.
+#[tactic(auto, using(crate::proofs::Cuts::begins))]
 fn begins_part(p: &[u8], w: &[u8]) -> bool
     ensures { result ≡ same (first_part (parts p.now)) w.now }
 {
-    if !starts_with(p, w) {
-        return false;
-    }
-    find(p, 0, b'/') == w.len()
+    starts_with(p, w) && find(p, 0, b'/') == w.len()
 }
 
 // Whether the first part of a string is w; few strings cross from the files into the area.
+#[tactic(auto, using(crate::proofs::Cuts::spans))]
 fn begins_span(files: &[u8], area: &[u8], s: Span, w: &[u8]) -> bool
     ensures { result ≡ same (first_part (parts (bytes (files.now ++ area.now) s))) w.now }
 {
-    if s.len <= minus(files.len(), s.at) {
+    if s.len <= files.len().saturating_sub(s.at) {
         return begins_part(part(files, s.at, s.len), w);
     }
     if files.len() <= s.at {
@@ -86,6 +72,7 @@ fn begins_span(files: &[u8], area: &[u8], s: Span, w: &[u8]) -> bool
 }
 
 // Whether the first part of a word is w, and what is left then.
+#[tactic(auto, using(crate::proofs::Cuts::cuts))]
 fn word_part(files: &[u8], area: &[u8], s: Span, w: &[u8]) -> Part
     ensures { part_of (files.now ++ area.now) result ≡ behind w.now (parts (bytes (files.now ++ area.now) s)) }
 {
@@ -104,38 +91,33 @@ fn word_part(files: &[u8], area: &[u8], s: Span, w: &[u8]) -> Part
 }
 
 // The same for a name with a slash behind its scope: the part lies in the scope.
+#[tactic(auto, using(crate::proofs::Cuts::scopes))]
 fn scope_part(files: &[u8], area: &[u8], n: Name, w: &[u8]) -> Part
     requires { n.sep ≡ true }
     ensures { part_of (files.now ++ area.now) result ≡ behind w.now (parts (name_of (files.now ++ area.now) n)) }
 {
     let s = n.scope;
-    let v = n.word;
     if !begins_span(files, area, s, w) {
         return Part::Other;
     }
     let e = w.len();
     if e == size(files, area, s) {
-        return Part::Same(alone(v, n.form));
+        return Part::Same(alone(n.word, n.form));
     }
-    let rest = Span {
+    let scope = Span {
         at: s.at + e + 1,
         len: s.len - e - 1,
     };
-    Part::Same(Name {
-        scope: rest,
-        sep: true,
-        word: v,
-        form: n.form,
-    })
+    Part::Same(Name { scope, ..n })
 }
 
 // Whether the first part of a name is w, and what is left then.
+#[tactic(auto, using(crate::proofs::Cuts::words))]
 pub fn next_part(files: &[u8], area: &[u8], n: Name, w: &[u8]) -> Part
     ensures { part_of (files.now ++ area.now) result ≡ behind w.now (parts (name_of (files.now ++ area.now) n)) }
 {
     if is_word(n) {
-        let s = n.word;
-        return word_part(files, area, s, w);
+        return word_part(files, area, n.word, w);
     }
     if n.sep {
         return scope_part(files, area, n, w);
@@ -148,15 +130,11 @@ pub fn past_slashes(files: &[u8], area: &[u8], n: Name) -> Name
     ensures { name_of (files.now ++ area.now) result ≡ unslashed (name_of (files.now ++ area.now) n) }
 {
     let mut x = n;
-    loop {
-        match next(files, area, x) {
-            Step::End => return x,
-            Step::Byte(b, u) => {
-                if b != b'/' {
-                    return x;
-                }
-                x = u;
-            }
+    while let Some((b, u)) = next(files, area, x) {
+        if b != b'/' {
+            return x;
         }
+        x = u;
     }
+    x
 }

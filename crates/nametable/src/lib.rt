@@ -26,10 +26,11 @@ fn form_of(tag: u32) -> u8
 fn sep_of(tag: u32) -> bool
     ensures { result ≡ sep_at tag }
 {
-    (tag == 1) | ((tag == 3) | (tag == 5))
+    tag == 1 || (tag == 3 || tag == 5)
 }
 
 // The name of row k.
+#[tactic(auto, using(crate::proofs::Rows::reads))]
 pub fn row(table: &[u32], k: usize) -> Name
     requires { k ≤ 65536 }
     ensures { result ≡ row_name table.now k }
@@ -50,21 +51,12 @@ pub fn row(table: &[u32], k: usize) -> Name
     }
 }
 
-// 1 for a slash.
-fn bit(sep: bool) -> u32
-    ensures { result ≡ bit_of sep }
-{
-    if sep {
-        return 1;
-    }
-    0
-}
-
 // The number that a form and a slash are stored as.
+#[tactic(auto, using(crate::proofs::Rows::tags))]
 fn tag_of(form: u8, sep: bool) -> u32
     ensures { result ≡ tag_of form sep }
 {
-    let b = bit(sep);
+    let b = u32::from(sep);
     if form == 0 {
         return b;
     }
@@ -80,12 +72,10 @@ pub fn put_row(table: &mut [u32], k: usize, n: Name)
     ensures { table.new ≡ row_put table.old k n }
 {
     let i = 5 * k;
-    let s = n.scope;
-    let w = n.word;
     let tag = tag_of(n.form, n.sep);
-    table[i] = s.at as u32;
-    table[i + 1] = s.len as u32;
-    table[i + 2] = w.at as u32;
-    table[i + 3] = w.len as u32;
+    table[i] = n.scope.at as u32;
+    table[i + 1] = n.scope.len as u32;
+    table[i + 2] = n.word.at as u32;
+    table[i + 3] = n.word.len as u32;
     table[i + 4] = tag;
 }

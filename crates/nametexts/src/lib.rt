@@ -2,37 +2,29 @@
 #![tactic(auto)]
 
 ghost use Rattle.std.specs.Prelude.{◌≡◌, true, [], ◌++◌};
-ghost use Rattle.out.specs.Emit.{◌▸◌, emit};
+ghost use Rattle.out.specs.Text.{Writes};
 ghost use Rattle.out.specs.Fill.{is_template, fill};
 ghost use Rattle.names.specs.Name.{name_of};
 
 use format::arg::name as name_arg;
 use names::name::Name;
+use out::emit::Text;
 
 // Writes the template t with a name in its places.
-pub fn fill1(out: &mut [u8], at: usize, t: &[u8], files: &[u8], area: &[u8], a: Name) -> usize
+pub fn fill1(to: &mut Text, t: &[u8], files: &[u8], area: &[u8], a: Name)
     requires { is_template 1 t.now ≡ true }
-    ensures { out.new ▸ result ≡ emit (out.old ▸ at) (fill t.now (name_of (files.now ++ area.now) a) [] [] [] []) }
+    ensures { Writes to.old (fill t.now (name_of (files.now ++ area.now) a) [] [] [] []) to.new }
 {
-    format::fill::fill1(out, at, t, files, files, area, files, 0, files, name_arg(a))
+    format::fill::fill1(to, t, files, files, area, files, 0, files, name_arg(a))
 }
 
 // With two names.
-pub fn fill2(
-    out: &mut [u8],
-    at: usize,
-    t: &[u8],
-    files: &[u8],
-    area: &[u8],
-    a: Name,
-    b: Name,
-) -> usize
+pub fn fill2(to: &mut Text, t: &[u8], files: &[u8], area: &[u8], a: Name, b: Name)
     requires { is_template 2 t.now ≡ true }
-    ensures { out.new ▸ result ≡ emit (out.old ▸ at) (fill t.now (name_of (files.now ++ area.now) a) (name_of (files.now ++ area.now) b) [] [] []) }
+    ensures { Writes to.old (fill t.now (name_of (files.now ++ area.now) a) (name_of (files.now ++ area.now) b) [] [] []) to.new }
 {
     format::fill::fill2(
-        out,
-        at,
+        to,
         t,
         files,
         files,
@@ -46,22 +38,12 @@ pub fn fill2(
 }
 
 // With three names.
-pub fn fill3(
-    out: &mut [u8],
-    at: usize,
-    t: &[u8],
-    files: &[u8],
-    area: &[u8],
-    a: Name,
-    b: Name,
-    c: Name,
-) -> usize
+pub fn fill3(to: &mut Text, t: &[u8], files: &[u8], area: &[u8], a: Name, b: Name, c: Name)
     requires { is_template 3 t.now ≡ true }
-    ensures { out.new ▸ result ≡ emit (out.old ▸ at) (fill t.now (name_of (files.now ++ area.now) a) (name_of (files.now ++ area.now) b) (name_of (files.now ++ area.now) c) [] []) }
+    ensures { Writes to.old (fill t.now (name_of (files.now ++ area.now) a) (name_of (files.now ++ area.now) b) (name_of (files.now ++ area.now) c) [] []) to.new }
 {
     format::fill::fill3(
-        out,
-        at,
+        to,
         t,
         files,
         files,

@@ -16,35 +16,25 @@ use made::{Brief, Deed};
 use names::compare::same_names;
 use names::name::{Name, scoped};
 use portcmds::named_below;
-use store::state::Nets;
+use store::state::Few;
 use store::stored::{Below, span};
 
 // A name below a scope, as it is read.
 fn name_of(files: &[u8], area: &[u8], b: Below) -> Name
     ensures { name_of (files.now ++ area.now) result ≡ below_of (files.now ++ area.now) b }
 {
-    let scope = b.scope;
-    let word = b.word;
-    scoped(files, area, span(scope), span(word), 0)
+    scoped(files, area, span(b.scope), span(b.word), 0)
 }
 
 // Whether a net of this name was created.
-fn known_net<'a>(files: &'a [u8], area: &'a [u8], t: Nets, net: Below) -> bool
+fn known_net<'a>(files: &'a [u8], area: &'a [u8], t: Few<Below>, net: Below) -> bool
     requires { t.n ≤ 32 }
     ensures { result ≡ any (is_called (files.now ++ area.now) (below_of (files.now ++ area.now) net)) (take t.n t.all) }
 {
     let x = name_of(files, area, net);
-    let n = t.n;
-    let mut i = 0;
-    while i < n {
-        let b = t.all[i];
-        let y = name_of(files, area, b);
-        if same_names(files, area, y, x) {
-            return true;
-        }
-        i += 1;
-    }
-    false
+    t.all[..t.n]
+        .iter()
+        .any(|b| same_names(files, area, name_of(files, area, *b), x))
 }
 
 // A net more, where none of this name is known.
@@ -54,13 +44,12 @@ pub fn create_supply_net<'a>(
     words: &[u32],
     n: usize,
     b: Brief,
-    t: Nets,
+    t: Few<Below>,
 ) -> Deed
     requires { Line words.now n × (t.n ≤ 32) }
     ensures { Does files.now area.now words.now n (λ (s : State). (brief_of s ≡ b) × (s.nets ≡ t)) result (λ (m : Model). net_command m (words_from (files.now ++ area.now) words.now n 1)) }
 {
-    let scope = b.scope;
-    let net = named_below(files, area, words, n, scope);
+    let net = named_below(files, area, words, n, b.scope);
     if known_net(files, area, t, net) {
         return Deed::Nothing;
     }

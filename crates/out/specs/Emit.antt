@@ -1,6 +1,6 @@
 -- Writing that saturates: `emit (buf ▸ at) p` is the buffer and the place after the bytes of p were written from `at` on.
 -- What does not fit is dropped, and the place is then one past the end for good. Assumes nothing.
-use Rattle.std.specs.Prelude.{ℕ, ◌+◌, ◌-◌, ◌<◌, ◌≤◌, ◌≡◌, refl, true, false, cond, [], ◌∷◌, ◌++◌, length, set, get_or, drop, ltb}
+use Rattle.std.specs.Prelude.{ℕ, ◌+◌, ◌<◌, ◌≤◌, ◌≡◌, refl, true, false, cond, [], ◌∷◌, ◌++◌, length, set, get_or, drop, ltb}
 use Rattle.std.proofs.Common.{◌∙◌, drop_of_length-le, length-set, drop-cons, add-one}
 use Rattle.text.specs.Ascii.{Bytes}
 

@@ -3,7 +3,6 @@ use Prim.Native.String.{String}
 use Rattle.std.specs.Prelude.{ℕ, ◌+◌, ◌-◌, ◌≡◌, refl, Bool, true, false, cond, ◌&&◌, ◌||◌, [], ◌∷◌, ◌++◌, eqb, leb, ltb, get_or}
 use Rattle.text.specs.Ascii.{Bytes, ascii, byte}
 use Rattle.text.specs.Classes.{within}
-use Rattle.text.specs.Scan.{before}
 use Rattle.out.specs.Emit.{Out, emit1, emit, emit_append}
 use Rattle.out.specs.Bytewise.{mangle, dotted, sv_str}
 

@@ -1,4 +1,5 @@
 pub mod Emit
+pub mod Text
 pub mod Bytewise
 pub mod Fill
 pub mod Number

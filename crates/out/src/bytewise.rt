@@ -1,90 +1,127 @@
 // Texts made byte by byte of another.
 ghost use Rattle.std.specs.Prelude.{◌≡◌};
 ghost use Rattle.out.specs.Emit.{◌▸◌, emit};
+ghost use Rattle.out.specs.Text.{Writes};
 ghost use Rattle.out.specs.Bytewise.{mangled_byte, dotted_byte, sv_byte, becomes as Bytewise·becomes, flat as Bytewise·flat, mangle as Bytewise·mangle, dotted as Bytewise·dotted, sv_str};
 
-use super::emit::{byte, put_slow};
+use super::emit::Text;
 use text::class::is_alnum;
 
-// A byte of a mangled name.
-fn mangled_byte(out: &mut [u8], at: usize, b: u8) -> usize
-    ensures { out.new ▸ result ≡ emit (out.old ▸ at) (mangled_byte b) }
-{
-    if is_alnum(b) {
-        byte(out, at, b)
-    } else {
-        byte(out, at, b'_')
+impl Text<'_> {
+    // A byte of a mangled name.
+    fn mangled_byte(&mut self, b: u8)
+        ensures { Writes self.old (mangled_byte b) self.new }
+    {
+        if is_alnum(b) {
+            self.byte(b)
+        } else {
+            self.byte(b'_')
+        }
+    }
+
+    fn dotted_byte(&mut self, b: u8)
+        ensures { Writes self.old (dotted_byte b) self.new }
+    {
+        if b == b'/' {
+            self.byte(b'.')
+        } else {
+            self.byte(b)
+        }
+    }
+
+    // A byte of a string of SystemVerilog.
+    fn sv_byte(&mut self, b: u8)
+        ensures { Writes self.old (sv_byte b) self.new }
+    {
+        if b == b'\\' {
+            self.put_slow(b"\\\\")
+        } else if b == b'"' {
+            self.put_slow(b"\\\"")
+        } else {
+            self.byte(b)
+        }
+    }
+
+    // What a byte becomes: 1 mangled, 2 dotted, 3 for a string of SystemVerilog, else itself.
+    pub fn becomes(&mut self, m: u8, b: u8)
+        ensures { Writes self.old (Bytewise·becomes m b) self.new }
+    {
+        match m {
+            1 => self.mangled_byte(b),
+            2 => self.dotted_byte(b),
+            3 => self.sv_byte(b),
+            _ => self.byte(b),
+        }
+    }
+
+    // Writes what each byte of piece becomes.
+    pub fn flat(&mut self, m: u8, piece: &[u8])
+        ensures { Writes self.old (Bytewise·flat (Bytewise·becomes m) piece.now) self.new }
+    {
+        for &b in piece {
+            self.becomes(m, b);
+        }
+    }
+
+    // Writes piece with every byte that is no letter or digit as `_`.
+    pub fn mangle(&mut self, piece: &[u8])
+        ensures { Writes self.old (Bytewise·mangle piece.now) self.new }
+    {
+        self.flat(1, piece)
+    }
+
+    // Writes piece with `/` as `.`.
+    pub fn dotted(&mut self, piece: &[u8])
+        ensures { Writes self.old (Bytewise·dotted piece.now) self.new }
+    {
+        self.flat(2, piece)
+    }
+
+    // Writes piece with the escapes of a string of SystemVerilog.
+    pub fn sv_str(&mut self, piece: &[u8])
+        ensures { Writes self.old (sv_str piece.now) self.new }
+    {
+        self.flat(3, piece)
     }
 }
 
-fn dotted_byte(out: &mut [u8], at: usize, b: u8) -> usize
-    ensures { out.new ▸ result ≡ emit (out.old ▸ at) (dotted_byte b) }
-{
-    if b == b'/' {
-        byte(out, at, b'.')
-    } else {
-        byte(out, at, b)
-    }
-}
-
-// A byte of a string of SystemVerilog.
-fn sv_byte(out: &mut [u8], at: usize, b: u8) -> usize
-    ensures { out.new ▸ result ≡ emit (out.old ▸ at) (sv_byte b) }
-{
-    if b == b'\\' {
-        put_slow(out, at, b"\\\\")
-    } else if b == b'"' {
-        put_slow(out, at, b"\\\"")
-    } else {
-        byte(out, at, b)
-    }
-}
-
-// What a byte becomes: 1 mangled, 2 dotted, 3 for a string of SystemVerilog, else itself.
+// The same over a buffer and a place.
 pub fn becomes(out: &mut [u8], at: usize, m: u8, b: u8) -> usize
     ensures { out.new ▸ result ≡ emit (out.old ▸ at) (Bytewise·becomes m b) }
 {
-    if m == 1 {
-        mangled_byte(out, at, b)
-    } else if m == 2 {
-        dotted_byte(out, at, b)
-    } else if m == 3 {
-        sv_byte(out, at, b)
-    } else {
-        byte(out, at, b)
-    }
+    let mut to = Text::over(out, at);
+    to.becomes(m, b);
+    to.end()
 }
 
-// Writes what each byte of piece becomes.
 pub fn flat(out: &mut [u8], at: usize, m: u8, piece: &[u8]) -> usize
     ensures { out.new ▸ result ≡ emit (out.old ▸ at) (Bytewise·flat (Bytewise·becomes m) piece.now) }
 {
-    let mut o = at;
-    let mut i = 0;
-    while i < piece.len() {
-        o = becomes(out, o, m, piece[i]);
-        i += 1;
-    }
-    o
+    let mut to = Text::over(out, at);
+    to.flat(m, piece);
+    to.end()
 }
 
-// Writes piece with every byte that is no letter or digit as `_`.
 pub fn mangle(out: &mut [u8], at: usize, piece: &[u8]) -> usize
     ensures { out.new ▸ result ≡ emit (out.old ▸ at) (Bytewise·mangle piece.now) }
 {
-    flat(out, at, 1, piece)
+    let mut to = Text::over(out, at);
+    to.mangle(piece);
+    to.end()
 }
 
-// Writes piece with `/` as `.`.
 pub fn dotted(out: &mut [u8], at: usize, piece: &[u8]) -> usize
     ensures { out.new ▸ result ≡ emit (out.old ▸ at) (Bytewise·dotted piece.now) }
 {
-    flat(out, at, 2, piece)
+    let mut to = Text::over(out, at);
+    to.dotted(piece);
+    to.end()
 }
 
-// Writes piece with the escapes of a string of SystemVerilog.
 pub fn sv_str(out: &mut [u8], at: usize, piece: &[u8]) -> usize
     ensures { out.new ▸ result ≡ emit (out.old ▸ at) (sv_str piece.now) }
 {
-    flat(out, at, 3, piece)
+    let mut to = Text::over(out, at);
+    to.sv_str(piece);
+    to.end()
 }

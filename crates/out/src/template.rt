@@ -2,61 +2,23 @@
 ghost use Rattle.std.specs.Prelude.{◌≡◌, true, [], ◌+◌, ◌≤◌, ◌<◌, length, drop};
 ghost use Rattle.text.specs.Scan.{Ends, Free, before};
 ghost use Rattle.out.specs.Emit.{◌▸◌, emit};
+ghost use Rattle.out.specs.Text.{Writes};
 ghost use Rattle.out.specs.Fill.{pick, arg, is_template, is_brace, mark_text, mark_size, fill as Fill·fill};
 
-use super::bytewise::{dotted, mangle, sv_str};
-use super::emit::{byte, put};
+use super::emit::Text;
 use text::part::peek;
 
 // The argument of a number: a part of none, but one of the five itself.
 fn picked<'a>(j: u8, a: &'a [u8], b: &'a [u8], c: &'a [u8], d: &'a [u8], e: &'a [u8]) -> &'a [u8]
     ensures { result.now ≡ pick j a.now b.now c.now d.now e.now }
 {
-    if j == 0 {
-        return a;
+    match j {
+        0 => a,
+        1 => b,
+        2 => c,
+        3 => d,
+        _ => e,
     }
-    if j == 1 {
-        return b;
-    }
-    if j == 2 {
-        return c;
-    }
-    if j == 3 {
-        return d;
-    }
-    e
-}
-
-// What a byte between braces stands for.
-fn argument<'a>(
-    out: &mut [u8],
-    at: usize,
-    k: u8,
-    a: &'a [u8],
-    b: &'a [u8],
-    c: &'a [u8],
-    d: &'a [u8],
-    e: &'a [u8],
-) -> usize
-    ensures { out.new ▸ result ≡ emit (out.old ▸ at) (arg a.now b.now c.now d.now e.now k) }
-{
-    if (b'0' <= k) & (k <= b'4') {
-        let p = picked(k - b'0', a, b, c, d, e);
-        return put(out, at, p);
-    }
-    if (b'A' <= k) & (k <= b'E') {
-        let p = picked(k - b'A', a, b, c, d, e);
-        return sv_str(out, at, p);
-    }
-    if (b'a' <= k) & (k <= b'e') {
-        let p = picked(k - b'a', a, b, c, d, e);
-        return mangle(out, at, p);
-    }
-    if (b'p' <= k) & (k <= b't') {
-        let p = picked(k - b'p', a, b, c, d, e);
-        return dotted(out, at, p);
-    }
-    at
 }
 
 fn is_brace(b: u8) -> bool
@@ -85,14 +47,12 @@ fn run_end_each(t: &[u8], at: usize) -> usize
     requires { at ≤ length t.now }
     ensures { Ends (at + before is_brace (drop at t.now)) (length t.now) result }
 {
-    let mut i = at;
-    while i < t.len() {
+    for i in at..t.len() {
         if is_brace(t[i]) {
             return i;
         }
-        i += 1;
     }
-    i
+    t.len()
 }
 
 // Where the run of plain bytes that begins at `at` ends.
@@ -100,6 +60,7 @@ pub fn run_end(t: &[u8], at: usize) -> usize
     requires { at ≤ length t.now }
     ensures { Ends (at + before is_brace (drop at t.now)) (length t.now) result }
 {
+    // Counted by hand: eight bytes at a time are faster than a scan byte by byte.
     let mut i = at;
     while 8 <= t.len() - i {
         if !eight_plain(t, i) {
@@ -108,34 +69,6 @@ pub fn run_end(t: &[u8], at: usize) -> usize
         i += 8;
     }
     run_end_each(t, i)
-}
-
-// What the mark at i adds: nothing at the end.
-fn mark<'a>(
-    out: &mut [u8],
-    at: usize,
-    t: &[u8],
-    i: usize,
-    a: &'a [u8],
-    b: &'a [u8],
-    c: &'a [u8],
-    d: &'a [u8],
-    e: &'a [u8],
-) -> usize
-    requires { i ≤ length t.now }
-    ensures { out.new ▸ result ≡ emit (out.old ▸ at) (mark_text (arg a.now b.now c.now d.now e.now) (drop i t.now)) }
-{
-    if t.len() <= i {
-        return at;
-    }
-    if t[i] == b'}' {
-        return byte(out, at, b'}');
-    }
-    let k = peek(t, i + 1);
-    if k == b'{' {
-        return byte(out, at, b'{');
-    }
-    argument(out, at, k, a, b, c, d, e)
 }
 
 // Where the mark at i ends.
@@ -155,7 +88,137 @@ pub fn mark_end(t: &[u8], i: usize) -> usize
     i + 3
 }
 
-// Writes the template t with its five arguments in their places.
+impl Text<'_> {
+    // What a byte between braces stands for.
+    fn argument<'a>(
+        &mut self,
+        k: u8,
+        a: &'a [u8],
+        b: &'a [u8],
+        c: &'a [u8],
+        d: &'a [u8],
+        e: &'a [u8],
+    )
+        ensures { Writes self.old (arg a.now b.now c.now d.now e.now k) self.new }
+    {
+        if (b'0' <= k) & (k <= b'4') {
+            let p = picked(k - b'0', a, b, c, d, e);
+            return self.put(p);
+        }
+        if (b'A' <= k) & (k <= b'E') {
+            let p = picked(k - b'A', a, b, c, d, e);
+            return self.sv_str(p);
+        }
+        if (b'a' <= k) & (k <= b'e') {
+            let p = picked(k - b'a', a, b, c, d, e);
+            return self.mangle(p);
+        }
+        if (b'p' <= k) & (k <= b't') {
+            let p = picked(k - b'p', a, b, c, d, e);
+            return self.dotted(p);
+        }
+    }
+
+    // What the mark at i adds: nothing at the end.
+    fn mark<'a>(
+        &mut self,
+        t: &[u8],
+        i: usize,
+        a: &'a [u8],
+        b: &'a [u8],
+        c: &'a [u8],
+        d: &'a [u8],
+        e: &'a [u8],
+    )
+        requires { i ≤ length t.now }
+        ensures { Writes self.old (mark_text (arg a.now b.now c.now d.now e.now) (drop i t.now)) self.new }
+    {
+        if t.len() <= i {
+            return;
+        }
+        if t[i] == b'}' {
+            return self.byte(b'}');
+        }
+        let k = peek(t, i + 1);
+        if k == b'{' {
+            return self.byte(b'{');
+        }
+        self.argument(k, a, b, c, d, e)
+    }
+
+    // Writes the template t with its five arguments in their places.
+    pub fn fill<'a>(
+        &mut self,
+        t: &[u8],
+        a: &'a [u8],
+        b: &'a [u8],
+        c: &'a [u8],
+        d: &'a [u8],
+        e: &'a [u8],
+    )
+        requires { is_template 5 t.now ≡ true }
+        ensures { Writes self.old (Fill·fill t.now a.now b.now c.now d.now e.now) self.new }
+    {
+        self.write(t, a, b, c, d, e)
+    }
+
+    // The same of any text.
+    fn write<'a>(
+        &mut self,
+        t: &[u8],
+        a: &'a [u8],
+        b: &'a [u8],
+        c: &'a [u8],
+        d: &'a [u8],
+        e: &'a [u8],
+    )
+        ensures { Writes self.old (Fill·fill t.now a.now b.now c.now d.now e.now) self.new }
+    {
+        // Counted by hand: the place moves by a run's and a mark's length, so an iterator is no plainer.
+        let mut i = 0;
+        while i < t.len() {
+            let z = run_end(t, i);
+            let run = &t[i..z];
+            self.put(run);
+            self.mark(t, z, a, b, c, d, e);
+            i = mark_end(t, z);
+        }
+    }
+
+    // With one argument. A name for each number of arguments: a clause can then name each argument.
+    pub fn fill1(&mut self, t: &[u8], a: &[u8])
+        requires { is_template 1 t.now ≡ true }
+        ensures { Writes self.old (Fill·fill t.now a.now [] [] [] []) self.new }
+    {
+        self.write(t, a, b"", b"", b"", b"")
+    }
+
+    // With two.
+    pub fn fill2<'a>(&mut self, t: &[u8], a: &'a [u8], b: &'a [u8])
+        requires { is_template 2 t.now ≡ true }
+        ensures { Writes self.old (Fill·fill t.now a.now b.now [] [] []) self.new }
+    {
+        self.write(t, a, b, b"", b"", b"")
+    }
+
+    // With three.
+    pub fn fill3<'a>(&mut self, t: &[u8], a: &'a [u8], b: &'a [u8], c: &'a [u8])
+        requires { is_template 3 t.now ≡ true }
+        ensures { Writes self.old (Fill·fill t.now a.now b.now c.now [] []) self.new }
+    {
+        self.write(t, a, b, c, b"", b"")
+    }
+
+    // With four.
+    pub fn fill4<'a>(&mut self, t: &[u8], a: &'a [u8], b: &'a [u8], c: &'a [u8], d: &'a [u8])
+        requires { is_template 4 t.now ≡ true }
+        ensures { Writes self.old (Fill·fill t.now a.now b.now c.now d.now []) self.new }
+    {
+        self.write(t, a, b, c, d, b"")
+    }
+}
+
+// The same over a buffer and a place.
 pub fn fill<'a>(
     out: &mut [u8],
     at: usize,
@@ -169,51 +232,29 @@ pub fn fill<'a>(
     requires { is_template 5 t.now ≡ true }
     ensures { out.new ▸ result ≡ emit (out.old ▸ at) (Fill·fill t.now a.now b.now c.now d.now e.now) }
 {
-    write(out, at, t, a, b, c, d, e)
+    let mut to = Text::over(out, at);
+    to.fill(t, a, b, c, d, e);
+    to.end()
 }
 
-// The same of any text.
-fn write<'a>(
-    out: &mut [u8],
-    at: usize,
-    t: &[u8],
-    a: &'a [u8],
-    b: &'a [u8],
-    c: &'a [u8],
-    d: &'a [u8],
-    e: &'a [u8],
-) -> usize
-    ensures { out.new ▸ result ≡ emit (out.old ▸ at) (Fill·fill t.now a.now b.now c.now d.now e.now) }
-{
-    let mut o = at;
-    let mut i = 0;
-    while i < t.len() {
-        let z = run_end(t, i);
-        let run = &t[i..z];
-        o = put(out, o, run);
-        o = mark(out, o, t, z, a, b, c, d, e);
-        i = mark_end(t, z);
-    }
-    o
-}
-
-// With one argument.
 pub fn fill1(out: &mut [u8], at: usize, t: &[u8], a: &[u8]) -> usize
     requires { is_template 1 t.now ≡ true }
     ensures { out.new ▸ result ≡ emit (out.old ▸ at) (Fill·fill t.now a.now [] [] [] []) }
 {
-    write(out, at, t, a, b"", b"", b"", b"")
+    let mut to = Text::over(out, at);
+    to.fill1(t, a);
+    to.end()
 }
 
-// With two.
 pub fn fill2<'a>(out: &mut [u8], at: usize, t: &[u8], a: &'a [u8], b: &'a [u8]) -> usize
     requires { is_template 2 t.now ≡ true }
     ensures { out.new ▸ result ≡ emit (out.old ▸ at) (Fill·fill t.now a.now b.now [] [] []) }
 {
-    write(out, at, t, a, b, b"", b"", b"")
+    let mut to = Text::over(out, at);
+    to.fill2(t, a, b);
+    to.end()
 }
 
-// With three.
 pub fn fill3<'a>(
     out: &mut [u8],
     at: usize,
@@ -225,10 +266,11 @@ pub fn fill3<'a>(
     requires { is_template 3 t.now ≡ true }
     ensures { out.new ▸ result ≡ emit (out.old ▸ at) (Fill·fill t.now a.now b.now c.now [] []) }
 {
-    write(out, at, t, a, b, c, b"", b"")
+    let mut to = Text::over(out, at);
+    to.fill3(t, a, b, c);
+    to.end()
 }
 
-// With four.
 pub fn fill4<'a>(
     out: &mut [u8],
     at: usize,
@@ -241,5 +283,7 @@ pub fn fill4<'a>(
     requires { is_template 4 t.now ≡ true }
     ensures { out.new ▸ result ≡ emit (out.old ▸ at) (Fill·fill t.now a.now b.now c.now d.now []) }
 {
-    write(out, at, t, a, b, c, d, b"")
+    let mut to = Text::over(out, at);
+    to.fill4(t, a, b, c, d);
+    to.end()
 }

@@ -1,4 +1,5 @@
 -- Numbers made byte by byte: the number so far, with what is left behind it, is the number of all. Assumes nothing.
+use Rattle.std.specs.Prelude.{Option, Some, None}
 use Prim.Native.Nat.{ℕ, ◌+◌, ◌<◌, ◌≤◌}
 use mathlib.Core.Path.{◌≡◌, refl, ap, ◌∙◌}
 use mathlib.Core.List.{[], ◌∷◌}
@@ -10,8 +11,6 @@ use Rattle.text.specs.Lists.{here}
 use Rattle.text.specs.Classes.{dot_of}
 use Rattle.names.specs.Name.{name_of, step_of}
 use Rattle.names.specs.declared.name.Name.{Name}
-use Rattle.names.specs.declared.name.Step.{Step}
-use Rattle.names.specs.declared.name.Step.TheVariants.{Byte, End}
 use Rattle.names.specs.Laws.{dot_slash, dot_other}
 use Rattle.design.specs.Paths.{dotted}
 use Rattle.pathnumber.specs.Number.{after, number}
@@ -37,28 +36,11 @@ pub ruleset numbers = (rules, numbers_start, numbers_end, numbers_next)
 
 -- ---- an element
 
-pub ruleset dots = (rules, dot_slash, dot_other)
-
-pub record Streams (total : ℕ) (mem : Bytes) (x : Name) (h : ℕ) : Type 0 where
-  pub keeps : number h (dotted (name_of mem x)) ≡ total
-
-pub streams_start : (mem : Bytes) (e : Name) → Streams (number 0 (dotted (name_of mem e))) mem e 0
-streams_start mem e = record { keeps = refl }
-
-module _ (total : ℕ) (mem : Bytes) (x : Name) (h : ℕ) (inv : Streams total mem x h) (p : Step) (e : name_of mem x ≡ step_of mem p) where
-  pub streams_end : p ≡ End → h ≡ total
+module _ (left : Bytes) (h total : ℕ) where
+  pub element_end : number h (dotted left) ≡ total → left ≡ [] → h ≡ total
   unfolding number
-  streams_end g = let z : name_of mem x ≡ [] = e ∙ rw g in rw z at inv.keeps
+  element_end e g = rw g at e
 
-  module _ (b : ℕ) (u : Name) (g : p ≡ Byte b u) where
-    begins : name_of mem x ≡ b ∷ name_of mem u
-    begins = e ∙ rw g
-
-    pub streams_less : length (name_of mem u) < length (name_of mem x)
-    streams_less = omega (arith, ap length begins)
-
-    pub streams_next : (d : ℕ) → d ≡ dot_of b → (y : ℕ) → y ≡ after h d → Streams total mem u y
-    unfolding number
-    streams_next d ed y ey = record { keeps = rw (ey, ed) (rw begins at inv.keeps) }
-
-pub ruleset streams = (rules, streams_start, streams_end, streams_less, streams_next)
+pub element_next : (left more : Bytes) (b d h y total : ℕ) → number h (dotted left) ≡ total → left ≡ b ∷ more → d ≡ dot_of b → y ≡ after h d → number y (dotted more) ≡ total
+unfolding number
+element_next left more b d h y total e g ed ey = rw (ey, ed) (rw g at e)

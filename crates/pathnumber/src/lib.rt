@@ -5,9 +5,9 @@ ghost use Rattle.std.specs.Prelude.{◌≡◌, ◌++◌};
 ghost use Rattle.names.specs.Name.{name_of};
 ghost use Rattle.design.specs.Paths.{dotted};
 ghost use Rattle.pathnumber.specs.Number.{after as Number·after, number};
-ghost use Rattle.text.specs.Classes.{dot_of};
 
-use names::name::{Name, Step, next};
+use names::compare::dot;
+use names::name::{Name, Stream};
 
 // The number of a text whose number is h, with a byte more.
 fn after(h: usize, b: u8) -> usize
@@ -21,37 +21,20 @@ pub fn number_on(h: usize, p: &[u8]) -> usize
     ensures { result ≡ number h p.now }
 {
     let mut x = h;
-    let mut i = 0;
-    while i < p.len() {
-        x = after(x, p[i]);
-        i += 1;
+    for b in p {
+        x = after(x, *b);
     }
     x
-}
-
-// A byte with `/` as `.`.
-fn dot(b: u8) -> u8
-    ensures { result ≡ dot_of b }
-{
-    if b == b'/' {
-        return b'.';
-    }
-    b
 }
 
 // The number of an element, with `/` as `.`.
 pub fn element_number(files: &[u8], area: &[u8], e: Name) -> usize
     ensures { result ≡ number 0 (dotted (name_of (files.now ++ area.now) e)) }
 {
-    let mut x = e;
     let mut h = 0;
-    loop {
-        match next(files, area, x) {
-            Step::End => return h,
-            Step::Byte(b, u) => {
-                h = after(h, dot(b));
-                x = u;
-            }
-        }
+    let left = e;
+    for b in (Stream { files, area, left }) {
+        h = after(h, dot(b));
     }
+    h
 }

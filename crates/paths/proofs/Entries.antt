@@ -1,4 +1,5 @@
 -- Names counted, and retained entries compared with a path. Assumes nothing.
+use Rattle.std.specs.Prelude.{Option, Some, None}
 use Prim.Native.Nat.{ℕ, suc, ◌+◌, ◌-◌, ◌<◌, ◌≤◌, ◌^◌}
 use mathlib.Core.Path.{◌≡◌, refl, sym, ap, ◌∙◌}
 use mathlib.Core.Bool.{Bool, true, false, not, ◌&&◌, ◌||◌}
@@ -19,8 +20,6 @@ use Rattle.out.specs.Bytewise.{dotted as Bytewise·dotted}
 use Rattle.names.specs.Name.{name_of, step_of}
 use Rattle.names.specs.Laws.{dotted_map, dot_slash, dot_other}
 use Rattle.names.specs.declared.name.Name.{Name}
-use Rattle.names.specs.declared.name.Step.{Step}
-use Rattle.names.specs.declared.name.Step.TheVariants.{Byte, End}
 use Rattle.nametable.specs.Table.{row_name, names_from, table_names, names_next, names_none}
 use Rattle.design.specs.Lists.{is_in, those}
 use Rattle.design.specs.Paths.{dotted}
@@ -28,81 +27,6 @@ use Rattle.walk.specs.Walk.{retained_paths}
 use Rattle.walk.proofs.Retained.{length_dotted}
 use Rattle.paths.specs.Pieces.{entries_below}
 use Rattle.paths.specs.Sizes.{name_short}
-
--- ---- how long a name is
-
--- the bytes counted and those left are all
-pub record Counts (files area : Bytes) (total : ℕ) (x : Name) (i : ℕ) : Type 0 where
-  pub keeps : i + length (name_of (files ++ area) x) ≡ total
-  pub few : total < 2 ^ 40
-
-module _ (files area : Bytes) where
-  pub count_start : (n : Name) → length files + length area < 2 ^ 32 → Counts files area (length (name_of (files ++ area) n)) n 0
-  count_start n h = record { keeps = omega arith; few = omega (arith, name_short (files ++ area) n, length-append files area) }
-
-  module _ (total : ℕ) (x : Name) (i : ℕ) (inv : Counts files area total x i) (p : Step) (e : name_of (files ++ area) x ≡ step_of (files ++ area) p) where
-    pub count_end : p ≡ End → i ≡ total
-    count_end h = let z : name_of (files ++ area) x ≡ [] = e ∙ rw h in omega (arith, inv.keeps, ap length z)
-
-    module _ (b : ℕ) (u : Name) (h : p ≡ Byte b u) where
-      begins : name_of (files ++ area) x ≡ b ∷ name_of (files ++ area) u
-      begins = e ∙ rw h
-
-      pub count_fits : i + 1 < 2 ^ 64
-      count_fits = omega (arith, inv.keeps, inv.few)
-
-      pub count_on : Counts files area total u (i + 1)
-      count_on = record { keeps = omega (arith, inv.keeps, ap length begins); few = inv.few }
-
-      pub count_less : length (name_of (files ++ area) u) < length (name_of (files ++ area) x)
-      count_less = omega (arith, ap length begins)
-
-pub ruleset counts = (rules, count_start, count_end, count_fits, count_on, count_less)
-
--- ---- an entry compared with an element and a tail
-
-pub ruleset dots = (rules, dot_slash, dot_other)
-
--- t is the answer: what is left of the element and the tail are what is left of the entry, or not
-pub record Left (mem tail : Bytes) (t : Bool) (a b : Name) : Type 0 where
-  pub keeps : same (dotted (name_of mem a) ++ tail) (dotted (name_of mem b)) ≡ t
-
-module _ (mem tail : Bytes) (t : Bool) (a b : Name) (inv : Left mem tail t a b) (p : Step) (e : name_of mem a ≡ step_of mem p) where
-  pub entry_tail : p ≡ End → (r : Bool) → r ≡ same (Bytewise·dotted (name_of mem b)) tail → r ≡ t
-  entry_tail h r er =
-      let z : name_of mem a ≡ [] = e ∙ rw h in
-      let k : same tail (dotted (name_of mem b)) ≡ t = rw z at inv.keeps in
-      er ∙ rw (dotted_map (name_of mem b)) (same_turned (dotted (name_of mem b)) tail ∙ k)
-
-  module _ (x : ℕ) (u : Name) (h : p ≡ Byte x u) (q : Step) (f : name_of mem b ≡ step_of mem q) where
-    element : name_of mem a ≡ x ∷ name_of mem u
-    element = e ∙ rw h
-
-    pub entry_short_of : q ≡ End → false ≡ t
-    unfolding same
-    entry_short_of g = let z : name_of mem b ≡ [] = f ∙ rw g in rw (element, z) at inv.keeps
-
-    module _ (y : ℕ) (v : Name) (g : q ≡ Byte y v) (c d : ℕ) (ec : c ≡ dot_of x) (ed : d ≡ dot_of y) where
-      entry : name_of mem b ≡ y ∷ name_of mem v
-      entry = f ∙ rw g
-
-      both_first : eqb c d && same (dotted (name_of mem u) ++ tail) (dotted (name_of mem v)) ≡ t
-      unfolding same
-      both_first = rw (ec, ed) (rw (element, entry) at inv.keeps)
-
-      pub entry_differs : (c ≡ d → ⊥) → false ≡ t
-      entry_differs n = rw (ne_eqb c d n) at both_first
-
-      pub entry_on : c ≡ d → Left mem tail t u v
-      entry_on n = record { keeps = rw (eq-eqb c d n) at both_first }
-
-      pub entry_less : length (name_of mem u) < length (name_of mem a)
-      entry_less = omega (arith, ap length element)
-
-pub left_start : (mem tail : Bytes) (a b : Name) → Left mem tail (same (dotted (name_of mem a) ++ tail) (dotted (name_of mem b))) a b
-left_start mem tail a b = record { keeps = refl }
-
-pub ruleset entries = (rules, left_start, entry_tail, entry_short_of, entry_differs, entry_on, entry_less)
 
 -- ---- a path among the entries of a table
 

@@ -7,6 +7,7 @@ ghost use Rattle.out.specs.Emit.{◌▸◌, emit};
 ghost use Rattle.paths.specs.Pieces.{Sized};
 
 use names::name::Name;
+use out::emit::Text;
 use text::compare::same;
 use text::part::part;
 
@@ -48,7 +49,9 @@ pub fn put_path(
 ) -> usize
     ensures { text.new ▸ result ≡ emit (text.old ▸ at) (dotted (name_of (files.now ++ area.now) e) ++ (tail.now ++ name.now)) }
 {
-    let o = names::put::put_dotted(text, at, files, area, e);
-    let p = out::emit::put(text, o, tail);
-    out::emit::put(text, p, name)
+    let mut to = Text::over(text, at);
+    names::put::put_dotted(&mut to, files, area, e);
+    to.put(tail);
+    to.put(name);
+    to.end()
 }

@@ -5,24 +5,24 @@ ghost use Rattle.std.specs.Prelude.{◌≡◌};
 ghost use Rattle.place.specs.Cut.{cut_at, moved_on, In};
 
 // The offset of the next line's first byte, and how many lines were cut before it.
-#[derive(Clone, Copy)]
+#[derive(PartialEq, Eq, Clone, Copy, Debug)]
 pub struct Place {
     pub at: usize,
     pub line: usize,
 }
 
-// A line's first byte and its LF; or there is no LF.
-#[derive(Clone, Copy)]
-pub enum Cut {
-    Line { from: usize, end: usize },
-    Missing,
+// A line: its first byte and its LF.
+#[derive(PartialEq, Eq, Clone, Copy, Debug)]
+pub struct Line {
+    pub from: usize,
+    pub end: usize,
 }
 
-// A line that was cut off, and the place behind it.
-#[derive(Clone, Copy)]
+// The line that was cut off, where there is an LF, and the place behind it.
+#[derive(PartialEq, Eq, Clone, Copy, Debug)]
 pub struct Moved {
     pub place: Place,
-    pub cut: Cut,
+    pub cut: Option<Line>,
 }
 
 // The line at a place, and the place moved on: the step by value.
@@ -35,17 +35,15 @@ pub fn line_at(job: &[u8], p: Place) -> Moved
     let e = text::scan::find_far(job, at, b'\n');
     if e < job.len() {
         let place = Place { at: e + 1, line };
-        let cut = Cut::Line { from: at, end: e };
-        Moved { place, cut }
-    } else {
-        let place = Place { at: e, line };
-        let cut = Cut::Missing;
-        Moved { place, cut }
+        let cut = Some(Line { from: at, end: e });
+        return Moved { place, cut };
     }
+    let place = Place { at: e, line };
+    Moved { place, cut: None }
 }
 
 // The place is lent, and moved on by one line.
-pub fn next_line(job: &[u8], p: &mut Place) -> Cut
+pub fn next_line(job: &[u8], p: &mut Place) -> Option<Line>
     requires { In job.now p.old }
     ensures { (result ≡ cut_at job.now p.old) × (p.new ≡ moved_on job.now p.old) }
 {

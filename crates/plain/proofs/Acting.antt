@@ -1,4 +1,9 @@
 -- Laws: `act`, told of a state. Assumes nothing.
+use Rattle.store.specs.declared.state.Few.{Few}
+use Rattle.store.specs.declared.stored.Below.{Below}
+use Rattle.store.specs.declared.state.Domain.{Domain}
+use Rattle.store.specs.declared.state.Isolation.{Isolation}
+use Rattle.store.specs.declared.state.Table.{Table}
 use Prim.Native.Nat.{ℕ, ◌+◌, ◌≤◌, ◌<◌}
 use native.Mathlib.Omega.{arith}
 use mathlib.Core.Path.{◌≡◌, refl, sym, ap, ◌∙◌}
@@ -16,10 +21,6 @@ use Rattle.read.specs.Reading.{Reading}
 use Rattle.store.specs.Rows.{Packs}
 use Rattle.store.specs.declared.row.Row.{Row}
 use Rattle.store.specs.declared.stored.Stored.{Stored}
-use Rattle.store.specs.declared.state.Domains.{Domains}
-use Rattle.store.specs.declared.state.Nets.{Nets}
-use Rattle.store.specs.declared.state.Isolations.{Isolations}
-use Rattle.store.specs.declared.state.Tables.{Tables}
 use Rattle.store.specs.declared.state.State.{State}
 use Rattle.made.specs.declared.Brief.{Brief}
 use Rattle.made.specs.declared.Deed.{Deed}
@@ -60,7 +61,7 @@ words_at_lem files area area' words n put s x d e g = rw (← e) g
 room_at : (one two files area area' words : List ℕ) (n : ℕ) (nums : List ℕ) (b b' : Brief) → area ≡ area' → b ≡ b' → WordRoom one two (files ++ area') words n nums b → WordRoom one two (files ++ area) words n nums b'
 room_at one two files area area' words n nums b b' e f g = rw (e, ← f) g
 
-module _ (files area nums words : List ℕ) (n c k w : ℕ) (b : Brief) (ds : Domains) (ns : Nets) (is : Isolations) (ts : Tables) (v : Acting files area nums words n c k w b ds ns is ts) where
+module _ (files area nums words : List ℕ) (n c k w : ℕ) (b : Brief) (ds : Few Domain) (ns : Few Below) (is : Few Isolation) (ts : Few Table) (v : Acting files area nums words n c k w b ds ns is ts) where
   abbrev s : State
   s = v.state
 
@@ -119,10 +120,10 @@ module _ (files area nums words : List ℕ) (n c k w : ℕ) (b : Brief) (ds : Do
       record {
         line = room files whole nums 1 s v.asks.held words n v.asks.worded;
         enters = record { words = v.asks.named; named = v.asks.known; no_puts = v.no_puts; no_load = v.asks.no_load; no_scope = v.no_scope; no_switch = p; no_port_state = q };
-        domains = omega (arith, ap (λ (z : Domains). z.n) v.told.domains, v.asks.held.shaped.domains.count);
-        nets = omega (arith, ap (λ (z : Nets). z.n) v.told.nets, v.asks.held.shaped.nets.count);
-        isolations = omega (arith, ap (λ (z : Isolations). z.n) v.told.isolations, v.asks.held.shaped.isolations.count);
-        tables = omega (arith, ap (λ (z : Tables). z.n) v.told.tables, v.asks.held.shaped.tables.count);
+        domains = omega (arith, ap (λ (z : Few Domain). z.n) v.told.domains, v.asks.held.shaped.domains.count);
+        nets = omega (arith, ap (λ (z : Few Below). z.n) v.told.nets, v.asks.held.shaped.nets.count);
+        isolations = omega (arith, ap (λ (z : Few Isolation). z.n) v.told.isolations, v.asks.held.shaped.isolations.count);
+        tables = omega (arith, ap (λ (z : Few Table). z.n) v.told.tables, v.asks.held.shaped.tables.count);
       }
 
   module _ (d : Deed) (g : Does files area words n (Told b ds ns is ts) d (λ (m : Model). carried (named_by c) m (bytes (files ++ area) (pair_at words 0)) (words_from (files ++ area) words n 1))) where

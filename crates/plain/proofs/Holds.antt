@@ -4,7 +4,7 @@ use native.Mathlib.Omega.{arith}
 use mathlib.Core.Path.{◌≡◌, refl, sym, ap, ◌∙◌}
 use mathlib.Core.Bool.{Bool, true, false, cond}
 use mathlib.Core.List.{List, [], ◌∷◌, ◌++◌}
-use mathlib.Core.Option.{none, some}
+use Rattle.std.specs.Prelude.{None, Some}
 use lib.Dec.{eqb}
 use lib.ListN.{length, take, length-append}
 use lib.Seq.{length-take-le}
@@ -135,7 +135,7 @@ module _ (files area nums : List ℕ) (s : State) (v : Steady files area nums s)
   counted_same : counted_of r.state ≡ counted_of s
   counted_same = ap (λ x. record { commands = x.commands; substituted = x.substituted; scopes = x.scopes; entries = x.entries }) d.kept.count
 
-  comes_by : (log₀ buf : Bytes) → Logged log₀ buf s.fill.log log → (a b : Bool) → eqb r.tag 0 ≡ a → records_fit t ≡ b → cond a (some (model_of (mem_of files area s) (with_row (store_of nums s) r.row) r.state log)) none ≡ cond b (some t) none
+  comes_by : (log₀ buf : Bytes) → Logged log₀ buf s.fill.log log → (a b : Bool) → eqb r.tag 0 ≡ a → records_fit t ≡ b → cond a (Some (model_of (mem_of files area s) (with_row (store_of nums s) r.row) r.state log)) None ≡ cond b (Some t) None
       → Comes files area (row_stored nums r) log₀ buf (out_of r) (cond b (done (counted_of s) t) (refused 10 s.count.commands))
   comes_by log₀ buf h true true p q e =
       let z : r.tag ≡ 0 = eqb-true r.tag 0 p in
@@ -157,9 +157,9 @@ module _ (files area nums : List ℕ) (s : State) (v : Steady files area nums s)
   stored_comes log₀ buf h = comes_by log₀ buf h (eqb r.tag 0) (records_fit t) refl refl d.result
 
   pub made_is : r.tag ≡ 0 → model_of (mem_of files area s) (with_row (store_of nums s) r.row) r.state log ≡ t
-  made_is z = go (records_fit t) (sym (cond_true (eqb r.tag 0) (some (model_of (mem_of files area s) (with_row (store_of nums s) r.row) r.state log)) none (eq-eqb r.tag 0 z)) ∙ d.result)
+  made_is z = go (records_fit t) (sym (cond_true (eqb r.tag 0) (Some (model_of (mem_of files area s) (with_row (store_of nums s) r.row) r.state log)) None (eq-eqb r.tag 0 z)) ∙ d.result)
     where
-      go : (b : Bool) → some (model_of (mem_of files area s) (with_row (store_of nums s) r.row) r.state log) ≡ cond b (some t) none → model_of (mem_of files area s) (with_row (store_of nums s) r.row) r.state log ≡ t
+      go : (b : Bool) → Some (model_of (mem_of files area s) (with_row (store_of nums s) r.row) r.state log) ≡ cond b (Some t) None → model_of (mem_of files area s) (with_row (store_of nums s) r.row) r.state log ≡ t
       go true e = cc
       go false e = absurd (let y : ◌≡◌ {A = ℕ} 0 1 = cc in omega arith)
 

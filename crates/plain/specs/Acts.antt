@@ -1,11 +1,12 @@
 -- A command that only changes records: what it is told of the state, what it asks, and what it does. Assumes nothing.
+use Rattle.store.specs.declared.state.Few.{Few}
+use Rattle.store.specs.declared.stored.Below.{Below}
+use Rattle.store.specs.declared.state.Domain.{Domain}
+use Rattle.store.specs.declared.state.Isolation.{Isolation}
+use Rattle.store.specs.declared.state.Table.{Table}
 use Rattle.std.specs.Prelude.{ℕ, ◌≡◌, List, take}
 use Rattle.text.specs.Ascii.{Bytes}
 use Rattle.model.specs.Numbers.{named_by}
-use Rattle.store.specs.declared.state.Domains.{Domains}
-use Rattle.store.specs.declared.state.Nets.{Nets}
-use Rattle.store.specs.declared.state.Isolations.{Isolations}
-use Rattle.store.specs.declared.state.Tables.{Tables}
 use Rattle.store.specs.declared.state.State.{State}
 use Rattle.made.specs.declared.Brief.{Brief}
 use Rattle.made.specs.declared.Deed.{Deed}
@@ -17,7 +18,7 @@ use Rattle.plain.specs.Asks.{Asks}
 use Rattle.plain.specs.Stores.{out_of}
 
 -- there is a state of which it is told, with the area as far as it is used
-pub record Acting (files area nums words : List ℕ) (n c k w : ℕ) (b : Brief) (domains : Domains) (nets : Nets) (isolations : Isolations) (tables : Tables) : Type 0 where
+pub record Acting (files area nums words : List ℕ) (n c k w : ℕ) (b : Brief) (domains : Few Domain) (nets : Few Below) (isolations : Few Isolation) (tables : Few Table) : Type 0 where
   pub state : State
   pub whole : Bytes
   pub told : Told b domains nets isolations tables state

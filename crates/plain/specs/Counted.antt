@@ -1,5 +1,6 @@
 -- A command within the limits of commands and lists, or past them: how many entries there are with it, and what its reader makes of that.
 -- Assumes nothing.
+use Rattle.std.specs.Prelude.{Option, Some, None}
 use Rattle.std.specs.Prelude.{ℕ, ◌+◌, ◌≡◌, refl, Bool, true, false, cond, ◌&&◌, List, leb}
 use Rattle.std.proofs.Common.{sym, ap, ◌∙◌}
 use Rattle.text.specs.Scan.{all}
@@ -7,23 +8,21 @@ use Rattle.model.specs.Limits.{most_commands}
 use Rattle.model.specs.Within.{total}
 use Rattle.store.specs.declared.state.State.{State}
 use Rattle.lists.specs.Count.{counted}
-use Rattle.lists.specs.declared.Count.{Count}
-use Rattle.lists.specs.declared.Count.TheVariants.{Of, Over}
 use Rattle.scopes.specs.declared.go.Out.{Out}
 use Rattle.held.specs.Laws.{with_entries}
 use Rattle.loads.specs.Steps.{counted_out}
 
 -- command number `commands`, with ls entries more
-abbrev pub counted_in : ℕ → ℕ → List ℕ → Count
-counted_in commands before ls = cond (leb commands most_commands) (counted before ls) Over
+abbrev pub counted_in : ℕ → ℕ → List ℕ → Option ℕ
+counted_in commands before ls = cond (leb commands most_commands) (counted before ls) None
 
 -- the state with these entries, or the refusal
-abbrev pub out_by : State → Count → Out
-out_by s (Of t) = record { tag = 0; state = with_entries s t }
-out_by s Over = record { tag = 10; state = s }
+abbrev pub out_by : State → Option ℕ → Out
+out_by s (Some t) = record { tag = 0; state = with_entries s t }
+out_by s None = record { tag = 10; state = s }
 
 -- ---- what the reader makes of it
-by_limits : (s : State) (t : ℕ) (a b : Bool) → out_by s (cond a (cond b (Of t) Over) Over) ≡ cond (a && b) (record { tag = 0; state = with_entries s t }) (record { tag = 10; state = s })
+by_limits : (s : State) (t : ℕ) (a b : Bool) → out_by s (cond a (cond b (Some t) None) None) ≡ cond (a && b) (record { tag = 0; state = with_entries s t }) (record { tag = 10; state = s })
 by_limits s t true true = refl
 by_limits s t true false = refl
 by_limits s t false b = refl
@@ -32,9 +31,9 @@ out_is : (s : State) (ls : List ℕ) → out_by s (counted_in s.count.commands s
 unfolding counted
 out_is s ls = by_limits s (s.count.entries + total ls) (leb s.count.commands 1024) (all (λ k. leb k 64) ls && leb (s.count.entries + total ls) 1024)
 
-module _ (s : State) (ls : List ℕ) (r : Count) (e : r ≡ counted_in s.count.commands s.count.entries ls) where
-  pub out_within : (t : ℕ) → r ≡ Of t → ◌≡◌ {A = Out} (record { tag = 0; state = with_entries s t }) (counted_out s ls)
+module _ (s : State) (ls : List ℕ) (r : Option ℕ) (e : r ≡ counted_in s.count.commands s.count.entries ls) where
+  pub out_within : (t : ℕ) → r ≡ Some t → ◌≡◌ {A = Out} (record { tag = 0; state = with_entries s t }) (counted_out s ls)
   out_within t q = sym (ap (out_by s) q) ∙ ap (out_by s) e ∙ out_is s ls
 
-  pub out_past : r ≡ Over → ◌≡◌ {A = Out} (record { tag = 10; state = s }) (counted_out s ls)
+  pub out_past : r ≡ None → ◌≡◌ {A = Out} (record { tag = 10; state = s }) (counted_out s ls)
   out_past q = sym (ap (out_by s) q) ∙ ap (out_by s) e ∙ out_is s ls

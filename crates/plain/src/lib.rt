@@ -3,6 +3,7 @@
 
 ghost use Rattle.std.specs.Prelude.{◌≡◌, ◌++◌};
 ghost use Rattle.out.specs.Emit.{◌▸◌, emit};
+ghost use Rattle.out.specs.Text.{Writes};
 ghost use Rattle.spans.specs.Span.{strings};
 ghost use Rattle.args.specs.View.{words_from};
 ghost use Rattle.model.specs.Numbers.{named_by};
@@ -16,13 +17,14 @@ ghost use Rattle.plain.specs.Puts.{saying};
 use args::argument::last_positional;
 use deeds::put_deed;
 use enter::enter;
-use lists::{Count, entries};
+use lists::entries;
 use made::{Brief, Deed};
 use names::name::alone;
 use names::put::put_name;
-use out::emit::put;
+use out::emit::Text;
 use statecmds::{add_port_state, create_power_switch};
-use store::state::{Domains, Isolations, Nets, Tables};
+use store::state::{Domain, Few, Isolation, Table};
+use store::stored::Below;
 
 // Whether the command is within the limits of commands and lists, and how many entries there are with it.
 pub fn counted<'a>(
@@ -33,14 +35,24 @@ pub fn counted<'a>(
     commands: usize,
     before: usize,
     c: usize,
-) -> Count
+) -> Option<usize>
     requires { Lists files.now area.now words.now n before }
     ensures { result ≡ counted_in commands before (entries_of (lists_by (named_by c) (line_of (strings (files.now ++ area.now) words.now 0 n)).name (line_of (strings (files.now ++ area.now) words.now 0 n)).rest)) }
 {
     if 1024 < commands {
-        return Count::Over;
+        return None;
     }
     entries(files, area, words, n, c, before)
+}
+
+// puts: its line of the log.
+fn say(to: &mut Text, files: &[u8], area: &[u8], words: &[u32], n: usize)
+    ensures { Writes to.old (saying (words_from (files.now ++ area.now) words.now n 1)) to.new }
+{
+    let w = last_positional(files, area, words, n);
+    to.put(b"[UPF] ");
+    put_name(to, files, area, alone(w, 0));
+    to.put(b"\n");
 }
 
 // puts: what it writes to the log, and where that ends.
@@ -54,10 +66,9 @@ pub fn puts<'a>(
 ) -> usize
     ensures { log.new ▸ result ≡ emit (log.old ▸ at) (saying (words_from (files.now ++ area.now) words.now n 1)) }
 {
-    let w = last_positional(files, area, words, n);
-    let a = put(log, at, b"[UPF] ");
-    let b = put_name(log, a, files, area, alone(w, 0));
-    put(log, b, b"\n")
+    let mut to = Text::over(log, at);
+    say(&mut to, files, area, words, n);
+    to.end()
 }
 
 // What command c does to the records, with its row in the store.
@@ -70,10 +81,10 @@ pub fn act<'a>(
     b: Brief,
     rows: usize,
     warnings: usize,
-    domains: Domains,
-    nets: Nets,
-    isolations: Isolations,
-    tables: Tables,
+    domains: Few<Domain>,
+    nets: Few<Below>,
+    isolations: Few<Isolation>,
+    tables: Few<Table>,
     c: usize,
 ) -> Deed
     requires { Acting files.now area.now nums.old words.now n c rows warnings b domains nets isolations tables }

@@ -1,4 +1,5 @@
 -- Laws: what a deed does to every state of which the brief is known. Assumes nothing.
+use Rattle.std.specs.Prelude.{Option, Some, None}
 use Prim.Native.Nat.{ℕ, ◌≤◌, ◌<◌}
 use native.Mathlib.Omega.{arith}
 use mathlib.Core.Path.{◌≡◌, refl, sym, ap, ◌∙◌}
@@ -8,8 +9,6 @@ use lib.ListN.{length}
 use Rattle.text.specs.Ascii.{Bytes}
 use Rattle.spans.specs.Span.{bytes, pair_at}
 use Rattle.spans.specs.declared.span.Span.{Span}
-use Rattle.spans.specs.declared.span.Found.{Found}
-use Rattle.spans.specs.declared.span.Found.TheVariants.{At, None}
 use Rattle.tcl.specs.Arguments.{positionals, name_of}
 use Rattle.args.specs.View.{words_from, pick, Reads, Finds}
 use Rattle.model.specs.Names.{Command, is_query}
@@ -17,7 +16,6 @@ use Rattle.model.specs.Records.{Model}
 use Rattle.model.specs.Commands.{set_command, design_top_command, retention_command, shifter_command, unsupported, carried_out}
 use Rattle.store.specs.Strings.{span_of, stored_of}
 use Rattle.store.specs.declared.stored.Stored.{Stored}
-use Rattle.store.specs.declared.stored.Maybe.TheVariants.{Not, Given}
 use Rattle.store.specs.declared.state.State.{State}
 use Rattle.store.specs.declared.state.Retention.{Retention}
 use Rattle.store.specs.declared.state.Shifter.{Shifter}
@@ -41,10 +39,10 @@ module _ (files area : Bytes) (words : List ℕ) (n : ℕ) (b : Brief) where
   Told s = brief_of s ≡ b
 
   -- ---- set
-  pub set_nothing_does : (f : Found) → Finds mem words n (pick 1 (positionals ws)) f → f ≡ None → Does files area words n Told deed.Nothing (λ (m : Model). set_command m ws)
+  pub set_nothing_does : (f : Option Span) → Finds mem words n (pick 1 (positionals ws)) f → f ≡ None → Does files area words n Told deed.Nothing (λ (m : Model). set_command m ws)
   set_nothing_does f a e = λ s q. record { fits = tt; did = λ st log v. set_nothing (length files) mem words n st log s v f (done_by s deed.Nothing) a e refl }
 
-  module _ (w : Span) (f : Found) (a : Finds mem words n (pick 1 (positionals ws)) f) (e : f ≡ At w) where
+  module _ (w : Span) (f : Option Span) (a : Finds mem words n (pick 1 (positionals ws)) f) (e : f ≡ Some w) where
     pub set_full_does : 64 ≤ b.variables → Does files area words n Told deed.Full (λ (m : Model). set_command m ws)
     set_full_does h = λ s q. record { fits = tt; did = λ st log v. set_full (length files) mem words n st log s v w f a e (done_by s deed.Full) (omega (arith, h, ap (λ (z : Brief). z.variables) q)) refl }
 
@@ -55,15 +53,15 @@ module _ (files area : Bytes) (words : List ℕ) (n : ℕ) (b : Brief) where
         record { fits = k; did = λ st log v. set_fine (length files) mem words n st log s v w f a e r x y _ (done_by s (deed.Variable x y)) k c ex ey refl refl }
 
   -- ---- set_design_top
-  pub top_stays_does : (x : Stored) → b.top ≡ Given x → Does files area words n Told deed.Nothing (λ (m : Model). design_top_command m ws)
+  pub top_stays_does : (x : Stored) → b.top ≡ Some x → Does files area words n Told deed.Nothing (λ (m : Model). design_top_command m ws)
   top_stays_does x e = λ s q. record { fits = tt; did = λ st log v. top_stays (length files) mem words n st log s v x (done_by s deed.Nothing) (ap (λ (z : Brief). z.top) q ∙ e) refl }
 
-  module _ (p : Span) (k : ℕ) (e : b.top ≡ Not) (ep : p ≡ span_of b.scope) (ek : k ≡ length (bytes mem p)) where
+  module _ (p : Span) (k : ℕ) (e : b.top ≡ None) (ep : p ≡ span_of b.scope) (ek : k ≡ length (bytes mem p)) where
     pub top_inside_does : (k ≡ 0 → ⊥) → Does files area words n Told deed.Nothing (λ (m : Model). design_top_command m ws)
     top_inside_does h = λ s q. record { fits = tt; did = λ st log v. top_inside (length files) mem words n st log s v p k (done_by s deed.Nothing) (ap (λ (z : Brief). z.top) q ∙ e) (ep ∙ ap (λ (z : Brief). span_of z.scope) (sym q)) ek h refl }
 
-    pub top_fine_does : (r : Span) (x : Stored) → k ≡ 0 → Reads mem words n (name_of ws) r → x ≡ stored_of r → Does files area words n Told (deed.Top (Given x)) (λ (m : Model). design_top_command m ws)
-    top_fine_does r x h a ex = λ s q. record { fits = tt; did = λ st log v. top_fine (length files) mem words n st log s v p k r x _ (done_by s (deed.Top (Given x))) (ap (λ (z : Brief). z.top) q ∙ e) (ep ∙ ap (λ (z : Brief). span_of z.scope) (sym q)) ek h a ex refl refl }
+    pub top_fine_does : (r : Span) (x : Stored) → k ≡ 0 → Reads mem words n (name_of ws) r → x ≡ stored_of r → Does files area words n Told (deed.Top (Some x)) (λ (m : Model). design_top_command m ws)
+    top_fine_does r x h a ex = λ s q. record { fits = tt; did = λ st log v. top_fine (length files) mem words n st log s v p k r x _ (done_by s (deed.Top (Some x))) (ap (λ (z : Brief). z.top) q ∙ e) (ep ∙ ap (λ (z : Brief). span_of z.scope) (sym q)) ek h a ex refl refl }
 
   -- ---- set_retention
   pub retention_full_does : 32 ≤ b.retentions → Does files area words n Told deed.Full (λ (m : Model). retention_command m ws)

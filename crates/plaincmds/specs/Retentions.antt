@@ -1,4 +1,5 @@
 -- set_retention: what its words come to, and what it does. Assumes nothing.
+use Rattle.std.specs.Prelude.{Option, Some, None}
 use Rattle.std.specs.Prelude.{ℕ, ◌+◌, ◌≤◌, ◌<◌, max, ◌≡◌, List, [], ◌∷◌, ◌++◌, map, length}
 use Rattle.std.proofs.Common.{arith, sym, ap, ◌∙◌}
 use Rattle.std.proofs.Math.Path.{refl}
@@ -6,7 +7,6 @@ use Rattle.text.specs.Ascii.{Bytes, ascii}
 use Rattle.spans.specs.Span.{◌⋯◌, pairs}
 use Rattle.spans.specs.Reach.{last_of, reach, none_reach}
 use Rattle.spans.specs.declared.span.Span.{Span}
-use Rattle.spans.specs.declared.span.Found.{Found}
 use Rattle.tcl.specs.Arguments.{option_of, name_of}
 use Rattle.args.specs.View.{words_from, Reads, Finds}
 use Rattle.model.specs.Scope.{scoped}
@@ -39,7 +39,7 @@ pub record RetentionIs (mem : Bytes) (words : List ℕ) (n : ℕ) (scope : Store
   pub within : (e : Span → ℕ) → e (0 ⋯ 0) ≡ 0 → of_retention (λ s. e (span_of s)) r ≤ max (e (span_of scope)) (last_of e (pairs words 0 n))
 
 module _ (mem : Bytes) (words : List ℕ) (n : ℕ) (scope : Stored) where
-  pub retention_is : (r : Span) (x : Stored) (f : Found) (y : Stored) (g : Found) (z : Stored) → Reads mem words n (name_of (words_from mem words n 1)) r → x ≡ stored_of r → Finds mem words n (option_of (ascii "-domain") (words_from mem words n 1)) f → y ≡ found_or f → Finds mem words n (option_of (ascii "-elements") (words_from mem words n 1)) g → z ≡ found_or g → RetentionIs mem words n scope (record { name = x; domain = y; scope = scope; elements = z })
+  pub retention_is : (r : Span) (x : Stored) (f : Option Span) (y : Stored) (g : Option Span) (z : Stored) → Reads mem words n (name_of (words_from mem words n 1)) r → x ≡ stored_of r → Finds mem words n (option_of (ascii "-domain") (words_from mem words n 1)) f → y ≡ found_or f → Finds mem words n (option_of (ascii "-elements") (words_from mem words n 1)) g → z ≡ found_or g → RetentionIs mem words n scope (record { name = x; domain = y; scope = scope; elements = z })
   unfolding retention_of new_retention
   retention_is r x f y g z p ex q ey t ez =
       rw (ex, ey, ez)

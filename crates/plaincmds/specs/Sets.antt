@@ -1,13 +1,11 @@
 -- set: what it does. Assumes nothing.
-use Rattle.std.specs.Prelude.{ℕ, ◌+◌, ◌*◌, ◌≤◌, ◌<◌, ◌^◌, ◌≡◌, refl, List, [], ◌∷◌, ◌++◌, length}
+use Rattle.std.specs.Prelude.{ℕ, ◌+◌, ◌*◌, ◌≤◌, ◌<◌, ◌^◌, ◌≡◌, refl, List, [], ◌∷◌, ◌++◌, length, Option, None, Some}
 use Rattle.std.proofs.Common.{arith, sym, ap, ◌∙◌}
-use Rattle.std.proofs.Math.Option.{Option, none, some, none-ne-some, some-ne-none, some-injective}
+use Rattle.std.proofs.lemmas.Option.{none-some, same_Some}
 use Rattle.text.specs.Ascii.{Bytes}
 use Rattle.spans.specs.Span.{bytes}
 use Rattle.spans.specs.Reach.{reach, none_reach}
 use Rattle.spans.specs.declared.span.Span.{Span}
-use Rattle.spans.specs.declared.span.Found.{Found}
-use Rattle.spans.specs.declared.span.Found.TheVariants.{At, None}
 use Rattle.tcl.specs.Arguments.{positionals, first_or, name_of}
 use Rattle.tcl.specs.Substitution.{Variable}
 use Rattle.args.specs.View.{words_from, pick, Reads, Finds}
@@ -28,23 +26,23 @@ use Rattle.made.specs.Done.{did_state}
 use Rattle.made.specs.Asked.{found_fits}
 
 -- without a second positional word nothing is set
-set_none : (m : Model) (ps : List Bytes) → none ≡ pick 1 ps → set_to m ps ≡ m
+set_none : (m : Model) (ps : List Bytes) → None ≡ pick 1 ps → set_to m ps ≡ m
 unfolding pick
 set_none m [] e = refl
 set_none m (p ∷ []) e = refl
-set_none m (p ∷ q ∷ ps) e = absurd (none-ne-some q e)
+set_none m (p ∷ q ∷ ps) e = absurd (none-some q e)
 
-set_two : (m : Model) (ps : List Bytes) (v : Bytes) → some v ≡ pick 1 ps → set_to m ps ≡ with_variables m (m.variables ++ (record { name = first_or ps; value = v } ∷ []))
+set_two : (m : Model) (ps : List Bytes) (v : Bytes) → Some v ≡ pick 1 ps → set_to m ps ≡ with_variables m (m.variables ++ (record { name = first_or ps; value = v } ∷ []))
 unfolding pick
-set_two m [] v e = absurd (some-ne-none v e)
-set_two m (p ∷ []) v e = absurd (some-ne-none v e)
-set_two m (p ∷ q ∷ ps) v e = rw (some-injective v q e)
+set_two m [] v e = absurd (none-some v (sym e))
+set_two m (p ∷ []) v e = absurd (none-some v (sym e))
+set_two m (p ∷ q ∷ ps) v e = rw (same_Some v q e)
 
 -- the word can be stored
-pub set_stored : (mem : Bytes) (words : List ℕ) (n : ℕ) (t : Option Bytes) (w : Span) (f : Found) → Line words n → Finds mem words n t f → f ≡ At w → w.at + w.len < 2 ^ 32
+pub set_stored : (mem : Bytes) (words : List ℕ) (n : ℕ) (t : Option Bytes) (w : Span) (f : Option Span) → Line words n → Finds mem words n t f → f ≡ Some w → w.at + w.len < 2 ^ 32
 set_stored mem words n t w f m g e =
-    let a : Finds mem words n t (At w) = rw e at g in
-    found_fits mem words n t (At w) a m
+    let a : Finds mem words n t (Some w) = rw e at g in
+    found_fits mem words n t (Some w) a m
 
 module _ (long : ℕ) (mem : Bytes) (words : List ℕ) (n : ℕ) (st : Store) (log : Bytes) (s : State) (v : Ready long mem words n st s) where
   abbrev ws : List Bytes
@@ -57,13 +55,13 @@ module _ (long : ℕ) (mem : Bytes) (words : List ℕ) (n : ℕ) (st : Store) (l
   unfolding set_command
   told_nothing a = set_none now (positionals ws) a.is
 
-  pub set_nothing : (f : Found) (m : Made) → Finds mem words n (pick 1 (positionals ws)) f → f ≡ None → m ≡ fine_made s → Did long mem st log s m (set_command now ws)
+  pub set_nothing : (f : Option Span) (m : Made) → Finds mem words n (pick 1 (positionals ws)) f → f ≡ None → m ≡ fine_made s → Did long mem st log s m (set_command now ws)
   set_nothing f m a e g =
       let b : Finds mem words n (pick 1 (positionals ws)) None = rw e at a in
       rw (g, told_nothing b) (did_nothing long mem st log s v.shaped v.bounded)
 
-  module _ (w : Span) (f : Found) (g : Finds mem words n (pick 1 (positionals ws)) f) (e : f ≡ At w) where
-    a : Finds mem words n (pick 1 (positionals ws)) (At w)
+  module _ (w : Span) (f : Option Span) (g : Finds mem words n (pick 1 (positionals ws)) f) (e : f ≡ Some w) where
+    a : Finds mem words n (pick 1 (positionals ws)) (Some w)
     a = rw e at g
 
     abbrev more : List Variable

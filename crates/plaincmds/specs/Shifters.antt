@@ -1,4 +1,5 @@
 -- set_level_shifter: what its words come to, and what it does. Assumes nothing.
+use Rattle.std.specs.Prelude.{Option, Some, None}
 use Rattle.std.specs.Prelude.{ℕ, ◌+◌, ◌≤◌, ◌<◌, ◌≡◌, List, [], ◌∷◌, ◌++◌, length}
 use Rattle.std.proofs.Common.{arith, sym, ap, ◌∙◌}
 use Rattle.std.proofs.Math.Path.{refl}
@@ -6,7 +7,6 @@ use Rattle.text.specs.Ascii.{Bytes, ascii}
 use Rattle.spans.specs.Span.{◌⋯◌, pairs}
 use Rattle.spans.specs.Reach.{last_of, reach, none_reach}
 use Rattle.spans.specs.declared.span.Span.{Span}
-use Rattle.spans.specs.declared.span.Found.{Found}
 use Rattle.tcl.specs.Arguments.{option_of, name_of}
 use Rattle.args.specs.View.{words_from, Reads, Finds}
 use Rattle.model.specs.Within.{records_fit}
@@ -38,7 +38,7 @@ pub record ShifterIs (mem : Bytes) (words : List ℕ) (n : ℕ) (r : Shifter) : 
   pub within : (e : Span → ℕ) → e (0 ⋯ 0) ≡ 0 → of_shifter (λ s. e (span_of s)) r ≤ last_of e (pairs words 0 n)
 
 module _ (mem : Bytes) (words : List ℕ) (n : ℕ) where
-  pub shifter_is : (r : Span) (x : Stored) (f : Found) (y : Stored) → Reads mem words n (name_of (words_from mem words n 1)) r → x ≡ stored_of r → Finds mem words n (option_of (ascii "-domain") (words_from mem words n 1)) f → y ≡ found_or f → ShifterIs mem words n (record { name = x; domain = y })
+  pub shifter_is : (r : Span) (x : Stored) (f : Option Span) (y : Stored) → Reads mem words n (name_of (words_from mem words n 1)) r → x ≡ stored_of r → Finds mem words n (option_of (ascii "-domain") (words_from mem words n 1)) f → y ≡ found_or f → ShifterIs mem words n (record { name = x; domain = y })
   unfolding shifter_of new_shifter
   shifter_is r x f y p ex q ey =
       rw (ex, ey)

@@ -16,9 +16,12 @@ ghost use Rattle.plaincmds.specs.Shifters.{ShifterIs};
 
 use args::argument::{name, option, positional};
 use made::{Brief, Deed};
-use spans::span::{Found, Span, is, least, pair, size};
+use spans::span::{Span, is, pair, size};
 use store::state::{Retention, Shifter};
-use store::stored::{Maybe, Stored, narrow, or_empty, span};
+use store::stored::{Stored, narrow, or_empty, span};
+
+// The most variables that are kept.
+const MOST_VARIABLES: usize = 64;
 
 // A variable more, where there are two positional words.
 pub fn set(files: &[u8], area: &[u8], words: &[u32], n: usize, b: Brief) -> Deed
@@ -26,9 +29,9 @@ pub fn set(files: &[u8], area: &[u8], words: &[u32], n: usize, b: Brief) -> Deed
     ensures { Does files.now area.now words.now n (λ (s : State). brief_of s ≡ b) result (λ (m : Model). set_command m (words_from (files.now ++ area.now) words.now n 1)) }
 {
     match positional(files, area, words, n, 1) {
-        Found::None => Deed::Nothing,
-        Found::At(v) => {
-            if 64 <= b.variables {
+        None => Deed::Nothing,
+        Some(v) => {
+            if MOST_VARIABLES <= b.variables {
                 return Deed::Full;
             }
             let named = name(files, area, words, n);
@@ -42,17 +45,14 @@ pub fn set_design_top(files: &[u8], area: &[u8], words: &[u32], n: usize, b: Bri
     requires { Line words.now n }
     ensures { Does files.now area.now words.now n (λ (s : State). brief_of s ≡ b) result (λ (m : Model). design_top_command m (words_from (files.now ++ area.now) words.now n 1)) }
 {
-    let scope = b.scope;
-    let top = b.top;
-    match top {
-        Maybe::Given(_) => Deed::Nothing,
-        Maybe::Not => {
-            if size(files, area, span(scope)) != 0 {
+    match b.top {
+        Some(_) => Deed::Nothing,
+        None => {
+            if size(files, area, span(b.scope)) != 0 {
                 return Deed::Nothing;
             }
             let named = name(files, area, words, n);
-            let t = Maybe::Given(narrow(named));
-            Deed::Top(t)
+            Deed::Top(Some(narrow(named)))
         }
     }
 }
@@ -87,8 +87,7 @@ pub fn set_retention<'a>(files: &'a [u8], area: &'a [u8], words: &[u32], n: usiz
     if 32 <= b.retentions {
         return Deed::Full;
     }
-    let scope = b.scope;
-    let x = retention(files, area, words, n, scope);
+    let x = retention(files, area, words, n, b.scope);
     Deed::Retention(x)
 }
 
@@ -129,7 +128,7 @@ fn is_query<'a>(files: &'a [u8], area: &'a [u8], w: Span) -> bool
 {
     let front = Span {
         at: w.at,
-        len: least(6, w.len),
+        len: w.len.min(6),
     };
     is(files, area, front, b"query_")
 }

@@ -1,4 +1,6 @@
 -- The arguments about isolated ports and their strategies, and what they stand for. Assumes nothing.
+use Rattle.store.specs.declared.state.Few.{Few}
+use Rattle.store.specs.declared.state.Isolation.{Isolation}
 use Rattle.std.specs.Prelude.{ℕ, ◌≡◌, Bool, List}
 use Rattle.std.proofs.Math.Path.{refl, sym, ap}
 use Rattle.std.proofs.Common.{◌∙◌}
@@ -10,7 +12,6 @@ use Rattle.design.specs.Paths.{element_path}
 use Rattle.refs.specs.Text.{text_of}
 use Rattle.model.specs.Records.{Isolation as Isolationʳ}
 use Rattle.store.specs.View.{isolation_of}
-use Rattle.store.specs.declared.state.Isolations.{Isolations}
 use Rattle.texts.specs.Isolation.{lowered, is_clamp, active_of}
 use Rattle.clamps.specs.Values.{stored_name, clamp_number, active_number}
 use Rattle.clamps.specs.Laws.{stored_is}
@@ -28,16 +29,16 @@ net_arg x = wrapped_arg 1 (net_ref x)
 abbrev pub port_arg : Isolated → Arg
 port_arg x = wrapped_arg 2 (port_ref x)
 
-abbrev pub clamp_arg : Bytes → Isolations → ℕ → Arg
+abbrev pub clamp_arg : Bytes → Few Isolation → ℕ → Arg
 clamp_arg mem t i = fixed_arg (clamp_number (lowered (strategy_at mem t i).clamp))
 
-abbrev pub strategy_arg : Isolations → ℕ → Arg
+abbrev pub strategy_arg : Few Isolation → ℕ → Arg
 strategy_arg t i = name_arg (stored_name (isolation_at t i).name)
 
-abbrev pub signal_arg : Isolations → ℕ → Arg
+abbrev pub signal_arg : Few Isolation → ℕ → Arg
 signal_arg t i = hier_arg (signal_name (isolation_at t i).signal)
 
-abbrev pub active_arg : Bytes → Isolations → ℕ → Arg
+abbrev pub active_arg : Bytes → Few Isolation → ℕ → Arg
 active_arg mem t i = fixed_arg (active_number (lowered (strategy_at mem t i).sense))
 
 -- ---- what they stand for
@@ -67,7 +68,7 @@ module _ (job mem : Bytes) (scope : List Bytes) (top : Bytes) where
       go true = refl
       go false = refl
 
-  module _ (t : Isolations) (i : ℕ) where
+  module _ (t : Few Isolation) (i : ℕ) where
     pub clamp_is : is_clamp (lowered (strategy_at mem t i).clamp) ≡ true → arg_of job mem scope top (clamp_arg mem t i) ≡ lowered (strategy_at mem t i).clamp
     clamp_is h = clamp_by (lowered (strategy_at mem t i).clamp) h
 

@@ -7,7 +7,7 @@ ghost use Rattle.portargs.specs.Args.{net_arg, port_arg, strategy_arg, signal_ar
 use alike::{active_of, named, signal_of};
 use format::arg::{Arg, fixed, hier, name, wrapped};
 use isolated::{Isolated, net, port};
-use store::state::Isolations;
+use store::state::{Few, Isolation};
 
 // The parent's net of a port, below the scope.
 pub fn net_arg(x: Isolated) -> Arg
@@ -24,7 +24,7 @@ pub fn port_arg(x: Isolated) -> Arg
 }
 
 // The name of a strategy.
-pub fn strategy_arg(t: Isolations, i: usize) -> Arg
+pub fn strategy_arg(t: Few<Isolation>, i: usize) -> Arg
     requires { i < 32 }
     ensures { result ≡ strategy_arg t i }
 {
@@ -32,7 +32,7 @@ pub fn strategy_arg(t: Isolations, i: usize) -> Arg
 }
 
 // Its signal, below the scope.
-pub fn signal_arg(t: Isolations, i: usize) -> Arg
+pub fn signal_arg(t: Few<Isolation>, i: usize) -> Arg
     requires { i < 32 }
     ensures { result ≡ signal_arg t i }
 {
@@ -40,7 +40,7 @@ pub fn signal_arg(t: Isolations, i: usize) -> Arg
 }
 
 // The value at which it isolates.
-pub fn active_arg(files: &[u8], area: &[u8], t: Isolations, i: usize) -> Arg
+pub fn active_arg(files: &[u8], area: &[u8], t: Few<Isolation>, i: usize) -> Arg
     requires { i < 32 }
     ensures { result ≡ active_arg (files.now ++ area.now) t i }
 {

@@ -1,4 +1,5 @@
 -- connect_supply_net: what it does. Assumes nothing.
+use Rattle.std.specs.Prelude.{Option, Some, None}
 use Rattle.std.specs.Prelude.{ℕ, ◌+◌, ◌≡◌, length}
 use Rattle.std.proofs.Common.{arith, ◌∙◌}
 use Rattle.std.proofs.Math.Path.{refl, sym, ap}
@@ -6,7 +7,6 @@ use mathlib.Core.List.{List, [], ◌∷◌, ◌++◌, map}
 use Rattle.text.specs.Ascii.{Bytes, ascii}
 use Rattle.spans.specs.Reach.{reach, reach_end, none_reach}
 use Rattle.spans.specs.declared.span.Span.{Span}
-use Rattle.spans.specs.declared.span.Found.{Found}
 use Rattle.tcl.specs.Arguments.{option_of, name_of}
 use Rattle.args.specs.View.{words_from, Reads, Finds}
 use Rattle.model.specs.Scope.{scoped}
@@ -41,7 +41,7 @@ module _ (long : ℕ) (mem : Bytes) (words : List ℕ) (n : ℕ) (st : Store) (l
   unfolding connect_command new_connections
   told = refl
 
-  module _ (r : Span) (f : Found) (a : Reads mem words n (name_of ws) r) (q : Finds mem words n (option_of (ascii "-ports") ws) f) where
+  module _ (r : Span) (f : Option Span) (a : Reads mem words n (name_of ws) r) (q : Finds mem words n (option_of (ascii "-ports") ws) f) where
     abbrev row : Row
     row = record { kind = 1; scope = s.head.scope; name = stored_of r; value = found_or f }
 
@@ -62,7 +62,7 @@ module _ (long : ℕ) (mem : Bytes) (words : List ℕ) (n : ℕ) (st : Store) (l
         (record { kind = omega arith; at = omega (arith, v.small, v.bounded.scope, reach_end long (span_of s.head.scope)); len = omega (arith, v.shaped.scope) }))
 
 -- ---- its deed
-pub connected : (files area : Bytes) (words : List ℕ) (n : ℕ) (b : Brief) (r : Span) (f : Found) (x y : Stored) → Reads (files ++ area) words n (name_of (words_from (files ++ area) words n 1)) r → Finds (files ++ area) words n (option_of (ascii "-ports") (words_from (files ++ area) words n 1)) f → x ≡ stored_of r → y ≡ found_or f → Does files area words n (λ (s : State). brief_of s ≡ b) (deed.Row (record { kind = 1; scope = b.scope; name = x; value = y })) (λ (m : Model). connect_command m (words_from (files ++ area) words n 1))
+pub connected : (files area : Bytes) (words : List ℕ) (n : ℕ) (b : Brief) (r : Span) (f : Option Span) (x y : Stored) → Reads (files ++ area) words n (name_of (words_from (files ++ area) words n 1)) r → Finds (files ++ area) words n (option_of (ascii "-ports") (words_from (files ++ area) words n 1)) f → x ≡ stored_of r → y ≡ found_or f → Does files area words n (λ (s : State). brief_of s ≡ b) (deed.Row (record { kind = 1; scope = b.scope; name = x; value = y })) (λ (m : Model). connect_command m (words_from (files ++ area) words n 1))
 connected files area words n b r f x y a q ex ey s e =
     rw (← (ap (λ (z : Brief). z.scope) e))
     (record { fits = tt; did = λ st log v. connect_fine (length files) (files ++ area) words n st log s v r f a q x y (row_made s (record { kind = 1; scope = s.head.scope; name = x; value = y })) ex ey refl })

@@ -1,4 +1,5 @@
 -- create_supply_port: what its words come to, and what it does. Assumes nothing.
+use Rattle.std.specs.Prelude.{Option, Some, None}
 use Rattle.std.specs.Prelude.{ℕ, ◌+◌, ◌≤◌, ◌<◌, max, ◌≡◌, List, [], ◌∷◌, ◌++◌, length}
 use Rattle.std.proofs.Common.{arith, sym, ap, ◌∙◌}
 use Rattle.std.proofs.Math.Path.{refl}
@@ -6,7 +7,6 @@ use Rattle.text.specs.Ascii.{Bytes, ascii}
 use Rattle.spans.specs.Span.{◌⋯◌, pairs}
 use Rattle.spans.specs.Reach.{last_of, reach, none_reach}
 use Rattle.spans.specs.declared.span.Span.{Span}
-use Rattle.spans.specs.declared.span.Found.{Found}
 use Rattle.tcl.specs.Arguments.{option_of, name_of}
 use Rattle.args.specs.View.{words_from, Finds}
 use Rattle.model.specs.Scope.{scoped}
@@ -29,7 +29,6 @@ use Rattle.store.specs.Order.{of_port}
 use Rattle.store.specs.Added.{port_added}
 use Rattle.store.specs.Fits.{fit_ports}
 use Rattle.store.specs.Steps.{port_view, port_shaped, port_bounded}
-use Rattle.store.specs.declared.stored.Maybe.{Maybe}
 use Rattle.store.specs.declared.stored.Below.{Below}
 use Rattle.store.specs.declared.state.Port.{Port}
 use Rattle.made.specs.Asked.{maybe_found_lem, maybe_by}
@@ -44,7 +43,7 @@ pub record PortIs (mem : Bytes) (words : List ℕ) (n : ℕ) (scope : Stored) (r
   pub within : (e : Span → ℕ) → e (0 ⋯ 0) ≡ 0 → of_port (λ s. e (span_of s)) r ≤ max (e (span_of scope)) (last_of e (pairs words 0 n))
 
 module _ (mem : Bytes) (words : List ℕ) (n : ℕ) (scope : Stored) where
-  pub port_is : (x : Below) (f : Found) (y : Maybe) → BelowIs mem words n scope x → Finds mem words n (option_of (ascii "-direction") (words_from mem words n 1)) f → y ≡ maybe_found f → PortIs mem words n scope (record { name = x; direction = y })
+  pub port_is : (x : Below) (f : Option Span) (y : Option Stored) → BelowIs mem words n scope x → Finds mem words n (option_of (ascii "-direction") (words_from mem words n 1)) f → y ≡ maybe_found f → PortIs mem words n scope (record { name = x; direction = y })
   unfolding port_of new_port
   port_is x f y p q g =
       rw g

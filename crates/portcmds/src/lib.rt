@@ -18,6 +18,9 @@ use store::row::Row;
 use store::state::Port;
 use store::stored::{Below, Stored, as_maybe, narrow, or_empty};
 
+// "supply ports .. 32 of each"
+const MOST_PORTS: usize = 32;
+
 // The first word of the command, below the scope.
 pub fn named_below(files: &[u8], area: &[u8], words: &[u32], n: usize, scope: Stored) -> Below
     requires { last_of span_end (pairs words.now 0 n) < 2 ^ 32 }
@@ -54,11 +57,10 @@ pub fn create_supply_port<'a>(
     requires { Line words.now n }
     ensures { Does files.now area.now words.now n (λ (s : State). brief_of s ≡ b) result (λ (m : Model). port_command m (words_from (files.now ++ area.now) words.now n 1)) }
 {
-    if 32 <= b.ports {
+    if MOST_PORTS <= b.ports {
         return Deed::Full;
     }
-    let scope = b.scope;
-    let p = port(files, area, words, n, scope);
+    let p = port(files, area, words, n, b.scope);
     Deed::Port(p)
 }
 
@@ -73,12 +75,11 @@ pub fn connect_supply_net<'a>(
     requires { Line words.now n }
     ensures { Does files.now area.now words.now n (λ (s : State). brief_of s ≡ b) result (λ (m : Model). connect_command m (words_from (files.now ++ area.now) words.now n 1)) }
 {
-    let scope = b.scope;
     let named = name(files, area, words, n);
     let ports = option(files, area, words, n, b"-ports");
     let r = Row {
         kind: 1,
-        scope: scope,
+        scope: b.scope,
         name: narrow(named),
         value: or_empty(ports),
     };

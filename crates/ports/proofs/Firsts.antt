@@ -6,7 +6,8 @@ use Prim.Native.String.{String}
 use native.Mathlib.Omega.{arith}
 use mathlib.Core.Bool.{Bool, true, false, cond, not, ◌&&◌}
 use mathlib.Core.List.{List, [], ◌∷◌}
-use mathlib.Core.Option.{Option, none, some, none-ne-some, some-injective}
+use Rattle.std.specs.Prelude.{Option, None, Some}
+use Rattle.std.proofs.lemmas.Option.{none-some, same_Some}
 use lib.ListN.{take, drop, get_or}
 use lib.Dec.{eqb}
 use borrow.Author.Rules.{rules}
@@ -24,19 +25,18 @@ use Rattle.joblines.specs.Sections.{formed, with_some, gather, decl_here, decls_
 use Rattle.jobindex.specs.Index.{section}
 use Rattle.lines.specs.Cursors.{Cut}
 use Rattle.lines.specs.Steps.{Passed, passed_on}
-use Rattle.ports.specs.declared.NameAt.TheVariants as named
 use Rattle.ports.specs.declared.body.Pick.{Pick}
 use Rattle.ports.specs.declared.body.Pick.TheVariants as pick
 use Rattle.ports.specs.Bodies.{is_off, pick_is, picked, BodySeen}
 
 -- what holds of every word of a table holds of the one that is found
-among_all : {A : Type 0} (t : Bytes → A → Bool) (rs : List (String × A)) (w : Bytes) (a : A) → all (λ (r : String × A). t (ascii r.0) r.1) rs ≡ true → among rs w ≡ some a → t w a ≡ true
+among_all : {A : Type 0} (t : Bytes → A → Bool) (rs : List (String × A)) (w : Bytes) (a : A) → all (λ (r : String × A). t (ascii r.0) r.1) rs ≡ true → among rs w ≡ Some a → t w a ≡ true
 unfolding all
-among_all t [] w a h e = absurd (none-ne-some a e)
+among_all t [] w a h e = absurd (none-some a e)
 among_all t (r ∷ rs) w a h e = let b = both (t (ascii r.0) r.1) _ h in go (same w (ascii r.0)) refl b.0 (λ f. among_all t rs w a b.1 f) e
   where
-    go : (q : Bool) → same w (ascii r.0) ≡ q → t (ascii r.0) r.1 ≡ true → (among rs w ≡ some a → t w a ≡ true) → cond q (some r.1) (among rs w) ≡ some a → t w a ≡ true
-    go true s b f e = rw (same_eq w (ascii r.0) s, ← some-injective r.1 a e) b
+    go : (q : Bool) → same w (ascii r.0) ≡ q → t (ascii r.0) r.1 ≡ true → (among rs w ≡ Some a → t w a ≡ true) → cond q (Some r.1) (among rs w) ≡ Some a → t w a ≡ true
+    go true s b f e = rw (same_eq w (ascii r.0) s, ← same_Some r.1 a e) b
     go false s b f e = f e
 
 -- the table of `kind_of`
@@ -45,7 +45,7 @@ kinds = ("net", net) ∷ ("data", variable) ∷ ("odd", odd) ∷ ("in", body inp
 
 module _ (p : Pick) where
   -- a kind whose spelling begins so is not asked for
-  kind_off : (w : Bytes) (k : Kind) (d : Bool) → kind_of w ≡ some k → is_off p (get_or w 0 0) ≡ true → pick_is p k d ≡ false
+  kind_off : (w : Bytes) (k : Kind) (d : Bool) → kind_of w ≡ Some k → is_off p (get_or w 0 0) ≡ true → pick_is p k d ≡ false
   unfolding kind_of all
   kind_off w k d e h = not-true (pick_is p k d) (rw h at (among_all (λ w k. not (is_off p (get_or w 0 0) && pick_is p k d)) kinds w k (go p) e))
     where
@@ -76,9 +76,9 @@ module _ (p : Pick) where
       one x b f false = refl
 
       go : (o : Option Kind) → kind_of k ≡ o → (b : Option Bool) → picked p (with_some (as_decl o b n) ds) ≡ picked p ds
-      go none e b = refl
-      go (some x) e none = refl
-      go (some x) e (some b) = one x b (kind_off k x b e h) (is_name n)
+      go None e b = refl
+      go (Some x) e None = refl
+      go (Some x) e (Some b) = one x b (kind_off k x b e h) (is_name n)
   fields_off k (d ∷ n ∷ m ∷ ks) h ds = refl
 
   -- a declaration line whose value begins so, or any other line
@@ -111,7 +111,7 @@ pub ruleset offs = (rules, byte_is, off_output, off_other, off_signal)
 
 -- ---- a line that is passed over: from i up to e; t is what its byte says
 module _ (job : Bytes) (at end : ℕ) (p : Pick) (i : ℕ) (inv : picked p (decls_in (section job at end)) ≡ picked p (decls_in (section job i end))) (e : ℕ) (cut : Cut job i end e) where
-  pub off_end : end ≤ e → BodySeen job at end p named.End
+  pub off_end : end ≤ e → BodySeen job at end p None
   unfolding picked gather
   off_end h = record { says = sym (inv ∙ rw (cut.none h)); goes = tt }
 

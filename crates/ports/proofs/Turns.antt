@@ -3,10 +3,9 @@
 use mathlib.Core.Path.{◌≡◌, refl, ap, ◌∙◌, sym}
 use Prim.Native.Nat.{ℕ, ◌+◌, ◌-◌, ◌<◌, ◌≤◌}
 use native.Mathlib.Omega.{arith}
-use mathlib.Core.Bool.{Bool, true, false, not, ◌||◌}
+use mathlib.Core.Bool.{Bool, true, false, not}
 use mathlib.Core.List.{List, [], ◌∷◌, ◌++◌, append_assoc}
-use mathlib.Core.Option.{Option, none, some}
-use lib.ListN.{length}
+use Rattle.std.specs.Prelude.{Option, None, Some}
 use borrow.Author.Rules.{rules}
 use borrow.Author.Tests.{eq-eqb, ne_eqb, not-true, not-false}
 use Rattle.text.specs.Ascii.{Bytes}
@@ -14,33 +13,26 @@ use Rattle.text.specs.Compare.{same}
 use Rattle.text.specs.Scan.{any}
 use Rattle.fields.specs.Meant.{dims_is, dir_is, kind_is}
 use Rattle.fields.specs.declared.Dims.{Dims}
-use Rattle.fields.specs.declared.Dir.{Dir as Dir·code}
 use Rattle.fields.specs.declared.Kind.{Kind as Kind·code}
 use Rattle.joblines.specs.Job.{Decl}
 use Rattle.joblines.specs.Sections.{with_some, lines_in, gather, decl_here, ports_in, decls_in}
-use Rattle.jobindex.specs.Index.{num, row_at, section, module_row}
-use Rattle.jobindex.specs.declared.Span.{Span}
-use Rattle.design.specs.Lists.{is_in, those}
-use Rattle.design.specs.Ports.{input_ports, is_signal}
+use Rattle.jobindex.specs.Index.{num, row_at, section}
+use Rattle.design.specs.Lists.{is_in}
+use Rattle.design.specs.Ports.{is_signal}
 use Rattle.lines.specs.Cursors.{spanned, Stepped, PortSeen, DeclSeen}
 use Rattle.lines.specs.Steps.{Passed, passed_none, stepped_on, section_two}
 use Rattle.lines.specs.declared.PortAt.{PortAt}
-use Rattle.lines.specs.declared.PortAt.TheVariants as port
 use Rattle.lines.specs.declared.DeclAt.{DeclAt}
-use Rattle.lines.specs.declared.DeclAt.TheVariants as decl
 use Rattle.ports.specs.declared.NameAt.{NameAt}
-use Rattle.ports.specs.declared.NameAt.TheVariants as named
 use Rattle.ports.specs.declared.Cursor.{Cursor}
 use Rattle.ports.specs.declared.Cursor.TheVariants as cursor
 use Rattle.ports.specs.declared.Step.{Step}
-use Rattle.ports.specs.declared.Step.TheVariants as step
 use Rattle.ports.specs.declared.body.Pick.{Pick}
 use Rattle.ports.specs.declared.body.Pick.TheVariants as pick
 use Rattle.ports.specs.Headers.{out_by, outputs_by, others_by, HeaderSeen, OtherSeen}
 use Rattle.ports.specs.Bodies.{pick_is, picked, picked_append, BodySeen}
 use Rattle.ports.specs.Fresh.{fresh, fresh_old, fresh_new, in_append, one_front}
-use Rattle.ports.specs.Cursors.{ports_from, decls_from, decls_end, header_end, headed, bodied, fresh_from, BodyAt, FreshSeen, CursorAt, AmongPorts, outputs_from, signals_from, candidates_from, losable_from, OutputSeen, CandidateSeen, LosableSeen, InputSeen}
-use Rattle.ports.specs.Starts.{inputs_are}
+use Rattle.ports.specs.Cursors.{ports_from, decls_from, decls_end, header_end, headed, bodied, fresh_from, BodyAt, FreshSeen, CursorAt, AmongPorts, outputs_from, signals_from, OutputSeen, CandidateSeen, InputSeen}
 
 -- ---- places
 module _ (job : Bytes) (at i end next : ℕ) (p : Passed job at i) (s : Stepped job i end next) where
@@ -57,29 +49,29 @@ unfolding any
 one_out name n l b e h = rw (← e, h)
 
 -- ---- the next output port of a header
-module _ (job : Bytes) (at end : ℕ) (out : Bool) (i : ℕ) (o : Bool) (inv : outputs_by out (ports_in (section job at end)) ≡ outputs_by o (ports_in (section job i end))) (r : PortAt) (seen : PortSeen job i end r) where
-  pub header_none : r ≡ port.End → HeaderSeen job at end out named.End
+module _ (job : Bytes) (at end : ℕ) (out : Bool) (i : ℕ) (o : Bool) (inv : outputs_by out (ports_in (section job at end)) ≡ outputs_by o (ports_in (section job i end))) where
+  pub header_none : PortSeen job i end None → HeaderSeen job at end out None
   unfolding outputs_by
-  header_none g = record { says = sym (inv ∙ rw (← seen.says, g)); goes = tt }
+  header_none seen = record { says = sym (inv ∙ rw (← seen.says)); goes = tt }
 
-  module _ (d : Dir·code) (n : Span) (next : ℕ) (g : r ≡ port.Port d n next) where
-    on_port : Stepped job i end next
-    on_port = rw g at seen.goes
+  module _ (r : PortAt) (seen : PortSeen job i end (Some r)) where
+    on_port : Stepped job i end r.next
+    on_port = seen.goes
 
-    pub header_less : end - next < end - i
+    pub header_less : end - r.next < end - i
     header_less = omega (arith, on_port.further, on_port.within)
 
-    pub header_passed : Passed job at i → Passed job at next
-    header_passed p = stepped_on job at i next end p on_port
+    pub header_passed : Passed job at i → Passed job at r.next
+    header_passed p = stepped_on job at i r.next end p on_port
 
-    module _ (b : Bool) (eb : b ≡ out_by o (dir_is d)) where
-      pub header_here : Passed job at i → b ≡ true → HeaderSeen job at end out (named.Name n next)
+    module _ (b : Bool) (eb : b ≡ out_by o (dir_is r.dir)) where
+      pub header_here : Passed job at i → b ≡ true → HeaderSeen job at end out (Some (record { name = r.name; next = r.next }))
       unfolding outputs_by
-      header_here p h = record { says = sym (inv ∙ rw (← seen.says, g, ← eb, h)); goes = stepped_from job at i end next p on_port }
+      header_here p h = record { says = sym (inv ∙ rw (← seen.says, ← eb, h)); goes = stepped_from job at i end r.next p on_port }
 
-      pub header_on : b ≡ false → outputs_by out (ports_in (section job at end)) ≡ outputs_by false (ports_in (section job next end))
+      pub header_on : b ≡ false → outputs_by out (ports_in (section job at end)) ≡ outputs_by false (ports_in (section job r.next end))
       unfolding outputs_by
-      header_on h = inv ∙ rw (← seen.says, g, ← eb, h)
+      header_on h = inv ∙ rw (← seen.says, ← eb, h)
 
 pub passed_start : (job : Bytes) (at : ℕ) → Passed job at at
 passed_start job at = passed_none job at
@@ -87,81 +79,50 @@ passed_start job at = passed_none job at
 pub ruleset header_turns = (rules, passed_start, header_none, header_less, header_passed, header_here, header_on)
 
 -- ---- the next other port of a header
-module _ (job : Bytes) (at end i : ℕ) (o : Bool) (inv : others_by false (ports_in (section job at end)) ≡ others_by o (ports_in (section job i end))) (r : PortAt) (seen : PortSeen job i end r) where
-  pub next_none : r ≡ port.End → OtherSeen job at end named.End
+module _ (job : Bytes) (at end i : ℕ) (o : Bool) (inv : others_by false (ports_in (section job at end)) ≡ others_by o (ports_in (section job i end))) where
+  pub next_none : PortSeen job i end None → OtherSeen job at end None
   unfolding others_by
-  next_none g = record { says = sym (inv ∙ rw (← seen.says, g)) }
+  next_none seen = record { says = sym (inv ∙ rw (← seen.says)) }
 
-  module _ (d : Dir·code) (n : Span) (next : ℕ) (g : r ≡ port.Port d n next) where
-    on_next : Stepped job i end next
-    on_next = rw g at seen.goes
+  module _ (r : PortAt) (seen : PortSeen job i end (Some r)) where
+    on_next : Stepped job i end r.next
+    on_next = seen.goes
 
-    pub next_less : end - next < end - i
+    pub next_less : end - r.next < end - i
     next_less = omega (arith, on_next.further, on_next.within)
 
-    module _ (b : Bool) (eb : b ≡ out_by o (dir_is d)) where
-      pub next_here : not b ≡ true → OtherSeen job at end (named.Name n next)
+    module _ (b : Bool) (eb : b ≡ out_by o (dir_is r.dir)) where
+      pub next_here : b ≡ false → OtherSeen job at end (Some (record { name = r.name; next = r.next }))
       unfolding others_by
-      next_here h = record { says = sym (inv ∙ rw (← seen.says, g, ← eb, not-true b h)) }
+      next_here h = record { says = sym (inv ∙ rw (← seen.says, ← eb, h)) }
 
-      pub next_on : not b ≡ false → others_by false (ports_in (section job at end)) ≡ others_by true (ports_in (section job next end))
+      pub next_on : b ≡ true → others_by false (ports_in (section job at end)) ≡ others_by true (ports_in (section job r.next end))
       unfolding others_by
-      next_on h = inv ∙ rw (← seen.says, g, ← eb, not-false b h)
+      next_on h = inv ∙ rw (← seen.says, ← eb, h)
 
 pub ruleset next_turns = (rules, next_none, next_less, next_here, next_on)
 
 -- ---- whether a name is an output port of a header
-module _ (job : Bytes) (at end : ℕ) (name : Bytes) (i : ℕ) (o : Bool) (inv : is_in name (outputs_by false (ports_in (section job at end))) ≡ is_in name (outputs_by o (ports_in (section job i end)))) (r : NameAt) (seen : HeaderSeen job i end o r) where
-  pub output_none : r ≡ named.End → false ≡ is_in name (outputs_by false (ports_in (section job at end)))
+module _ (job : Bytes) (at end : ℕ) (name : Bytes) (i : ℕ) (o : Bool) (inv : is_in name (outputs_by false (ports_in (section job at end))) ≡ is_in name (outputs_by o (ports_in (section job i end)))) where
+  pub output_none : HeaderSeen job i end o None → false ≡ is_in name (outputs_by false (ports_in (section job at end)))
   unfolding any
-  output_none g = sym (inv ∙ rw (← seen.says, g))
+  output_none seen = sym (inv ∙ rw (← seen.says))
 
-  module _ (n : Span) (next : ℕ) (g : r ≡ named.Name n next) where
-    on_output : Stepped job i end next
-    on_output = rw g at seen.goes
+  module _ (r : NameAt) (seen : HeaderSeen job i end o (Some r)) where
+    on_output : Stepped job i end r.next
+    on_output = seen.goes
 
-    pub output_less : end - next < end - i
+    pub output_less : end - r.next < end - i
     output_less = omega (arith, on_output.further, on_output.within)
 
-    module _ (p : Bytes) (ep : p ≡ spanned job n) (b : Bool) (eb : b ≡ same name p) where
+    module _ (p : Bytes) (ep : p ≡ spanned job r.name) (b : Bool) (eb : b ≡ same name p) where
       pub output_here : b ≡ true → true ≡ is_in name (outputs_by false (ports_in (section job at end)))
-      output_here h = sym (inv ∙ rw (← seen.says, g) (sym (one_in name (spanned job n) (outputs_by true (ports_in (section job next end))) b (eb ∙ ap (same name) ep) h)))
+      output_here h = sym (inv ∙ rw (← seen.says) (sym (one_in name (spanned job r.name) (outputs_by true (ports_in (section job r.next end))) b (eb ∙ ap (same name) ep) h)))
 
-      pub output_on : b ≡ false → is_in name (outputs_by false (ports_in (section job at end))) ≡ is_in name (outputs_by true (ports_in (section job next end)))
-      output_on h = inv ∙ rw (← seen.says, g) (one_out name (spanned job n) (outputs_by true (ports_in (section job next end))) b (eb ∙ ap (same name) ep) h)
+      pub output_on : b ≡ false → is_in name (outputs_by false (ports_in (section job at end))) ≡ is_in name (outputs_by true (ports_in (section job r.next end)))
+      output_on h = inv ∙ rw (← seen.says) (one_out name (spanned job r.name) (outputs_by true (ports_in (section job r.next end))) b (eb ∙ ap (same name) ep) h)
 
 pub ruleset output_turns = (rules, output_none, output_less, output_here, output_on)
-
--- ---- whether a name is another port of a header
-module _ (job : Bytes) (at end : ℕ) (name : Bytes) (i : ℕ) (o : Bool) (inv : is_in name (others_by false (ports_in (section job at end))) ≡ is_in name (others_by o (ports_in (section job i end)))) (r : PortAt) (seen : PortSeen job i end r) where
-  pub other_none : r ≡ port.End → false ≡ is_in name (others_by false (ports_in (section job at end)))
-  unfolding any others_by
-  other_none g = sym (inv ∙ rw (← seen.says, g))
-
-  module _ (d : Dir·code) (n : Span) (next : ℕ) (g : r ≡ port.Port d n next) where
-    on_other : Stepped job i end next
-    on_other = rw g at seen.goes
-
-    pub other_less : end - next < end - i
-    other_less = omega (arith, on_other.further, on_other.within)
-
-    module _ (t : Bool) (et : t ≡ out_by o (dir_is d)) where
-      pub other_out : t ≡ true → is_in name (others_by false (ports_in (section job at end))) ≡ is_in name (others_by true (ports_in (section job next end)))
-      unfolding others_by
-      other_out h = inv ∙ rw (← seen.says, g, ← et, h)
-
-      module _ (f : t ≡ false) (p : Bytes) (ep : p ≡ spanned job n) (b : Bool) (eb : b ≡ same name p) where
-        list_is : others_by o (ports_in (section job i end)) ≡ spanned job n ∷ others_by false (ports_in (section job next end))
-        unfolding others_by
-        list_is = rw (← seen.says, g, ← et, f)
-
-        pub other_here : b ≡ true → true ≡ is_in name (others_by false (ports_in (section job at end)))
-        other_here h = sym (inv ∙ rw list_is (sym (one_in name (spanned job n) (others_by false (ports_in (section job next end))) b (eb ∙ ap (same name) ep) h)))
-
-        pub other_on : b ≡ false → is_in name (others_by false (ports_in (section job at end))) ≡ is_in name (others_by false (ports_in (section job next end)))
-        other_on h = inv ∙ rw list_is (one_out name (spanned job n) (others_by false (ports_in (section job next end))) b (eb ∙ ap (same name) ep) h)
-
-pub ruleset other_turns = (rules, other_none, other_less, other_out, other_here, other_on)
 
 -- ---- the next declaration of a kind
 module _ (s : Bool) (k : Kind·code) (es : s ≡ is_signal (kind_is k)) (d : Dims) where
@@ -173,68 +134,53 @@ module _ (s : Bool) (k : Kind·code) (es : s ≡ is_signal (kind_is k)) (d : Dim
 
 pub ruleset pick_cases = (rules, signal_not, signal_is)
 
-module _ (job : Bytes) (at end : ℕ) (p : Pick) (i : ℕ) (inv : picked p (decls_in (section job at end)) ≡ picked p (decls_in (section job i end))) (r : DeclAt) (seen : DeclSeen job i end r) where
-  pub body_none : r ≡ decl.End → BodySeen job at end p named.End
+module _ (job : Bytes) (at end : ℕ) (p : Pick) (i : ℕ) (inv : picked p (decls_in (section job at end)) ≡ picked p (decls_in (section job i end))) where
+  pub body_none : DeclSeen job i end None → BodySeen job at end p None
   unfolding picked
-  body_none g = record { says = sym (inv ∙ rw (← seen.says, g)); goes = tt }
+  body_none seen = record { says = sym (inv ∙ rw (← seen.says)); goes = tt }
 
-  module _ (k : Kind·code) (d : Dims) (n : Span) (next : ℕ) (g : r ≡ decl.Decl k d n next) where
-    on_decl : Stepped job i end next
-    on_decl = rw g at seen.goes
+  module _ (r : DeclAt) (seen : DeclSeen job i end (Some r)) where
+    on_decl : Stepped job i end r.next
+    on_decl = seen.goes
 
-    pub body_less : end - next < end - i
+    pub body_less : end - r.next < end - i
     body_less = omega (arith, on_decl.further, on_decl.within)
 
-    pub body_passed : Passed job at i → Passed job at next
-    body_passed q = stepped_on job at i next end q on_decl
+    pub body_passed : Passed job at i → Passed job at r.next
+    body_passed q = stepped_on job at i r.next end q on_decl
 
-    module _ (b : Bool) (eb : b ≡ pick_is p (kind_is k) (dims_is d)) where
-      pub body_here : Passed job at i → b ≡ true → BodySeen job at end p (named.Name n next)
+    module _ (b : Bool) (eb : b ≡ pick_is p (kind_is r.kind) (dims_is r.dims)) where
+      pub body_here : Passed job at i → b ≡ true → BodySeen job at end p (Some (record { name = r.name; next = r.next }))
       unfolding picked
-      body_here q h = record { says = sym (inv ∙ rw (← seen.says, g, ← eb, h)); goes = stepped_from job at i end next q on_decl }
+      body_here q h = record { says = sym (inv ∙ rw (← seen.says, ← eb, h)); goes = stepped_from job at i end r.next q on_decl }
 
-      pub body_on : b ≡ false → picked p (decls_in (section job at end)) ≡ picked p (decls_in (section job next end))
+      pub body_on : b ≡ false → picked p (decls_in (section job at end)) ≡ picked p (decls_in (section job r.next end))
       unfolding picked
-      body_on h = inv ∙ rw (← seen.says, g, ← eb, h)
+      body_on h = inv ∙ rw (← seen.says, ← eb, h)
 
 pub ruleset body_turns = (rules, passed_start, body_none, body_less, body_passed, body_here, body_on)
 
 -- ---- whether a name is one of a kind
-module _ (job : Bytes) (at end : ℕ) (p : Pick) (name : Bytes) (i : ℕ) (inv : is_in name (picked p (decls_in (section job at end))) ≡ is_in name (picked p (decls_in (section job i end)))) (r : NameAt) (seen : BodySeen job i end p r) where
-  pub of_none : r ≡ named.End → false ≡ is_in name (picked p (decls_in (section job at end)))
+module _ (job : Bytes) (at end : ℕ) (p : Pick) (name : Bytes) (i : ℕ) (inv : is_in name (picked p (decls_in (section job at end))) ≡ is_in name (picked p (decls_in (section job i end)))) where
+  pub of_none : BodySeen job i end p None → false ≡ is_in name (picked p (decls_in (section job at end)))
   unfolding any
-  of_none g = sym (inv ∙ rw (← seen.says, g))
+  of_none seen = sym (inv ∙ rw (← seen.says))
 
-  module _ (n : Span) (next : ℕ) (g : r ≡ named.Name n next) where
-    on_of_lem : Stepped job i end next
-    on_of_lem = rw g at seen.goes
+  module _ (r : NameAt) (seen : BodySeen job i end p (Some r)) where
+    on_of_lem : Stepped job i end r.next
+    on_of_lem = seen.goes
 
-    pub of_less : end - next < end - i
+    pub of_less : end - r.next < end - i
     of_less = omega (arith, on_of_lem.further, on_of_lem.within)
 
-    module _ (q : Bytes) (eq : q ≡ spanned job n) (b : Bool) (eb : b ≡ same name q) where
+    module _ (q : Bytes) (eq : q ≡ spanned job r.name) (b : Bool) (eb : b ≡ same name q) where
       pub of_here : b ≡ true → true ≡ is_in name (picked p (decls_in (section job at end)))
-      of_here h = sym (inv ∙ rw (← seen.says, g) (sym (one_in name (spanned job n) (picked p (decls_in (section job next end))) b (eb ∙ ap (same name) eq) h)))
+      of_here h = sym (inv ∙ rw (← seen.says) (sym (one_in name (spanned job r.name) (picked p (decls_in (section job r.next end))) b (eb ∙ ap (same name) eq) h)))
 
-      pub of_on : b ≡ false → is_in name (picked p (decls_in (section job at end))) ≡ is_in name (picked p (decls_in (section job next end)))
-      of_on h = inv ∙ rw (← seen.says, g) (one_out name (spanned job n) (picked p (decls_in (section job next end))) b (eb ∙ ap (same name) eq) h)
+      pub of_on : b ≡ false → is_in name (picked p (decls_in (section job at end))) ≡ is_in name (picked p (decls_in (section job r.next end)))
+      of_on h = inv ∙ rw (← seen.says) (one_out name (spanned job r.name) (picked p (decls_in (section job r.next end))) b (eb ∙ ap (same name) eq) h)
 
 pub ruleset of_turns = (rules, of_none, of_less, of_here, of_on)
-
--- ---- whether a name is a non-output port of a module
-module _ (job : Bytes) (index : List ℕ) (k : ℕ) (name : Bytes) (p h d e : ℕ) (ep : p ≡ ports_from index k) (eh : h ≡ header_end index k) (b : Bool) (eb : b ≡ is_in name (others_by false (ports_in (section job p h)))) where
-  input_is : is_in name (input_ports (module_row job index k)) ≡ b || is_in name (picked pick.Other (decls_in (section job (decls_from index k) (decls_end index k))))
-  input_is =
-      ap (is_in name) (inputs_are job index k)
-      ∙ (in_append name (others_by false (ports_in (section job (ports_from index k) (header_end index k)))) (picked pick.Other (decls_in (section job (decls_from index k) (decls_end index k)))) ∙ rw (eb, ep, eh))
-
-  pub input_header : b ≡ true → true ≡ is_in name (input_ports (module_row job index k))
-  input_header g = sym (input_is ∙ rw g)
-
-  pub input_body : b ≡ false → d ≡ decls_from index k → e ≡ decls_end index k → (r : Bool) → r ≡ is_in name (picked pick.Other (decls_in (section job d e))) → r ≡ is_in name (input_ports (module_row job index k))
-  input_body g ed ee r er = er ∙ sym (input_is ∙ rw (g, ed, ee))
-
-pub ruleset input_cases = (rules, input_header, input_body)
 
 -- ---- the next new output port of a body
 gather_append : (ls ms : List Bytes) → gather decl_here (ls ++ ms) ≡ gather decl_here ls ++ gather decl_here ms
@@ -243,8 +189,8 @@ gather_append [] ms = refl
 gather_append (l ∷ ls) ms = go (decl_here l) (gather_append ls ms)
   where
     go : (o : Option Decl) → gather decl_here (ls ++ ms) ≡ gather decl_here ls ++ gather decl_here ms → with_some o (gather decl_here (ls ++ ms)) ≡ with_some o (gather decl_here ls) ++ gather decl_here ms
-    go none e = e
-    go (some d) e = ap (λ (l : List Decl). d ∷ l) e
+    go None e = e
+    go (Some d) e = ap (λ (l : List Decl). d ∷ l) e
 
 module _ (job : Bytes) (a b c : ℕ) (p : Passed job a b) (h : b ≤ c) where
   bodied_two : bodied job a c ≡ bodied job a b ++ bodied job b c
@@ -265,61 +211,61 @@ module _ (job : Bytes) (index : List ℕ) (k at p h d e : ℕ) where
   pub going_start : p ≡ ports_from index k → h ≡ header_end index k → d ≡ decls_from index k → e ≡ decls_end index k → BodyAt job index k at → Going job index k at p h d e at
   going_start ep eh ed ee b = record { p_is = ep; h_is = eh; d_is = ed; e_is = ee; body = b; left = refl }
 
-module _ (job : Bytes) (index : List ℕ) (k at p h d e i : ℕ) (inv : Going job index k at p h d e i) (r : NameAt) (seen : BodySeen job i e pick.Output r) where
-  pub fresh_none : r ≡ named.End → FreshSeen job index k at named.End
+module _ (job : Bytes) (index : List ℕ) (k at p h d e i : ℕ) (inv : Going job index k at p h d e i) where
+  pub fresh_none : BodySeen job i e pick.Output None → FreshSeen job index k at None
   unfolding fresh
-  fresh_none g =
-      let l : bodied job i (decls_end index k) ≡ [] = rw (← inv.e_is, ← seen.says, g) in
+  fresh_none seen =
+      let l : bodied job i (decls_end index k) ≡ [] = rw (← inv.e_is, ← seen.says) in
       record { says = sym (inv.left ∙ rw l); goes = tt }
 
-  module _ (n : Span) (next : ℕ) (g : r ≡ named.Name n next) where
-    on_fresh : Stepped job i e next
-    on_fresh = rw g at seen.goes
+  module _ (r : NameAt) (seen : BodySeen job i e pick.Output (Some r)) where
+    on_fresh : Stepped job i e r.next
+    on_fresh = seen.goes
 
-    pub fresh_less : e - next < e - i
+    pub fresh_less : e - r.next < e - i
     fresh_less = omega (arith, on_fresh.further, on_fresh.within)
 
-    fresh_at : BodyAt job index k next
-    fresh_at = stepped_on job (decls_from index k) i next e inv.body on_fresh
+    fresh_at : BodyAt job index k r.next
+    fresh_at = stepped_on job (decls_from index k) i r.next e inv.body on_fresh
 
     abbrev before : List Bytes
     before = headed job index k ++ bodied job (decls_from index k) i
 
-    list_from : bodied job i (decls_end index k) ≡ spanned job n ∷ bodied job next (decls_end index k)
-    list_from = rw (← inv.e_is, ← seen.says, g)
+    list_from : bodied job i (decls_end index k) ≡ spanned job r.name ∷ bodied job r.next (decls_end index k)
+    list_from = rw (← inv.e_is, ← seen.says)
 
-    only : bodied job i next ≡ spanned job n ∷ []
+    only : bodied job i r.next ≡ spanned job r.name ∷ []
     only =
-        let w : Passed job i next = record { from = omega (arith, on_fresh.further); whole = on_fresh.whole } in
-        let v : next ≤ decls_end index k = omega (arith, on_fresh.within, inv.e_is) in
-        one_front (bodied job i next) (bodied job next (decls_end index k)) (spanned job n) (sym (bodied_two job i next (decls_end index k) w v) ∙ list_from)
+        let w : Passed job i r.next = record { from = omega (arith, on_fresh.further); whole = on_fresh.whole } in
+        let v : r.next ≤ decls_end index k = omega (arith, on_fresh.within, inv.e_is) in
+        one_front (bodied job i r.next) (bodied job r.next (decls_end index k)) (spanned job r.name) (sym (bodied_two job i r.next (decls_end index k) w v) ∙ list_from)
 
-    before_next : before ++ (spanned job n ∷ []) ≡ headed job index k ++ bodied job (decls_from index k) next
+    before_next : before ++ (spanned job r.name ∷ []) ≡ headed job index k ++ bodied job (decls_from index k) r.next
     before_next =
-        append_assoc (headed job index k) (bodied job (decls_from index k) i) (spanned job n ∷ [])
-        ∙ ap (λ (l : List Bytes). headed job index k ++ l) (rw (← only) (sym (bodied_two job (decls_from index k) i next inv.body (omega (arith, on_fresh.further)))))
+        append_assoc (headed job index k) (bodied job (decls_from index k) i) (spanned job r.name ∷ [])
+        ∙ ap (λ (l : List Bytes). headed job index k ++ l) (rw (← only) (sym (bodied_two job (decls_from index k) i r.next inv.body (omega (arith, on_fresh.further)))))
 
-    old : is_in (spanned job n) before ≡ true → Going job index k at p h d e next
-    old t = record { p_is = inv.p_is; h_is = inv.h_is; d_is = inv.d_is; e_is = inv.e_is; body = fresh_at; left = inv.left ∙ rw list_from (fresh_old before (spanned job n) (bodied job next (decls_end index k)) t ∙ ap (λ (l : List Bytes). fresh l (bodied job next (decls_end index k))) before_next) }
+    old : is_in (spanned job r.name) before ≡ true → Going job index k at p h d e r.next
+    old t = record { p_is = inv.p_is; h_is = inv.h_is; d_is = inv.d_is; e_is = inv.e_is; body = fresh_at; left = inv.left ∙ rw list_from (fresh_old before (spanned job r.name) (bodied job r.next (decls_end index k)) t ∙ ap (λ (l : List Bytes). fresh l (bodied job r.next (decls_end index k))) before_next) }
 
-    module _ (x : Bytes) (ex : x ≡ spanned job n) (b : Bool) (eb : b ≡ is_in x (outputs_by false (ports_in (section job p h)))) where
-      in_head : is_in (spanned job n) (headed job index k) ≡ b
+    module _ (x : Bytes) (ex : x ≡ spanned job r.name) (b : Bool) (eb : b ≡ is_in x (outputs_by false (ports_in (section job p h)))) where
+      in_head : is_in (spanned job r.name) (headed job index k) ≡ b
       in_head = sym (eb ∙ rw (ex, inv.p_is, inv.h_is))
 
-      pub fresh_headed : b ≡ true → Going job index k at p h d e next
-      fresh_headed f = old (in_append (spanned job n) (headed job index k) (bodied job (decls_from index k) i) ∙ rw (in_head, f))
+      pub fresh_headed : b ≡ true → Going job index k at p h d e r.next
+      fresh_headed f = old (in_append (spanned job r.name) (headed job index k) (bodied job (decls_from index k) i) ∙ rw (in_head, f))
 
       module _ (f : b ≡ false) (c : Bool) (ec : c ≡ is_in x (picked pick.Output (decls_in (section job d i)))) where
-        in_before : is_in (spanned job n) before ≡ c
-        in_before = in_append (spanned job n) (headed job index k) (bodied job (decls_from index k) i) ∙ rw (in_head, f) (sym (ec ∙ rw (ex, inv.d_is)))
+        in_before : is_in (spanned job r.name) before ≡ c
+        in_before = in_append (spanned job r.name) (headed job index k) (bodied job (decls_from index k) i) ∙ rw (in_head, f) (sym (ec ∙ rw (ex, inv.d_is)))
 
-        pub fresh_bodied : c ≡ true → Going job index k at p h d e next
+        pub fresh_bodied : c ≡ true → Going job index k at p h d e r.next
         fresh_bodied t = old (in_before ∙ t)
 
-        pub fresh_here : c ≡ false → FreshSeen job index k at (named.Name n next)
+        pub fresh_here : c ≡ false → FreshSeen job index k at (Some r)
         fresh_here t =
-            let s : fresh_from job index k i ≡ spanned job n ∷ fresh_from job index k next =
-            rw list_from (fresh_new before (spanned job n) (bodied job next (decls_end index k)) (in_before ∙ t) ∙ ap (λ (l : List Bytes). spanned job n ∷ fresh l (bodied job next (decls_end index k))) before_next) in
+            let s : fresh_from job index k i ≡ spanned job r.name ∷ fresh_from job index k r.next =
+            rw list_from (fresh_new before (spanned job r.name) (bodied job r.next (decls_end index k)) (in_before ∙ t) ∙ ap (λ (l : List Bytes). spanned job r.name ∷ fresh l (bodied job r.next (decls_end index k))) before_next) in
             record { says = sym (inv.left ∙ s); goes = fresh_at }
 
 pub ruleset fresh_turns = (rules, going_start, fresh_none, fresh_less, fresh_here)
@@ -329,12 +275,12 @@ pub ruleset fresh_heads = (rules, fresh_headed)
 pub ruleset fresh_bodies = (rules, fresh_bodied)
 
 -- ---- the next output port
-module _ (job : Bytes) (index : List ℕ) (k at : ℕ) (r : NameAt) (seen : FreshSeen job index k at r) where
-  pub fresh_end : r ≡ named.End → OutputSeen job index k (cursor.Body at) step.End
-  fresh_end g = record { says = rw g at seen.says; goes = tt; ports = tt }
+module _ (job : Bytes) (index : List ℕ) (k at : ℕ) where
+  pub fresh_end : FreshSeen job index k at None → OutputSeen job index k (cursor.Body at) None
+  fresh_end seen = record { says = seen.says; goes = tt; ports = tt }
 
-  pub fresh_step : (n : Span) (next : ℕ) → r ≡ named.Name n next → OutputSeen job index k (cursor.Body at) (step.Name n (cursor.Body next))
-  fresh_step n next g = record { says = rw g at seen.says; goes = rw g at seen.goes; ports = tt }
+  pub fresh_step : (r : NameAt) → FreshSeen job index k at (Some r) → OutputSeen job index k (cursor.Body at) (Some (record { name = r.name; next = (cursor.Body r.next) }))
+  fresh_step r seen = record { says = seen.says; goes = seen.goes; ports = tt }
 
 pub ruleset fresh_steps = (rules, fresh_end, fresh_step)
 
@@ -345,62 +291,62 @@ module _ (job : Bytes) (index : List ℕ) (k : ℕ) (c : Cursor) where
   pub body_cursor : (at : ℕ) → c ≡ cursor.Body at → CursorAt job index k c → BodyAt job index k at
   body_cursor at g p = rw g at p
 
-  module _ (at : ℕ) (out : Bool) (g : c ≡ cursor.Header at out) (h : ℕ) (eh : h ≡ header_end index k) (r : NameAt) (seen : HeaderSeen job at h out r) where
-    pub output_first : r ≡ named.End → (d : ℕ) → d ≡ decls_from index k → (q : Step) → OutputSeen job index k (cursor.Body d) q → OutputSeen job index k c q
-    output_first e d ed q s =
-        let l : outputs_by out (ports_in (section job at (header_end index k))) ≡ [] = rw (← eh, ← seen.says, e) in
+  module _ (at : ℕ) (out : Bool) (g : c ≡ cursor.Header at out) (h : ℕ) (eh : h ≡ header_end index k) where
+    pub output_first : HeaderSeen job at h out None → (d : ℕ) → d ≡ decls_from index k → (q : Option Step) → OutputSeen job index k (cursor.Body d) q → OutputSeen job index k c q
+    output_first seen d ed q s =
+        let l : outputs_by out (ports_in (section job at (header_end index k))) ≡ [] = rw (← eh, ← seen.says) in
         rw g (record { says = s.says ∙ rw (ed, l); goes = s.goes; ports = s.ports })
 
-    pub output_header : (n : Span) (next : ℕ) → r ≡ named.Name n next → OutputSeen job index k c (step.Name n (cursor.Header next true))
-    output_header n next e =
-        let l : outputs_by out (ports_in (section job at (header_end index k))) ≡ spanned job n ∷ outputs_by true (ports_in (section job next (header_end index k))) = rw (← eh, ← seen.says, e) in
+    pub output_header : (r : NameAt) → HeaderSeen job at h out (Some r) → OutputSeen job index k c (Some (record { name = r.name; next = (cursor.Header r.next true) }))
+    output_header r seen =
+        let l : outputs_by out (ports_in (section job at (header_end index k))) ≡ spanned job r.name ∷ outputs_by true (ports_in (section job r.next (header_end index k))) = rw (← eh, ← seen.says) in
         rw g (record { says = rw l; goes = tt; ports = tt })
 
-  pub output_body : (at : ℕ) → c ≡ cursor.Body at → (q : Step) → OutputSeen job index k (cursor.Body at) q → OutputSeen job index k c q
+  pub output_body : (at : ℕ) → c ≡ cursor.Body at → (q : Option Step) → OutputSeen job index k (cursor.Body at) q → OutputSeen job index k c q
   output_body at g q s = rw g s
 
-  pub output_signals : (at : ℕ) → c ≡ cursor.Signals at → OutputSeen job index k c step.End
+  pub output_signals : (at : ℕ) → c ≡ cursor.Signals at → OutputSeen job index k c None
   output_signals at g = rw g (record { says = refl; goes = tt; ports = tt })
 
 pub ruleset output_steps = (rules, body_first, body_cursor, output_first, output_header, output_body, output_signals)
 
 -- ---- the next non-output port
-module _ (job : Bytes) (index : List ℕ) (k at e : ℕ) (ee : e ≡ decls_end index k) (r : NameAt) (seen : BodySeen job at e pick.Other r) where
-  pub input_end : r ≡ named.End → InputSeen job index k (cursor.Body at) step.End
-  input_end g = record { says = rw (← ee, ← seen.says, g) }
+module _ (job : Bytes) (index : List ℕ) (k at e : ℕ) (ee : e ≡ decls_end index k) where
+  pub input_end : BodySeen job at e pick.Other None → InputSeen job index k (cursor.Body at) None
+  input_end seen = record { says = rw (← ee, ← seen.says) }
 
-  pub input_step : (n : Span) (next : ℕ) → r ≡ named.Name n next → InputSeen job index k (cursor.Body at) (step.Name n (cursor.Body next))
-  input_step n next g = record { says = rw (← ee, ← seen.says, g) }
+  pub input_step : (r : NameAt) → BodySeen job at e pick.Other (Some r) → InputSeen job index k (cursor.Body at) (Some (record { name = r.name; next = (cursor.Body r.next) }))
+  input_step r seen = record { says = rw (← ee, ← seen.says) }
 
 pub ruleset input_bodies = (rules, input_end, input_step)
 
 module _ (job : Bytes) (index : List ℕ) (k : ℕ) (c : Cursor) where
-  module _ (at : ℕ) (out : Bool) (g : c ≡ cursor.Header at out) (h : ℕ) (eh : h ≡ header_end index k) (r : NameAt) (seen : OtherSeen job at h r) where
-    pub input_first : r ≡ named.End → (d : ℕ) → d ≡ decls_from index k → (q : Step) → InputSeen job index k (cursor.Body d) q → InputSeen job index k c q
-    input_first e d ed q s =
-        let l : others_by false (ports_in (section job at (header_end index k))) ≡ [] = rw (← eh, ← seen.says, e) in
+  module _ (at : ℕ) (out : Bool) (g : c ≡ cursor.Header at out) (h : ℕ) (eh : h ≡ header_end index k) where
+    pub input_first : OtherSeen job at h None → (d : ℕ) → d ≡ decls_from index k → (q : Option Step) → InputSeen job index k (cursor.Body d) q → InputSeen job index k c q
+    input_first seen d ed q s =
+        let l : others_by false (ports_in (section job at (header_end index k))) ≡ [] = rw (← eh, ← seen.says) in
         rw g (record { says = s.says ∙ rw (ed, l) })
 
-    pub input_next : (n : Span) (next : ℕ) → r ≡ named.Name n next → InputSeen job index k c (step.Name n (cursor.Header next false))
-    input_next n next e =
-        let l : others_by false (ports_in (section job at (header_end index k))) ≡ spanned job n ∷ others_by false (ports_in (section job next (header_end index k))) = rw (← eh, ← seen.says, e) in
+    pub input_next : (r : NameAt) → OtherSeen job at h (Some r) → InputSeen job index k c (Some (record { name = r.name; next = (cursor.Header r.next false) }))
+    input_next r seen =
+        let l : others_by false (ports_in (section job at (header_end index k))) ≡ spanned job r.name ∷ others_by false (ports_in (section job r.next (header_end index k))) = rw (← eh, ← seen.says) in
         rw g (record { says = rw l })
 
-  pub input_behind : (at : ℕ) → c ≡ cursor.Body at → (q : Step) → InputSeen job index k (cursor.Body at) q → InputSeen job index k c q
+  pub input_behind : (at : ℕ) → c ≡ cursor.Body at → (q : Option Step) → InputSeen job index k (cursor.Body at) q → InputSeen job index k c q
   input_behind at g q s = rw g s
 
-  pub input_signals : (at : ℕ) → c ≡ cursor.Signals at → InputSeen job index k c step.End
+  pub input_signals : (at : ℕ) → c ≡ cursor.Signals at → InputSeen job index k c None
   input_signals at g = rw g (record { says = refl })
 
 pub ruleset input_steps = (rules, input_first, input_next, input_behind, input_signals)
 
 -- ---- the next candidate
-module _ (job : Bytes) (index : List ℕ) (k at e : ℕ) (ee : e ≡ decls_end index k) (r : NameAt) (seen : BodySeen job at e pick.Signal r) where
-  pub signal_end : r ≡ named.End → CandidateSeen job index k (cursor.Signals at) step.End
-  signal_end g = record { says = rw (← ee, ← seen.says, g); goes = tt }
+module _ (job : Bytes) (index : List ℕ) (k at e : ℕ) (ee : e ≡ decls_end index k) where
+  pub signal_end : BodySeen job at e pick.Signal None → CandidateSeen job index k (cursor.Signals at) None
+  signal_end seen = record { says = rw (← ee, ← seen.says); goes = tt }
 
-  pub signal_step : (n : Span) (next : ℕ) → r ≡ named.Name n next → CandidateSeen job index k (cursor.Signals at) (step.Name n (cursor.Signals next))
-  signal_step n next g = record { says = rw (← ee, ← seen.says, g); goes = tt }
+  pub signal_step : (r : NameAt) → BodySeen job at e pick.Signal (Some r) → CandidateSeen job index k (cursor.Signals at) (Some (record { name = r.name; next = (cursor.Signals r.next) }))
+  signal_step r seen = record { says = rw (← ee, ← seen.says); goes = tt }
 
 pub ruleset signal_steps = (rules, signal_end, signal_step)
 
@@ -409,17 +355,16 @@ signals_among job index k (cursor.Header at out) a = refl
 signals_among job index k (cursor.Body at) a = refl
 signals_among job index k (cursor.Signals at) a = absurd a
 
-module _ (job : Bytes) (index : List ℕ) (k : ℕ) (c : Cursor) (a : AmongPorts c) (r : Step) (seen : OutputSeen job index k c r) where
-  pub candidate_signal : r ≡ step.End → (d : ℕ) → d ≡ decls_from index k → (q : Step) → CandidateSeen job index k (cursor.Signals d) q → CandidateSeen job index k c q
-  candidate_signal g d ed q s =
-      let l : outputs_from job index k c ≡ [] = rw (← seen.says, g) in
+module _ (job : Bytes) (index : List ℕ) (k : ℕ) (c : Cursor) (a : AmongPorts c) where
+  pub candidate_signal : OutputSeen job index k c None → (d : ℕ) → d ≡ decls_from index k → (q : Option Step) → CandidateSeen job index k (cursor.Signals d) q → CandidateSeen job index k c q
+  candidate_signal seen d ed q s =
+      let l : outputs_from job index k c ≡ [] = rw (← seen.says) in
       record { says = s.says ∙ rw (l, signals_among job index k c a, ed); goes = s.goes }
 
-  pub candidate_port : (n : Span) (next : Cursor) → r ≡ step.Name n next → CandidateSeen job index k c (step.Name n next)
-  candidate_port n next g =
-      let l : outputs_from job index k c ≡ spanned job n ∷ outputs_from job index k next = rw (← seen.says, g) in
-      let b : AmongPorts next = rw g at seen.ports in
-      record { says = rw (l, signals_among job index k c a, signals_among job index k next b); goes = rw g at seen.goes }
+  pub candidate_port : (r : Step) → OutputSeen job index k c (Some r) → CandidateSeen job index k c (Some r)
+  candidate_port r seen =
+      let l : outputs_from job index k c ≡ spanned job r.name ∷ outputs_from job index k r.next = rw (← seen.says) in
+      record { says = rw (l, signals_among job index k c a, signals_among job index k r.next seen.ports); goes = seen.goes }
 
 pub ruleset port_steps = (rules, candidate_signal, candidate_port)
 
@@ -430,48 +375,10 @@ module _ (job : Bytes) (index : List ℕ) (k : ℕ) (c : Cursor) where
   pub among_body : (at : ℕ) → c ≡ cursor.Body at → AmongPorts c
   among_body at g = rw g tt
 
-  pub candidate_signals : (at : ℕ) → c ≡ cursor.Signals at → (q : Step) → CandidateSeen job index k (cursor.Signals at) q → CandidateSeen job index k c q
+  pub candidate_signals : (at : ℕ) → c ≡ cursor.Signals at → (q : Option Step) → CandidateSeen job index k (cursor.Signals at) q → CandidateSeen job index k c q
   candidate_signals at g q s = rw g s
 
 pub ruleset candidate_steps = (rules, among_header, among_body, candidate_signals)
-
--- ---- the next name that can be lost
--- from c to `at` none could be lost
-pub record Losing (job : Bytes) (index : List ℕ) (k : ℕ) (c at : Cursor) : Type 0 where
-  pub stands : CursorAt job index k at
-  pub left : losable_from job index k c ≡ losable_from job index k at
-
-pub losing_start : (job : Bytes) (index : List ℕ) (k : ℕ) (c : Cursor) → CursorAt job index k c → Losing job index k c c
-losing_start job index k c s = record { stands = s; left = refl }
-
-module _ (job : Bytes) (index : List ℕ) (k : ℕ) (c at : Cursor) (inv : Losing job index k c at) (r : Step) (seen : CandidateSeen job index k at r) where
-  pub losable_end : r ≡ step.End → LosableSeen job index k c step.End
-  unfolding those
-  losable_end g = record { says = sym (inv.left ∙ rw (← seen.says, g)); goes = tt }
-
-  module _ (n : Span) (next : Cursor) (g : r ≡ step.Name n next) where
-    candidates : candidates_from job index k at ≡ spanned job n ∷ candidates_from job index k next
-    candidates = rw (← seen.says, g)
-
-    pub losable_less : length (candidates_from job index k next) < length (candidates_from job index k at)
-    losable_less = omega (arith, ap length candidates)
-
-    losable_at : CursorAt job index k next
-    losable_at = rw g at seen.goes
-
-    module _ (p : Bytes) (ep : p ≡ spanned job n) (b : Bool) (eb : b ≡ is_in p (input_ports (module_row job index k))) where
-      test_in : is_in (spanned job n) (input_ports (module_row job index k)) ≡ b
-      test_in = sym (eb ∙ ap (λ (q : Bytes). is_in q (input_ports (module_row job index k))) ep)
-
-      pub losable_here : not b ≡ true → LosableSeen job index k c (step.Name n next)
-      unfolding those
-      losable_here h = record { says = sym (inv.left ∙ rw (candidates, test_in, not-true b h)); goes = losable_at }
-
-      pub losable_on : not b ≡ false → Losing job index k c next
-      unfolding those
-      losable_on h = record { stands = losable_at; left = inv.left ∙ rw (candidates, test_in, not-false b h) }
-
-pub ruleset losable_turns = (rules, losing_start, losable_end, losable_less, losable_here, losable_on)
 
 -- ---- where the header ports end
 module _ (index : List ℕ) (k s : ℕ) (es : s ≡ num index (row_at k + 2)) where

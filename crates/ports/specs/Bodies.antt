@@ -1,5 +1,6 @@
 -- The names of declarations, by what is asked for: output ports, other ports, or `net` and `data` without dimensions.
 -- Assumes nothing.
+use Rattle.std.specs.Prelude.{Option, Some, None}
 use Rattle.std.specs.Prelude.{ℕ, ◌≡◌, refl, Bool, true, false, cond, not, ◌&&◌, eqb}
 use Rattle.std.proofs.Common.{ap}
 use mathlib.Core.List.{List, [], ◌∷◌, ◌++◌, map, flat_map}
@@ -12,7 +13,6 @@ use Rattle.design.specs.Lists.{those}
 use Rattle.design.specs.Ports.{body_ports, is_output, outputs, others, is_signal, signals}
 use Rattle.lines.specs.Cursors.{spanned}
 use Rattle.ports.specs.declared.NameAt.{NameAt}
-use Rattle.ports.specs.declared.NameAt.TheVariants as name
 use Rattle.ports.specs.declared.body.Pick.{Pick}
 use Rattle.ports.specs.declared.body.Pick.TheVariants as pick
 use Rattle.ports.specs.Headers.{NameOn}
@@ -94,10 +94,10 @@ picked_append p (d ∷ xs) ys = go (pick_is p d.kind d.dims) (picked_append p xs
     go false e = e
 
 -- ---- a step along them
-abbrev pub body_left : Bytes → ℕ → Pick → NameAt → List Bytes
-body_left job end p name.End = []
-body_left job end p (name.Name n next) = spanned job n ∷ picked p (decls_in (section job next end))
+abbrev pub body_left : Bytes → ℕ → Pick → Option NameAt → List Bytes
+body_left job end p None = []
+body_left job end p (Some r) = spanned job r.name ∷ picked p (decls_in (section job r.next end))
 
-pub record BodySeen (job : Bytes) (at end : ℕ) (p : Pick) (r : NameAt) : Type 0 where
+pub record BodySeen (job : Bytes) (at end : ℕ) (p : Pick) (r : Option NameAt) : Type 0 where
   pub says : body_left job end p r ≡ picked p (decls_in (section job at end))
   pub goes : NameOn job at end r

@@ -1,5 +1,6 @@
 -- The names of a module that come behind a cursor.
 -- Assumes nothing.
+use Rattle.std.specs.Prelude.{Option, Some, None}
 use Rattle.std.specs.Prelude.{ℕ, ◌+◌, ◌≡◌, false, cond, not, List, [], ◌∷◌, ◌++◌, eqb}
 use Rattle.text.specs.Ascii.{Bytes}
 use Rattle.joblines.specs.Sections.{ports_in, decls_in}
@@ -9,11 +10,9 @@ use Rattle.design.specs.Ports.{input_ports}
 use Rattle.lines.specs.Cursors.{spanned}
 use Rattle.lines.specs.Steps.{Passed}
 use Rattle.ports.specs.declared.NameAt.{NameAt}
-use Rattle.ports.specs.declared.NameAt.TheVariants as name
 use Rattle.ports.specs.declared.Cursor.{Cursor}
 use Rattle.ports.specs.declared.Cursor.TheVariants as cursor
 use Rattle.ports.specs.declared.Step.{Step}
-use Rattle.ports.specs.declared.Step.TheVariants as step
 use Rattle.ports.specs.declared.body.Pick.TheVariants as pick
 use Rattle.ports.specs.Headers.{outputs_by, others_by}
 use Rattle.ports.specs.Bodies.{picked}
@@ -48,15 +47,15 @@ fresh_from job index k at = fresh (headed job index k ++ bodied job (decls_from 
 abbrev pub BodyAt : Bytes → List ℕ → ℕ → ℕ → Type 0
 BodyAt job index k at = Passed job (decls_from index k) at
 
-abbrev pub fresh_left : Bytes → List ℕ → ℕ → NameAt → List Bytes
-fresh_left job index k name.End = []
-fresh_left job index k (name.Name n next) = spanned job n ∷ fresh_from job index k next
+abbrev pub fresh_left : Bytes → List ℕ → ℕ → Option NameAt → List Bytes
+fresh_left job index k None = []
+fresh_left job index k (Some r) = spanned job r.name ∷ fresh_from job index k r.next
 
-abbrev pub BodyOn : Bytes → List ℕ → ℕ → NameAt → Type 0
-BodyOn job index k name.End = Unit {0}
-BodyOn job index k (name.Name n next) = BodyAt job index k next
+abbrev pub BodyOn : Bytes → List ℕ → ℕ → Option NameAt → Type 0
+BodyOn job index k None = Unit {0}
+BodyOn job index k (Some r) = BodyAt job index k r.next
 
-pub record FreshSeen (job : Bytes) (index : List ℕ) (k at : ℕ) (r : NameAt) : Type 0 where
+pub record FreshSeen (job : Bytes) (index : List ℕ) (k at : ℕ) (r : Option NameAt) : Type 0 where
   pub says : fresh_left job index k r ≡ fresh_from job index k at
   pub goes : BodyOn job index k r
 
@@ -98,31 +97,31 @@ AmongPorts (cursor.Body at) = Unit {0}
 AmongPorts (cursor.Signals at) = ⊥
 
 -- ---- a step: the names behind the cursor are none, or the step's name and those behind its cursor
-abbrev pub stepped : Bytes → (Cursor → List Bytes) → Step → List Bytes
-stepped job from step.End = []
-stepped job from (step.Name n c) = spanned job n ∷ from c
+abbrev pub stepped : Bytes → (Cursor → List Bytes) → Option Step → List Bytes
+stepped job from None = []
+stepped job from (Some r) = spanned job r.name ∷ from r.next
 
-abbrev pub StepOn : Bytes → List ℕ → ℕ → Step → Type 0
-StepOn job index k step.End = Unit {0}
-StepOn job index k (step.Name n c) = CursorAt job index k c
+abbrev pub StepOn : Bytes → List ℕ → ℕ → Option Step → Type 0
+StepOn job index k None = Unit {0}
+StepOn job index k (Some r) = CursorAt job index k r.next
 
 -- an output port's cursor is among the ports
-abbrev pub StepPorts : Step → Type 0
-StepPorts step.End = Unit {0}
-StepPorts (step.Name n c) = AmongPorts c
+abbrev pub StepPorts : Option Step → Type 0
+StepPorts None = Unit {0}
+StepPorts (Some r) = AmongPorts r.next
 
-pub record OutputSeen (job : Bytes) (index : List ℕ) (k : ℕ) (c : Cursor) (r : Step) : Type 0 where
+pub record OutputSeen (job : Bytes) (index : List ℕ) (k : ℕ) (c : Cursor) (r : Option Step) : Type 0 where
   pub says : stepped job (outputs_from job index k) r ≡ outputs_from job index k c
   pub goes : StepOn job index k r
   pub ports : StepPorts r
 
-pub record CandidateSeen (job : Bytes) (index : List ℕ) (k : ℕ) (c : Cursor) (r : Step) : Type 0 where
+pub record CandidateSeen (job : Bytes) (index : List ℕ) (k : ℕ) (c : Cursor) (r : Option Step) : Type 0 where
   pub says : stepped job (candidates_from job index k) r ≡ candidates_from job index k c
   pub goes : StepOn job index k r
 
-pub record LosableSeen (job : Bytes) (index : List ℕ) (k : ℕ) (c : Cursor) (r : Step) : Type 0 where
+pub record LosableSeen (job : Bytes) (index : List ℕ) (k : ℕ) (c : Cursor) (r : Option Step) : Type 0 where
   pub says : stepped job (losable_from job index k) r ≡ losable_from job index k c
   pub goes : StepOn job index k r
 
-pub record InputSeen (job : Bytes) (index : List ℕ) (k : ℕ) (c : Cursor) (r : Step) : Type 0 where
+pub record InputSeen (job : Bytes) (index : List ℕ) (k : ℕ) (c : Cursor) (r : Option Step) : Type 0 where
   pub says : stepped job (inputs_from job index k) r ≡ inputs_from job index k c

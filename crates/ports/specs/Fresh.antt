@@ -1,6 +1,6 @@
 -- The names of a list that are new behind others: what adding each of them leaves behind what was there.
 -- Assumes nothing.
-use Rattle.std.specs.Prelude.{◌+◌, ◌≡◌, refl, Bool, true, false, cond, ◌||◌, List, [], ◌∷◌, ◌++◌, length}
+use Rattle.std.specs.Prelude.{◌≡◌, refl, Bool, true, false, cond, ◌||◌, List, [], ◌∷◌, ◌++◌, length}
 use Rattle.std.proofs.Common.{ap, ◌∙◌, sym, arith, append_assoc, append-nil, length-append}
 use Rattle.std.proofs.Math.Bool.{or-false}
 use Rattle.text.specs.Ascii.{Bytes}

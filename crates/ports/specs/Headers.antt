@@ -1,6 +1,7 @@
 -- The output ports of a header and all others, as they come line by line: all that counts of the last direction is whether it is output.
 -- Assumes nothing.
-use Rattle.std.specs.Prelude.{ℕ, ◌≡◌, refl, Bool, true, false, cond, not, List, [], ◌∷◌}
+use Rattle.std.specs.Prelude.{Option, Some, None}
+use Rattle.std.specs.Prelude.{ℕ, ◌≡◌, refl, Bool, true, false, cond, List, [], ◌∷◌}
 use Rattle.std.proofs.Common.{ap, ◌∙◌}
 use Rattle.text.specs.Ascii.{Bytes}
 use Rattle.fields.specs.Fields.{Dir}
@@ -12,7 +13,6 @@ use Rattle.design.specs.Lists.{those}
 use Rattle.design.specs.Ports.{taken, directed, is_output, outputs, others}
 use Rattle.lines.specs.Cursors.{spanned, Stepped}
 use Rattle.ports.specs.declared.NameAt.{NameAt}
-use Rattle.ports.specs.declared.NameAt.TheVariants as name
 
 -- a port is an output, behind one that is or is not
 abbrev pub out_by : Bool → Dir → Bool
@@ -55,22 +55,22 @@ others_by_lem last (p ∷ ps) = go (out_by (is_output last) p.dir) (out_taken la
     go false e f = rw e (ap (λ (l : List Bytes). p.name ∷ l) (f ∙ ap (λ b. others_by b ps) e))
 
 -- ---- a step along them
-abbrev pub header_left : Bytes → ℕ → NameAt → List Bytes
-header_left job end name.End = []
-header_left job end (name.Name n next) = spanned job n ∷ outputs_by true (ports_in (section job next end))
+abbrev pub header_left : Bytes → ℕ → Option NameAt → List Bytes
+header_left job end None = []
+header_left job end (Some r) = spanned job r.name ∷ outputs_by true (ports_in (section job r.next end))
 
-abbrev pub NameOn : Bytes → ℕ → ℕ → NameAt → Type 0
-NameOn job at end name.End = Unit {0}
-NameOn job at end (name.Name n next) = Stepped job at end next
+abbrev pub NameOn : Bytes → ℕ → ℕ → Option NameAt → Type 0
+NameOn job at end None = Unit {0}
+NameOn job at end (Some r) = Stepped job at end r.next
 
-pub record HeaderSeen (job : Bytes) (at end : ℕ) (out : Bool) (r : NameAt) : Type 0 where
+pub record HeaderSeen (job : Bytes) (at end : ℕ) (out : Bool) (r : Option NameAt) : Type 0 where
   pub says : header_left job end r ≡ outputs_by out (ports_in (section job at end))
   pub goes : NameOn job at end r
 
 -- ---- a step along the others: behind one of them the last direction is not output
-abbrev pub other_left : Bytes → ℕ → NameAt → List Bytes
-other_left job end name.End = []
-other_left job end (name.Name n next) = spanned job n ∷ others_by false (ports_in (section job next end))
+abbrev pub other_left : Bytes → ℕ → Option NameAt → List Bytes
+other_left job end None = []
+other_left job end (Some r) = spanned job r.name ∷ others_by false (ports_in (section job r.next end))
 
-pub record OtherSeen (job : Bytes) (at end : ℕ) (r : NameAt) : Type 0 where
+pub record OtherSeen (job : Bytes) (at end : ℕ) (r : Option NameAt) : Type 0 where
   pub says : other_left job end r ≡ others_by false (ports_in (section job at end))

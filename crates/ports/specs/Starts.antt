@@ -1,6 +1,6 @@
 -- Laws: what is behind the first cursor of a module's row is what the definitions list of the module.
 -- Assumes nothing.
-use Rattle.std.specs.Prelude.{ℕ, ◌+◌, ◌-◌, ◌≡◌, Bool, cond, not, List, [], ◌++◌, eqb}
+use Rattle.std.specs.Prelude.{ℕ, ◌+◌, ◌≡◌, Bool, cond, not, List, [], ◌++◌, eqb}
 use Rattle.std.proofs.Common.{arith, ap, ap₂, ◌∙◌, sym, append-nil}
 use Rattle.std.proofs.Math.Path.{refl}
 use Rattle.std.proofs.Math.Bool.{true, false}

@@ -9,7 +9,6 @@ ghost use Rattle.ports.specs.Bodies.{body_out, body_other, is_off, pick_is, pick
 
 use super::NameAt;
 use fields::{Dims, Kind};
-use lines::DeclAt;
 
 // Which declarations: output ports, other ports, or `net` and `data` without dimensions.
 #[derive(Clone, Copy)]
@@ -23,97 +22,65 @@ pub enum Pick {
 fn is_out(kind: Kind) -> bool
     ensures { result ≡ body_out (kind_is kind) }
 {
-    match kind {
-        Kind::Net => false,
-        Kind::Data => false,
-        Kind::Odd => false,
-        Kind::In => false,
-        Kind::Out => true,
-        Kind::Inout => false,
-        Kind::Ref => false,
-        Kind::Bad => false,
-    }
+    matches!(kind, Kind::Out)
 }
 
 // Whether it is any other port.
 fn is_port(kind: Kind) -> bool
     ensures { result ≡ body_other (kind_is kind) }
 {
-    match kind {
-        Kind::Net => false,
-        Kind::Data => false,
-        Kind::Odd => false,
-        Kind::In => true,
-        Kind::Out => false,
-        Kind::Inout => true,
-        Kind::Ref => true,
-        Kind::Bad => false,
-    }
+    matches!(kind, Kind::In | Kind::Inout | Kind::Ref)
 }
 
 // Whether it is `net` or `data`.
 fn is_signal(kind: Kind) -> bool
     ensures { result ≡ is_signal (kind_is kind) }
 {
-    match kind {
-        Kind::Net => true,
-        Kind::Data => true,
-        Kind::Odd => false,
-        Kind::In => false,
-        Kind::Out => false,
-        Kind::Inout => false,
-        Kind::Ref => false,
-        Kind::Bad => false,
-    }
+    matches!(kind, Kind::Net | Kind::Data)
 }
 
 // Whether a D is 0.
 fn is_plain(dims: Dims) -> bool
     ensures { result ≡ not (dims_is dims) }
 {
-    match dims {
-        Dims::Zero => true,
-        Dims::One => false,
-        Dims::Bad => true,
-    }
+    !matches!(dims, Dims::One)
 }
 
 // Whether a declaration is of the kind asked for.
+#[tactic(auto, using(crate::proofs::Turns::pick_cases))]
 fn picks(pick: Pick, kind: Kind, dims: Dims) -> bool
     ensures { result ≡ pick_is pick (kind_is kind) (dims_is dims) }
 {
     match pick {
         Pick::Output => is_out(kind),
         Pick::Other => is_port(kind),
-        Pick::Signal => {
-            if !is_signal(kind) {
-                return false;
-            }
-            is_plain(dims)
-        }
+        Pick::Signal => is_signal(kind) && is_plain(dims),
     }
 }
 
 // Whether no declaration whose value begins with b is of the kind asked for.
+#[tactic(auto, using(crate::proofs::Firsts::offs))]
 fn is_off(pick: Pick, b: u8) -> bool
     ensures { result ≡ is_off pick b }
 {
     match pick {
         Pick::Output => b != b'o',
-        Pick::Other => (b != b'i') & (b != b'r'),
-        Pick::Signal => (b != b'n') & (b != b'd'),
+        Pick::Other => b != b'i' && b != b'r',
+        Pick::Signal => b != b'n' && b != b'd',
     }
 }
 
 // The first byte of the value of a declaration line that begins at i.
+#[tactic(auto, using(crate::proofs::Firsts::offs))]
 fn value_byte(job: &[u8], i: usize) -> u8
     ensures { result ≡ get_or (drop i job.now) 5 0 }
 {
     text::part::peek(text::part::rest(job, i), 5)
 }
 
-// The next name of the kind.
-pub fn next_of(job: &[u8], at: usize, end: usize, pick: Pick) -> NameAt
+// The next name of the kind. A loop and no iterator over declarations: a line that cannot be one of the kind is known by a byte and not read.
+#[tactic(auto, using(crate::proofs::Turns::body_turns, crate::proofs::Firsts::off_turns))]
+pub fn next_of(job: &[u8], at: usize, end: usize, pick: Pick) -> Option<NameAt>
     ensures { BodySeen job.now at end pick result }
 {
     let mut i = at;
@@ -121,41 +88,33 @@ pub fn next_of(job: &[u8], at: usize, end: usize, pick: Pick) -> NameAt
         if is_off(pick, value_byte(job, i)) {
             let e = lines::line_end(job, i, end);
             if end <= e {
-                return NameAt::End;
+                return None;
             }
             i = e + 1;
             continue;
         }
-        let r = lines::next_decl(job, i, end);
-        let DeclAt::Decl {
-            kind,
-            dims,
-            name,
-            next,
-        } = r
-        else {
-            return NameAt::End;
-        };
-        if picks(pick, kind, dims) {
-            return NameAt::Name { name, next };
+        let decl = lines::next_decl(job, i, end)?;
+        if picks(pick, decl.kind, decl.dims) {
+            return Some(NameAt {
+                name: decl.name,
+                next: decl.next,
+            });
         }
-        i = next;
+        i = decl.next;
     }
 }
 
 // Whether a name is one of the kind.
+#[tactic(auto, using(crate::proofs::Turns::of_turns))]
 pub fn is_of(job: &[u8], at: usize, end: usize, pick: Pick, name: &[u8]) -> bool
     ensures { result ≡ is_in name.now (picked pick (decls_in (section job.now at end))) }
 {
     let mut i = at;
-    loop {
-        let r = next_of(job, i, end, pick);
-        let NameAt::Name { name: own, next } = r else {
-            return false;
-        };
-        if text::compare::same(name, lines::part_of(job, own)) {
+    while let Some(own) = next_of(job, i, end, pick) {
+        if text::compare::same(name, lines::part_of(job, own.name)) {
             return true;
         }
-        i = next;
+        i = own.next;
     }
+    false
 }

@@ -8,75 +8,72 @@ ghost use Rattle.ports.specs.Headers.{out_by, outputs_by, HeaderSeen, OtherSeen}
 
 use super::NameAt;
 use fields::Dir;
-use lines::PortAt;
 
 // Whether a port is an output, behind one that is (`out`) or is not.
 fn outward(out: bool, dir: Dir) -> bool
     ensures { result ≡ out_by out (dir_is dir) }
 {
     match dir {
-        Dir::In => false,
+        Dir::In | Dir::Inout | Dir::Ref => false,
         Dir::Out => true,
-        Dir::Inout => false,
-        Dir::Ref => false,
-        Dir::None => out,
-        Dir::Bad => out,
+        Dir::None | Dir::Bad => out,
     }
 }
 
 // The next output port.
-pub fn next_output(job: &[u8], at: usize, end: usize, out: bool) -> NameAt
+#[tactic(auto, using(crate::proofs::Turns::header_turns))]
+pub fn next_output(job: &[u8], at: usize, end: usize, out: bool) -> Option<NameAt>
     ensures { HeaderSeen job.now at end out result }
 {
     let mut i = at;
     let mut o = out;
-    loop {
-        let r = lines::next_port(job, i, end);
-        let PortAt::Port { dir, name, next } = r else {
-            return NameAt::End;
-        };
-        if outward(o, dir) {
-            return NameAt::Name { name, next };
+    while let Some(port) = lines::next_port(job, i, end) {
+        if outward(o, port.dir) {
+            return Some(NameAt {
+                name: port.name,
+                next: port.next,
+            });
         }
-        i = next;
+        i = port.next;
         o = false;
     }
+    None
 }
 
-// The next port that is no output, from the first line or from behind such a port.
-pub fn next_other(job: &[u8], at: usize, end: usize) -> NameAt
+// The next port that is no output, from the first line or from behind such a port. Where its line is goes unsaid, so that one function for this
+// and for `next_output` would promise less of outputs or be no plainer.
+#[tactic(auto, using(crate::proofs::Turns::next_turns))]
+pub fn next_other(job: &[u8], at: usize, end: usize) -> Option<NameAt>
     ensures { OtherSeen job.now at end result }
 {
     let mut i = at;
     let mut o = false;
-    loop {
-        let r = lines::next_port(job, i, end);
-        let PortAt::Port { dir, name, next } = r else {
-            return NameAt::End;
-        };
-        if !outward(o, dir) {
-            return NameAt::Name { name, next };
+    while let Some(port) = lines::next_port(job, i, end) {
+        if !outward(o, port.dir) {
+            return Some(NameAt {
+                name: port.name,
+                next: port.next,
+            });
         }
-        i = next;
+        i = port.next;
         o = true;
     }
+    None
 }
 
 // Whether a name is an output port.
+#[tactic(auto, using(crate::proofs::Turns::output_turns))]
 pub fn is_output(job: &[u8], at: usize, end: usize, name: &[u8]) -> bool
     ensures { result ≡ is_in name.now (outputs_by Bool.false (ports_in (section job.now at end))) }
 {
     let mut i = at;
     let mut o = false;
-    loop {
-        let r = next_output(job, i, end, o);
-        let NameAt::Name { name: own, next } = r else {
-            return false;
-        };
-        if text::compare::same(name, lines::part_of(job, own)) {
+    while let Some(port) = next_output(job, i, end, o) {
+        if text::compare::same(name, lines::part_of(job, port.name)) {
             return true;
         }
-        i = next;
+        i = port.next;
         o = true;
     }
+    false
 }

@@ -14,9 +14,9 @@ pub mod header;
 
 // A name, and where the next one is looked for.
 #[derive(Clone, Copy)]
-pub enum NameAt {
-    End,
-    Name { name: Span, next: usize },
+pub struct NameAt {
+    pub name: Span,
+    pub next: usize,
 }
 
 // Where the next name of a module is looked for: in the header (`out`: the last direction is output), among the body ports, among the
@@ -30,9 +30,9 @@ pub enum Cursor {
 
 // A name, and the cursor behind it.
 #[derive(Clone, Copy)]
-pub enum Step {
-    End,
-    Name { name: Span, next: Cursor },
+pub struct Step {
+    pub name: Span,
+    pub next: Cursor,
 }
 
 // Where the port lines of module k begin.
@@ -44,6 +44,7 @@ fn ports_from(index: &[u32], k: usize) -> usize
 }
 
 // Where the header ports of module k end: only style ansi has any.
+#[tactic(auto, using(crate::proofs::Turns::head_cases))]
 fn header_end(index: &[u32], k: usize) -> usize
     requires { k ≤ 128 }
     ensures { result ≡ header_end index.now k }
@@ -71,7 +72,8 @@ fn decls_end(index: &[u32], k: usize) -> usize
 }
 
 // The next body port of module k that is an output and stands neither in the header nor before `at` in the body.
-fn next_fresh(job: &[u8], index: &[u32], k: usize, at: usize) -> NameAt
+#[tactic(auto, using(crate::proofs::Turns::fresh_turns))]
+fn next_fresh(job: &[u8], index: &[u32], k: usize, at: usize) -> Option<NameAt>
     requires { (k ≤ 128) × BodyAt job.now index.now k at }
     ensures { FreshSeen job.now index.now k at result }
 {
@@ -80,22 +82,19 @@ fn next_fresh(job: &[u8], index: &[u32], k: usize, at: usize) -> NameAt
     let d = decls_from(index, k);
     let e = decls_end(index, k);
     let mut i = at;
-    loop {
-        let r = body::next_of(job, i, e, Pick::Output);
-        let NameAt::Name { name, next } = r else {
-            return NameAt::End;
-        };
-        let n = lines::part_of(job, name);
+    while let Some(own) = body::next_of(job, i, e, Pick::Output) {
+        let n = lines::part_of(job, own.name);
         if header::is_output(job, p, h, n) {
-            i = next;
+            i = own.next;
             continue;
         }
         if body::is_of(job, d, i, Pick::Output, n) {
-            i = next;
+            i = own.next;
             continue;
         }
-        return NameAt::Name { name, next };
+        return Some(own);
     }
+    None
 }
 
 // Before the first name of module k.
@@ -110,122 +109,110 @@ pub fn first(index: &[u32], k: usize) -> Cursor
 }
 
 // The next output port among the body ports.
-fn body_output(job: &[u8], index: &[u32], k: usize, at: usize) -> Step
+#[tactic(auto, using(crate::proofs::Turns::fresh_steps))]
+fn body_output(job: &[u8], index: &[u32], k: usize, at: usize) -> Option<Step>
     requires { (k ≤ 128) × BodyAt job.now index.now k at }
     ensures { OutputSeen job.now index.now k (cursor.Body at) result }
 {
-    let r = next_fresh(job, index, k, at);
-    match r {
-        NameAt::End => Step::End,
-        NameAt::Name { name, next } => Step::Name {
-            name,
-            next: Cursor::Body { at: next },
-        },
-    }
+    let own = next_fresh(job, index, k, at)?;
+    Some(Step {
+        name: own.name,
+        next: Cursor::Body { at: own.next },
+    })
 }
 
 // The next output port of module k: those of the header, then the new ones of the body.
-pub fn next_output(job: &[u8], index: &[u32], k: usize, c: Cursor) -> Step
+#[tactic(auto, using(crate::proofs::Turns::output_steps))]
+pub fn next_output(job: &[u8], index: &[u32], k: usize, c: Cursor) -> Option<Step>
     requires { (k ≤ 128) × CursorAt job.now index.now k c }
     ensures { OutputSeen job.now index.now k c result }
 {
     match c {
         Cursor::Header { at, out } => {
-            let h = header_end(index, k);
-            let r = header::next_output(job, at, h, out);
-            match r {
-                NameAt::End => body_output(job, index, k, decls_from(index, k)),
-                NameAt::Name { name, next } => Step::Name {
-                    name,
+            match header::next_output(job, at, header_end(index, k), out) {
+                None => body_output(job, index, k, decls_from(index, k)),
+                Some(own) => Some(Step {
+                    name: own.name,
                     next: Cursor::Header {
-                        at: next,
+                        at: own.next,
                         out: true,
                     },
-                },
+                }),
             }
         }
         Cursor::Body { at } => body_output(job, index, k, at),
-        Cursor::Signals { at: _ } => Step::End,
+        Cursor::Signals { .. } => None,
     }
 }
 
 // The next `net` or `data` name of module k without dimensions, from a declaration on.
-fn next_signal(job: &[u8], index: &[u32], k: usize, at: usize) -> Step
+#[tactic(auto, using(crate::proofs::Turns::signal_steps))]
+fn next_signal(job: &[u8], index: &[u32], k: usize, at: usize) -> Option<Step>
     requires { k ≤ 128 }
     ensures { CandidateSeen job.now index.now k (cursor.Signals at) result }
 {
-    let e = decls_end(index, k);
-    let r = body::next_of(job, at, e, Pick::Signal);
-    match r {
-        NameAt::End => Step::End,
-        NameAt::Name { name, next } => Step::Name {
-            name,
-            next: Cursor::Signals { at: next },
-        },
-    }
+    let own = body::next_of(job, at, decls_end(index, k), Pick::Signal)?;
+    Some(Step {
+        name: own.name,
+        next: Cursor::Signals { at: own.next },
+    })
 }
 
 // The next output port or signal of module k.
-pub fn next_candidate(job: &[u8], index: &[u32], k: usize, c: Cursor) -> Step
+#[tactic(auto, using(crate::proofs::Turns::candidate_steps))]
+pub fn next_candidate(job: &[u8], index: &[u32], k: usize, c: Cursor) -> Option<Step>
     requires { (k ≤ 128) × CursorAt job.now index.now k c }
     ensures { CandidateSeen job.now index.now k c result }
 {
     match c {
         Cursor::Signals { at } => next_signal(job, index, k, at),
-        Cursor::Header { at: _, out: _ } => next_or_signal(job, index, k, c),
-        Cursor::Body { at: _ } => next_or_signal(job, index, k, c),
+        Cursor::Header { .. } | Cursor::Body { .. } => next_or_signal(job, index, k, c),
     }
 }
 
 // The next output port of module k from a cursor among its ports; its first signal where there is none.
-fn next_or_signal(job: &[u8], index: &[u32], k: usize, c: Cursor) -> Step
+#[tactic(auto, using(crate::proofs::Turns::port_steps))]
+fn next_or_signal(job: &[u8], index: &[u32], k: usize, c: Cursor) -> Option<Step>
     requires { (k ≤ 128) × (CursorAt job.now index.now k c × AmongPorts c) }
     ensures { CandidateSeen job.now index.now k c result }
 {
-    let r = next_output(job, index, k, c);
-    match r {
-        Step::End => next_signal(job, index, k, decls_from(index, k)),
-        Step::Name { name, next } => Step::Name { name, next },
+    match next_output(job, index, k, c) {
+        None => next_signal(job, index, k, decls_from(index, k)),
+        Some(own) => Some(own),
     }
 }
 
 // The next non-output port among the body ports.
-fn body_input(job: &[u8], index: &[u32], k: usize, at: usize) -> Step
+#[tactic(auto, using(crate::proofs::Turns::input_bodies))]
+fn body_input(job: &[u8], index: &[u32], k: usize, at: usize) -> Option<Step>
     requires { k ≤ 128 }
     ensures { InputSeen job.now index.now k (cursor.Body at) result }
 {
-    let e = decls_end(index, k);
-    let r = body::next_of(job, at, e, Pick::Other);
-    match r {
-        NameAt::End => Step::End,
-        NameAt::Name { name, next } => Step::Name {
-            name,
-            next: Cursor::Body { at: next },
-        },
-    }
+    let own = body::next_of(job, at, decls_end(index, k), Pick::Other)?;
+    Some(Step {
+        name: own.name,
+        next: Cursor::Body { at: own.next },
+    })
 }
 
 // The next non-output port of module k, header and body, from the first cursor or one that this function gave.
-pub fn next_input(job: &[u8], index: &[u32], k: usize, c: Cursor) -> Step
+#[tactic(auto, using(crate::proofs::Turns::input_steps))]
+pub fn next_input(job: &[u8], index: &[u32], k: usize, c: Cursor) -> Option<Step>
     requires { k ≤ 128 }
     ensures { InputSeen job.now index.now k c result }
 {
     match c {
-        Cursor::Header { at, out: _ } => {
-            let h = header_end(index, k);
-            let r = header::next_other(job, at, h);
-            match r {
-                NameAt::End => body_input(job, index, k, decls_from(index, k)),
-                NameAt::Name { name, next } => Step::Name {
-                    name,
-                    next: Cursor::Header {
-                        at: next,
-                        out: false,
-                    },
+        Cursor::Header { at, .. } => match header::next_other(job, at, header_end(index, k)) {
+            None => body_input(job, index, k, decls_from(index, k)),
+            Some(own) => Some(Step {
+                name: own.name,
+                next: Cursor::Header {
+                    at: own.next,
+                    out: false,
                 },
-            }
-        }
+            }),
+        },
         Cursor::Body { at } => body_input(job, index, k, at),
-        Cursor::Signals { at: _ } => Step::End,
+        Cursor::Signals { .. } => None,
     }
 }

@@ -1,4 +1,6 @@
 -- Whether a port before is of a strategy like this one: laws as the needs ask them. Assumes nothing.
+use Rattle.store.specs.declared.state.Few.{Few}
+use Rattle.store.specs.declared.state.Isolation.{Isolation}
 use Prim.Native.Nat.{ℕ, suc, ◌+◌, ◌-◌, ◌≤◌, ◌<◌}
 use native.Mathlib.Omega.{arith}
 use mathlib.Core.Path.{◌≡◌, refl, sym, ap, ◌∙◌}
@@ -8,7 +10,6 @@ use borrow.Author.Rules.{rules}
 use Rattle.text.specs.Ascii.{Bytes}
 use Rattle.text.specs.Scan.{any}
 use Rattle.model.specs.Records.{Isolation as Isolationʳ}
-use Rattle.store.specs.declared.state.Isolations.{Isolations}
 use Rattle.isolated.specs.Table.{port_row}
 use Rattle.alike.specs.Strategies.{strategy_at, are_alike}
 use Rattle.alike.specs.Ruled.{Ruled, row_small}
@@ -16,7 +17,7 @@ use Rattle.alike.specs.Numbers.{numbers_from, numbers_in}
 use Rattle.processes.specs.Ports.{is_like}
 
 -- the strategy of row k
-pub number_small : (mem : Bytes) (t : Isolations) (ports : List ℕ) (n : ℕ) → Ruled mem t ports n → (k : ℕ) → k < n → (j : ℕ) → j ≡ (port_row ports k).strategy → j < 32
+pub number_small : (mem : Bytes) (t : Few Isolation) (ports : List ℕ) (n : ℕ) → Ruled mem t ports n → (k : ℕ) → k < n → (j : ℕ) → j ≡ (port_row ports k).strategy → j < 32
 number_small mem t ports n r k h j e = rw e (r.strategies k h)
 
 -- none of the first k is like it, nor is s
@@ -28,7 +29,7 @@ pub record Seeks (f : ℕ → Isolationʳ) (ports : List ℕ) (n i k s : ℕ) : 
 pub seek_start : (f : ℕ → Isolationʳ) (ports : List ℕ) (n i : ℕ) → Seeks f ports n i 0 32
 seek_start f ports n i = let z : n - 0 ≡ n = omega arith in record { before = omega arith; unlike = λ h. absurd (omega (arith, h)); left = rw z }
 
-module _ (mem : Bytes) (t : Isolations) (ports : List ℕ) (n i k s : ℕ) (inv : Seeks (strategy_at mem t) ports n i k s) where
+module _ (mem : Bytes) (t : Few Isolation) (ports : List ℕ) (n i k s : ℕ) (inv : Seeks (strategy_at mem t) ports n i k s) where
   pub seek_end : n ≤ k → false ≡ any (is_like (strategy_at mem t) i) (numbers_in ports n)
   unfolding any numbers_from
   seek_end h = let z : n - k ≡ 0 = omega arith in sym (inv.left ∙ rw z)

@@ -1,4 +1,6 @@
 -- The processes: laws as the needs ask them. A port leads a process where none before it is of a strategy like its own. Assumes nothing.
+use Rattle.store.specs.declared.state.Few.{Few}
+use Rattle.store.specs.declared.state.Isolation.{Isolation}
 use Prim.Native.Nat.{ℕ, suc, ◌+◌, ◌-◌, ◌≤◌, ◌<◌}
 use native.Mathlib.Omega.{arith}
 use mathlib.Core.Path.{◌≡◌, refl, sym, ap, ap₂, ◌∙◌}
@@ -15,7 +17,6 @@ use Rattle.out.specs.Fill.{fill, filled, adds, turns, arg, pick}
 use Rattle.out.specs.Items.{each}
 use Rattle.design.specs.Lists.{those}
 use Rattle.model.specs.Records.{Isolation as Isolationʳ}
-use Rattle.store.specs.declared.state.Isolations.{Isolations}
 use Rattle.texts.specs.Isolation.{Isolated as Isolatedʳ, active_of, alike, leaders, clamp_on, clamp_off, process, processes}
 use Rattle.isolated.specs.Table.{port_row, Kept, kept_of, kept_from, kept_in}
 use Rattle.isolated.specs.Laws.{kept_next, kept_none}
@@ -35,7 +36,7 @@ abbrev off_text : Bytes
 off_text = ascii "      release {0};\n      $display(\"[UPF] Time: %0t, Isolation disabled (strategy {2}) on port '{3}'\", $time);\n"
 
 -- in one piece
-pub process_written : (mem : Bytes) (t : Isolations) (scope : List Bytes) (top : Bytes) (l : List Kept) (i : ℕ) (o o₁ o₂ o₃ o₄ o₅ : Out) → o₁ ≡ emit o (head_text scope (strategy_at mem t i)) → o₂ ≡ emit o₁ (ports_text on_text scope top (strategy_at mem t) i l) → o₃ ≡ emit o₂ (ascii "    end else begin\n")
+pub process_written : (mem : Bytes) (t : Few Isolation) (scope : List Bytes) (top : Bytes) (l : List Kept) (i : ℕ) (o o₁ o₂ o₃ o₄ o₅ : Out) → o₁ ≡ emit o (head_text scope (strategy_at mem t i)) → o₂ ≡ emit o₁ (ports_text on_text scope top (strategy_at mem t) i l) → o₃ ≡ emit o₂ (ascii "    end else begin\n")
     → o₄ ≡ emit o₃ (ports_text off_text scope top (strategy_at mem t) i l) → o₅ ≡ emit o₄ (ascii "    end\n  end\n") → o₅ ≡ emit o (process_text scope top (strategy_at mem t) l i)
 unfolding process_text
 process_written mem t scope top l i o o₁ o₂ o₃ o₄ o₅ a b c d e = (wrote a then wrote b then wrote c then wrote d then wrote e).is
@@ -113,11 +114,11 @@ unfolding are_alike
 self_like f i = rw (same_refl (dotted (signal_of (f i))), same_refl (active_of (f i)))
 
 -- the ports before are in order too
-ruled_front : (mem : Bytes) (t : Isolations) (ports : List ℕ) (n k : ℕ) → Ruled mem t ports n → k < n → Ruled mem t ports k
+ruled_front : (mem : Bytes) (t : Few Isolation) (ports : List ℕ) (n k : ℕ) → Ruled mem t ports n → k < n → Ruled mem t ports k
 ruled_front mem t ports n k r h = record { few = omega (arith, r.few); strategies = λ j l. r.strategies j (omega arith); clamps = λ j l. r.clamps j (omega arith) }
 
 -- what is left to write, written from here, is the answer w; s is a strategy like one of those before
-pub record Leads (job mem : Bytes) (scope : List Bytes) (top : Bytes) (t : Isolations) (ports : List ℕ) (n : ℕ) (w o : Out) (k s : ℕ) : Type 0 where
+pub record Leads (job mem : Bytes) (scope : List Bytes) (top : Bytes) (t : Few Isolation) (ports : List ℕ) (n : ℕ) (w o : Out) (k s : ℕ) : Type 0 where
   pub ruled : Ruled mem t ports n
   pub before : k ≤ n
   pub led : s < 32 → any (is_like (strategy_at mem t) s) (numbers_in ports k) ≡ true
@@ -125,7 +126,7 @@ pub record Leads (job mem : Bytes) (scope : List Bytes) (top : Bytes) (t : Isola
   pub tells : Tells scope top (strategy_at mem t) seen (numbers_in ports k)
   pub keeps : emit o (each (process (map (shown scope top (strategy_at mem t)) (kept_in job mem ports n))) (leaders seen (map (shown scope top (strategy_at mem t)) (kept_from job mem ports k (n - k))))) ≡ w
 
-module _ (job mem : Bytes) (scope : List Bytes) (top : Bytes) (t : Isolations) (ports : List ℕ) (n : ℕ) where
+module _ (job mem : Bytes) (scope : List Bytes) (top : Bytes) (t : Few Isolation) (ports : List ℕ) (n : ℕ) where
   pub leads_start : (o : Out) → Ruled mem t ports n → Leads job mem scope top t ports n (emit o (processes (map (shown scope top (strategy_at mem t)) (kept_in job mem ports n)))) o 0 32
   unfolding any numbers_from
   leads_start o r = let z : n - 0 ≡ n = omega arith in record { ruled = r; before = omega arith; led = λ h. absurd (omega (arith, h)); seen = []; tells = record { tells = λ k. refl }; keeps = rw z }

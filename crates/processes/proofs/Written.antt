@@ -1,4 +1,5 @@
 -- The text of each port of a strategy like this one: laws as the needs ask them. Assumes nothing.
+use Rattle.store.specs.declared.state.Few.{Few}
 use Prim.Native.Nat.{ℕ, suc, ◌+◌, ◌-◌, ◌≤◌, ◌<◌}
 use native.Mathlib.Omega.{arith}
 use mathlib.Core.Path.{◌≡◌, refl, sym, ap, ◌∙◌}
@@ -18,7 +19,6 @@ use Rattle.model.specs.Commands.{or_else}
 use Rattle.store.specs.Strings.{maybe_of}
 use Rattle.store.specs.View.{isolation_of}
 use Rattle.store.specs.declared.state.Isolation.{Isolation}
-use Rattle.store.specs.declared.state.Isolations.{Isolations}
 use Rattle.clamps.specs.Values.{stored_name, clamp_number}
 use Rattle.texts.specs.Isolation.{lowered, is_clamp, active_of}
 use Rattle.format.specs.Args.{rooted, arg_of, name_arg, fixed_arg}
@@ -34,7 +34,7 @@ use Rattle.processes.proofs.Led.{number_small}
 
 -- ---- the head
 
-pub head_written : (job mem : Bytes) (scope : List Bytes) (top : Bytes) (t : Isolations) (i : ℕ) (a b : Arg) (o w : Out)
+pub head_written : (job mem : Bytes) (scope : List Bytes) (top : Bytes) (t : Few Isolation) (i : ℕ) (a b : Arg) (o w : Out)
     → w ≡ emit o (fill (ascii "  always @({0}) begin\n    if ({0} === {1}) begin\n") (arg_of job mem scope top a) (arg_of job mem scope top b) [] [] [])
     → a ≡ signal_arg t i → b ≡ active_arg mem t i → w ≡ emit o (head_text scope (strategy_at mem t i))
 unfolding head_text
@@ -53,7 +53,7 @@ pub port_written : (job mem : Bytes) (scope : List Bytes) (top : Bytes) (s : Iso
     → is_clamp (lowered (isolation_of mem s).clamp) ≡ true → w ≡ emit o (port_text tpl scope top (λ (_ : ℕ). isolation_of mem s) (kept_of job mem x))
 unfolding port_text isolation_of
 port_written job mem scope top s x tpl a b c d k n o w e ea eb ek ec en ed h =
-    let t : Isolations = record { n = 1; all = s ∷ [] } in
+    let t : Few Isolation = record { n = 1; all = s ∷ [] } in
     let a' : arg_of job mem scope top a ≡ element_path scope (text_of job mem (net_ref x)) = rw ea (net_is_lem job mem scope top x) in
     let b' : arg_of job mem scope top b ≡ lowered (isolation_of mem s).clamp = rw (eb, ek) (clamp_is job mem scope top t 0 h) in
     let c' : arg_of job mem scope top c ≡ (isolation_of mem s).name = rw (ec, en) (strategy_is job mem scope top t 0) in
@@ -67,7 +67,7 @@ row_text tpl scope top f job mem x j e = rw e
 
 -- ---- each port: what is left to write, written from here, is the answer w
 
-pub record Writes (job mem : Bytes) (scope : List Bytes) (top tpl : Bytes) (t : Isolations) (ports : List ℕ) (n i : ℕ) (w o : Out) (k s : ℕ) : Type 0 where
+pub record Writes (job mem : Bytes) (scope : List Bytes) (top tpl : Bytes) (t : Few Isolation) (ports : List ℕ) (n i : ℕ) (w o : Out) (k s : ℕ) : Type 0 where
   pub template : is_template 4 tpl ≡ true
   pub ruled : Ruled mem t ports n
   pub number : i < 32
@@ -75,10 +75,10 @@ pub record Writes (job mem : Bytes) (scope : List Bytes) (top tpl : Bytes) (t : 
   pub unlike : s < 32 → are_alike (strategy_at mem t i) (strategy_at mem t s) ≡ false
   pub keeps : emit o (ports_text tpl scope top (strategy_at mem t) i (kept_from job mem ports k (n - k))) ≡ w
 
-pub writes_start : (job mem : Bytes) (scope : List Bytes) (top tpl : Bytes) (t : Isolations) (ports : List ℕ) (n i : ℕ) (o : Out) → is_template 4 tpl ≡ true → Ruled mem t ports n → i < 32 → Writes job mem scope top tpl t ports n i (emit o (ports_text tpl scope top (strategy_at mem t) i (kept_in job mem ports n))) o 0 32
+pub writes_start : (job mem : Bytes) (scope : List Bytes) (top tpl : Bytes) (t : Few Isolation) (ports : List ℕ) (n i : ℕ) (o : Out) → is_template 4 tpl ≡ true → Ruled mem t ports n → i < 32 → Writes job mem scope top tpl t ports n i (emit o (ports_text tpl scope top (strategy_at mem t) i (kept_in job mem ports n))) o 0 32
 writes_start job mem scope top tpl t ports n i o a b c = let z : n - 0 ≡ n = omega arith in record { template = a; ruled = b; number = c; before = omega arith; unlike = λ h. absurd (omega (arith, h)); keeps = rw z }
 
-module _ (job mem : Bytes) (scope : List Bytes) (top tpl : Bytes) (t : Isolations) (ports : List ℕ) (n i : ℕ) (w o : Out) (k s : ℕ) (inv : Writes job mem scope top tpl t ports n i w o k s) where
+module _ (job mem : Bytes) (scope : List Bytes) (top tpl : Bytes) (t : Few Isolation) (ports : List ℕ) (n i : ℕ) (w o : Out) (k s : ℕ) (inv : Writes job mem scope top tpl t ports n i w o k s) where
   pub writes_end : n ≤ k → o ≡ w
   unfolding ports_text those each emit
   writes_end h = let z : n - k ≡ 0 = omega arith in rw (z, kept_none job mem ports k) at inv.keeps

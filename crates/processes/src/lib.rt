@@ -3,7 +3,7 @@
 
 ghost use Rattle.std.specs.Prelude.{◌<◌, ◌≡◌, true, ◌++◌, map};
 ghost use Rattle.text.specs.Scan.{any};
-ghost use Rattle.out.specs.Emit.{◌▸◌, emit};
+ghost use Rattle.out.specs.Text.{Writes};
 ghost use Rattle.out.specs.Fill.{is_template};
 ghost use Rattle.texts.specs.Isolation.{lowered, is_clamp, processes as Isolation·processes};
 ghost use Rattle.scope.specs.Parts.{parts};
@@ -20,22 +20,21 @@ use clamps::{clamp, stored};
 use format::arg::{fixed, name};
 use format::fill::{fill2, fill4};
 use isolated::{Isolated, port_at, strategy_at};
-use out::emit::put;
+use out::emit::Text;
 use portargs::{active_arg, net_arg, port_arg, signal_arg};
-use store::state::{Isolation, Isolations};
+use store::state::{Few, Isolation};
 
 // Whether one of the first n ports is of a strategy like this one. `s` is a strategy that is known to be unlike it: ports of one stand together.
-fn is_led(files: &[u8], area: &[u8], t: Isolations, ports: &[u32], n: usize, i: usize) -> bool
+#[tactic(auto, using(crate::proofs::Led::seeks))]
+fn is_led(files: &[u8], area: &[u8], t: Few<Isolation>, ports: &[u32], n: usize, i: usize) -> bool
     requires { Ruled (files.now ++ area.now) t ports.now n × (i < 32) }
     ensures { result ≡ any (is_like (strategy_at (files.now ++ area.now) t) i) (numbers_in ports.now n) }
 {
     let a = t.all[i];
-    let mut k = 0;
     let mut s = 32;
-    while k < n {
+    for k in 0..n {
         let j = strategy_at(ports, k);
         if j == s {
-            k += 1;
             continue;
         }
         let b = t.all[j];
@@ -43,15 +42,13 @@ fn is_led(files: &[u8], area: &[u8], t: Isolations, ports: &[u32], n: usize, i: 
             return true;
         }
         s = j;
-        k += 1;
     }
     false
 }
 
 // Writes a template for a port of a strategy: the parent's net, the clamp value, the strategy, the port.
 fn put_port(
-    out: &mut [u8],
-    at: usize,
+    to: &mut Text,
     tpl: &[u8],
     job: &[u8],
     files: &[u8],
@@ -61,9 +58,9 @@ fn put_port(
     top: &[u8],
     s: Isolation,
     x: Isolated,
-) -> usize
+)
     requires { (is_template 4 tpl.now ≡ true) × (is_clamp (lowered (isolation_of (files.now ++ area.now) s).clamp) ≡ true) }
-    ensures { out.new ▸ result ≡ emit (out.old ▸ at) (port_text tpl.now (parts over.now from) top.now (λ _. isolation_of (files.now ++ area.now) s) (kept_of job.now (files.now ++ area.now) x)) }
+    ensures { Writes to.old (port_text tpl.now (parts over.now from) top.now (λ _. isolation_of (files.now ++ area.now) s) (kept_of job.now (files.now ++ area.now) x)) to.new }
 {
     let m = s.clamp;
     let n = s.name;
@@ -71,13 +68,13 @@ fn put_port(
     let b = fixed(clamp(files, area, m));
     let c = name(stored(n));
     let d = port_arg(x);
-    fill4(out, at, tpl, job, files, area, over, from, top, a, b, c, d)
+    fill4(to, tpl, job, files, area, over, from, top, a, b, c, d)
 }
 
 // Writes a template for each port of a strategy like this one. `s` is a strategy that is known to be unlike it.
+#[tactic(auto, using(crate::proofs::Written::writes))]
 fn each_port(
-    out: &mut [u8],
-    at: usize,
+    to: &mut Text,
     tpl: &[u8],
     job: &[u8],
     files: &[u8],
@@ -85,58 +82,51 @@ fn each_port(
     over: &[u8],
     from: usize,
     top: &[u8],
-    t: Isolations,
+    t: Few<Isolation>,
     ports: &[u32],
     n: usize,
     i: usize,
-) -> usize
+)
     requires { (is_template 4 tpl.now ≡ true) × (Ruled (files.now ++ area.now) t ports.now n × (i < 32)) }
-    ensures { out.new ▸ result ≡ emit (out.old ▸ at) (ports_text tpl.now (parts over.now from) top.now (strategy_at (files.now ++ area.now) t) i (kept_in job.now (files.now ++ area.now) ports.now n)) }
+    ensures { Writes to.old (ports_text tpl.now (parts over.now from) top.now (strategy_at (files.now ++ area.now) t) i (kept_in job.now (files.now ++ area.now) ports.now n)) to.new }
 {
     let a = t.all[i];
-    let mut o = at;
-    let mut k = 0;
     let mut s = 32;
-    while k < n {
+    for k in 0..n {
         let j = strategy_at(ports, k);
         if j == s {
-            k += 1;
             continue;
         }
         let b = t.all[j];
         if !alike_rows(files, area, a, b) {
             s = j;
-            k += 1;
             continue;
         }
         let x = port_at(ports, k);
-        o = put_port(out, o, tpl, job, files, area, over, from, top, b, x);
-        k += 1;
+        put_port(to, tpl, job, files, area, over, from, top, b, x);
     }
-    o
 }
 
 // The head of the process of a strategy.
+#[tactic(auto, using(crate::proofs::Written::heads))]
 fn put_head(
-    out: &mut [u8],
-    at: usize,
+    to: &mut Text,
     job: &[u8],
     files: &[u8],
     area: &[u8],
     over: &[u8],
     from: usize,
     top: &[u8],
-    t: Isolations,
+    t: Few<Isolation>,
     i: usize,
-) -> usize
+)
     requires { i < 32 }
-    ensures { out.new ▸ result ≡ emit (out.old ▸ at) (head_text (parts over.now from) (strategy_at (files.now ++ area.now) t i)) }
+    ensures { Writes to.old (head_text (parts over.now from) (strategy_at (files.now ++ area.now) t i)) to.new }
 {
     let a = signal_arg(t, i);
     let b = active_arg(files, area, t, i);
     fill2(
-        out,
-        at,
+        to,
         b"  always @({0}) begin\n    if ({0} === {1}) begin\n",
         job,
         files,
@@ -151,26 +141,24 @@ fn put_head(
 
 // The process of a strategy.
 fn process(
-    out: &mut [u8],
-    at: usize,
+    to: &mut Text,
     job: &[u8],
     files: &[u8],
     area: &[u8],
     over: &[u8],
     from: usize,
     top: &[u8],
-    t: Isolations,
+    t: Few<Isolation>,
     ports: &[u32],
     n: usize,
     i: usize,
-) -> usize
+)
     requires { Ruled (files.now ++ area.now) t ports.now n × (i < 32) }
-    ensures { out.new ▸ result ≡ emit (out.old ▸ at) (process_text (parts over.now from) top.now (strategy_at (files.now ++ area.now) t) (kept_in job.now (files.now ++ area.now) ports.now n) i) }
+    ensures { Writes to.old (process_text (parts over.now from) top.now (strategy_at (files.now ++ area.now) t) (kept_in job.now (files.now ++ area.now) ports.now n) i) to.new }
 {
-    let o = put_head(out, at, job, files, area, over, from, top, t, i);
-    let p = each_port(
-        out,
-        o,
+    put_head(to, job, files, area, over, from, top, t, i);
+    each_port(
+        to,
         b"      force {0} = '{1};\n      $display(\"[UPF] Time: %0t, Isolation enabled (strategy {2}) on port '{3}', clamp {1}\", $time);\n",
         job,
         files,
@@ -183,10 +171,9 @@ fn process(
         n,
         i,
     );
-    let q = put(out, p, b"    end else begin\n");
-    let r = each_port(
-        out,
-        q,
+    to.put(b"    end else begin\n");
+    each_port(
+        to,
         b"      release {0};\n      $display(\"[UPF] Time: %0t, Isolation disabled (strategy {2}) on port '{3}'\", $time);\n",
         job,
         files,
@@ -199,42 +186,36 @@ fn process(
         n,
         i,
     );
-    put(out, r, b"    end\n  end\n")
+    to.put(b"    end\n  end\n")
 }
 
 // All processes.
+#[tactic(auto, using(crate::proofs::Texts::leads))]
 pub fn processes(
-    out: &mut [u8],
-    at: usize,
+    to: &mut Text,
     job: &[u8],
     files: &[u8],
     area: &[u8],
     over: &[u8],
     from: usize,
     top: &[u8],
-    t: Isolations,
+    t: Few<Isolation>,
     ports: &[u32],
     n: usize,
-) -> usize
+)
     requires { Ruled (files.now ++ area.now) t ports.now n }
-    ensures { out.new ▸ result ≡ emit (out.old ▸ at) (Isolation·processes (map (shown (parts over.now from) top.now (strategy_at (files.now ++ area.now) t)) (kept_in job.now (files.now ++ area.now) ports.now n))) }
+    ensures { Writes to.old (Isolation·processes (map (shown (parts over.now from) top.now (strategy_at (files.now ++ area.now) t)) (kept_in job.now (files.now ++ area.now) ports.now n))) to.new }
 {
-    let mut o = at;
-    let mut k = 0;
     let mut s = 32;
-    while k < n {
+    for k in 0..n {
         let i = strategy_at(ports, k);
         if i == s {
-            k += 1;
             continue;
         }
         s = i;
         if is_led(files, area, t, ports, k, i) {
-            k += 1;
             continue;
         }
-        o = process(out, o, job, files, area, over, from, top, t, ports, n, i);
-        k += 1;
+        process(to, job, files, area, over, from, top, t, ports, n, i);
     }
-    o
 }

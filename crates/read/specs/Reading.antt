@@ -1,7 +1,6 @@
 -- Reading: the commands of the start file and of the files that it loads, carried out one after the other (document 01, "Files and commands"; check 6).
 -- Assumes nothing.
-use Rattle.std.specs.Prelude.{ℕ, zero, suc, ◌+◌, cond, List, [], ◌∷◌, length}
-use Rattle.std.proofs.Math.Option.{Option, none, some}
+use Rattle.std.specs.Prelude.{ℕ, zero, suc, ◌+◌, cond, List, [], ◌∷◌, length, Option, None, Some}
 use Rattle.text.specs.Ascii.{Bytes, ascii}
 use Rattle.text.specs.Compare.{same}
 use Rattle.tcl.specs.Join.{join}
@@ -35,8 +34,8 @@ line_of (w ∷ ws) = record { name = w; rest = ws }
 
 -- `-scope` of a load moves the scope
 abbrev pub entered_by : Option Bytes → Model → Model
-entered_by none m = m
-entered_by (some s) m = with_scope m (entered m.scope s)
+entered_by None m = m
+entered_by (Some s) m = with_scope m (entered m.scope s)
 
 abbrev pub acts_by : Named → Model → Line → Model
 acts_by Named.load_upf m l = entered_by (option_of (ascii "-scope") l.rest) m
@@ -46,8 +45,8 @@ acts_by Named.unknown m l = unsupported m l.name
 
 -- the bytes of its scope count for `set_scope`, and for a load with `-scope`
 abbrev pub scope_bytes : Option Bytes → Model → ℕ
-scope_bytes none m = 0
-scope_bytes (some s) m = length m.scope
+scope_bytes None m = 0
+scope_bytes (Some s) m = length m.scope
 
 abbrev pub scopes_by : Named → Line → Model → ℕ
 scopes_by Named.load_upf l m = scope_bytes (option_of (ascii "-scope") l.rest) m
@@ -109,13 +108,13 @@ module _ (load : Bytes → Counted → Model → Reading) (path : Bytes) where
 -- ---- a file
 
 unfoldable pub file_named : List File → Bytes → Option Bytes
-file_named [] path = none
-file_named (f ∷ fs) path = cond (same f.path path) (some f.body) (file_named fs path)
+file_named [] path = None
+file_named (f ∷ fs) path = cond (same f.path path) (Some f.body) (file_named fs path)
 
 -- "All words of a file are substituted with the variables known when it was opened."
 abbrev pub read_body : (Bytes → Counted → Model → Reading) → Bytes → Option Bytes → Counted → Model → Reading
-read_body load path none n m = refused 9 n.commands
-read_body load path (some body) n m = read_commands load path m.variables (commands (join body)) n m
+read_body load path None n m = refused 9 n.commands
+read_body load path (Some body) n m = read_commands load path m.variables (commands (join body)) n m
 
 -- "reading a file and carrying out its load_upf lines call each other": `left` loads may still be nested
 unfoldable pub read_file : List File → ℕ → Bytes → Counted → Model → Reading

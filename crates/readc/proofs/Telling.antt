@@ -6,20 +6,18 @@ use borrow.Author.Rules.{rules}
 use borrow.Author.Tests.{eq-eqb, ne_eqb}
 use Rattle.out.specs.Emit.{Out, emit}
 use Rattle.jobindex.specs.declared.Header.{Header}
-use Rattle.job.specs.declared.Answer.{Answer}
-use Rattle.job.specs.declared.Answer.TheVariants.{Taken, Refused}
+use Rattle.std.specs.Prelude.{Result, Ok, Err}
+use Rattle.job.specs.declared.Refused.{Refused}
 use Rattle.job.specs.Reader.{JobRead}
 use Rattle.store.specs.declared.state.State.{State}
-use Rattle.scopes.specs.declared.go.Out.{Out as Answered}
-use Rattle.reader.specs.Whole.{WasRead}
-use Rattle.dump.specs.Tables.{state_text, Few}
+use Rattle.dump.specs.Tables.{state_text}
 use Rattle.readc.specs.Told.{told_text, Indexes}
 
-module _ (job nums₀ nums : List ℕ) (a : Answer) (s : JobRead job nums₀ nums a) where
-  pub index_refused : (x n : ℕ) → a ≡ Refused x n → Indexes job nums₀ nums 0 0
-  index_refused x n e = record { answer = a; read = s; count_is = rw e; first_is = rw e }
+module _ (job nums₀ nums : List ℕ) (a : Result Header Refused) (s : JobRead job nums₀ nums a) where
+  pub index_refused : (x : Refused) → a ≡ Err x → Indexes job nums₀ nums 0 0
+  index_refused x e = record { answer = a; read = s; count_is = rw e; first_is = rw e }
 
-  pub index_taken : (head : Header) → a ≡ Taken head → Indexes job nums₀ nums head.files head.startfile
+  pub index_taken : (head : Header) → a ≡ Ok head → Indexes job nums₀ nums head.files head.startfile
   index_taken head e = record { answer = a; read = s; count_is = rw e; first_is = rw e }
 
 pub ruleset indexes = (rules, index_refused, index_taken)
@@ -33,19 +31,3 @@ module _ (o : Out) (tag : ℕ) (s : State) where
   pub all_told : (o' : Out) → (tag ≡ 0) → o' ≡ emit o (state_text s) → o' ≡ emit o (told_text tag s)
   unfolding told_text
   all_told o' h e = rw (eq-eqb tag 0 h) e
-
--- ---- the reading
-pub few_records : (job files₀ files area₀ area nums₀ nums log₀ log : List ℕ) (count first : ℕ) (r : Answered) → WasRead job files₀ files area₀ area nums₀ nums log₀ log count first r → r.tag ≡ 0 → Few r.state
-few_records job files₀ files area₀ area nums₀ nums log₀ log count first r v z =
-    let h = (v.held z).shaped in
-    record {
-      domains = h.domains.count;
-      nets = h.nets.count;
-      ports = h.ports.count;
-      switches = h.switches.count;
-      isolations = h.isolations.count;
-      retentions = h.retentions.count;
-      shifters = h.shifters.count;
-      portstates = h.portstates.count;
-      tables = h.tables.count;
-    }

@@ -1,25 +1,25 @@
 -- What a caller in C or Rust is told of a reading. Assumes nothing.
-use Rattle.std.specs.Prelude.{ℕ, ◌≡◌, cond, List, [], eqb}
+use Rattle.std.specs.Prelude.{ℕ, ◌≡◌, cond, List, [], eqb, Result, Ok, Err}
 use Rattle.text.specs.Ascii.{Bytes}
 use Rattle.out.specs.Emit.{◌▸◌, emit}
-use Rattle.job.specs.declared.Answer.{Answer}
-use Rattle.job.specs.declared.Answer.TheVariants.{Taken, Refused}
+use Rattle.jobindex.specs.declared.Header.{Header}
+use Rattle.job.specs.declared.Refused.{Refused}
 use Rattle.job.specs.Reader.{JobRead}
 use Rattle.store.specs.declared.state.State.{State}
 use Rattle.reader.specs.Whole.{WasRead}
 use Rattle.dump.specs.Tables.{state_text}
 
 -- how many files a job has, and the row of its start file
-abbrev pub files_of : Answer → ℕ
-files_of (Refused x n) = 0
-files_of (Taken head) = head.files
+abbrev pub files_of : Result Header Refused → ℕ
+files_of (Err r) = 0
+files_of (Ok head) = head.files
 
-abbrev pub first_of : Answer → ℕ
-first_of (Refused x n) = 0
-first_of (Taken head) = head.startfile
+abbrev pub first_of : Result Header Refused → ℕ
+first_of (Err r) = 0
+first_of (Ok head) = head.startfile
 
 pub record Indexes (job : Bytes) (nums₀ nums : List ℕ) (count first : ℕ) : Type 0 where
-  pub answer : Answer
+  pub answer : Result Header Refused
   pub read : JobRead job nums₀ nums answer
   pub count_is : count ≡ files_of answer
   pub first_is : first ≡ first_of answer

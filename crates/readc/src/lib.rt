@@ -10,21 +10,21 @@ ghost use Rattle.readc.specs.Told.{told_text, Indexes, Told};
 
 use dump::table::state;
 use files::whole::read;
-use job::Answer;
+use out::emit::Text;
 use store::state::State;
 
 // The number of files of a job, 0 for one that is refused, and the row of the start file; `nums` gets the index of a job that is accepted.
+#[tactic(auto, using(crate::proofs::Telling::indexes))]
 pub fn readc_index(job: &[u8], nums: &mut [u32], first: &mut usize) -> usize
     requires { index_size ≤ length nums.old }
     ensures { Indexes job.now nums.old nums.new result first.new }
 {
-    let a = job::read_job(job, &mut nums[..]);
-    match a {
-        Answer::Refused { number: _, line: _ } => {
+    match job::read_job(job, &mut nums[..]) {
+        Err(_) => {
             *first = 0;
             0
         }
-        Answer::Taken { head } => {
+        Ok(head) => {
             *first = head.startfile;
             head.files
         }
@@ -39,7 +39,9 @@ fn records(dump: &mut [u8], tag: usize, s: State) -> usize
     if tag != 0 {
         return 0;
     }
-    state(dump, 0, s)
+    let mut to = Text::over(dump, 0);
+    state(&mut to, s);
+    to.end()
 }
 
 // Reads the first `count` files of the index, beginning with file `first`: the refusal's number, 0 where there is none; its command, the place in the log,

@@ -1,7 +1,6 @@
 -- Laws: an accepted job, indexed, can be read whole, and its reading is the job's. Assumes nothing.
-use Rattle.std.specs.Prelude.{ℕ, zero, suc, ◌≤◌, ◌≡◌, refl, Bool, true, false, not, ◌||◌, List, [], ◌∷◌, map, length, drop}
+use Rattle.std.specs.Prelude.{ℕ, zero, suc, ◌≤◌, ◌≡◌, refl, Bool, true, false, not, ◌||◌, List, [], ◌∷◌, map, length, drop, Some}
 use Rattle.std.proofs.Common.{arith, sym, ap, ◌∙◌}
-use Rattle.std.proofs.Math.Option.{some}
 use Rattle.text.specs.Ascii.{Bytes}
 use Rattle.text.specs.Compare.{same}
 use Rattle.text.specs.Scan.{any}
@@ -46,7 +45,7 @@ same_other p q h = go (same q p) refl
     go false e = refl
     go true e = let z : q ≡ p = same_eq q p e in absurd (no_true (sym h ∙ ap (λ (x : Bytes). same p x) z ∙ same_refl p))
 
-pub named_at : (fs : List File) (k : ℕ) (f : File) (r : List File) → drop k fs ≡ f ∷ r → distinct (paths fs) ≡ true → file_named fs f.path ≡ some f.body
+pub named_at : (fs : List File) (k : ℕ) (f : File) (r : List File) → drop k fs ≡ f ∷ r → distinct (paths fs) ≡ true → file_named fs f.path ≡ Some f.body
 unfolding distinct file_named
 named_at [] zero f r e h = absurd (let z : ◌≡◌ {A = ℕ} 0 1 = cc in omega arith)
 named_at [] (suc k) f r e h = absurd (let z : ◌≡◌ {A = ℕ} 0 1 = cc in omega arith)
@@ -73,7 +72,7 @@ module _ (job files area nums : List ℕ) (head : Header) (j : Job) (v : Indexed
   pub few : head.files ≤ 32
   few = omega (arith, good.lists.files_few, ap length files_are, rows_length (file_at job nums) head.files)
 
-  pub start_named : file_named (files_in job nums head.files) (path_at job nums head.startfile) ≡ some (body_at job nums head.startfile)
+  pub start_named : file_named (files_in job nums head.files) (path_at job nums head.startfile) ≡ Some (body_at job nums head.startfile)
   start_named =
       let d : distinct (paths (files_in job nums head.files)) ≡ true = rw files_are good.lists.files_distinct in
       named_at (files_in job nums head.files) head.startfile (file_at job nums head.startfile) _ (rows_here (file_at job nums) head.files head.startfile v.start_row) d

@@ -1,4 +1,6 @@
 -- Laws: a load_upf, from what its parts come to. Assumes nothing.
+use Rattle.std.specs.Prelude.{Option, Some, None}
+use Rattle.store.specs.declared.stored.Stored.{Stored}
 use Rattle.std.specs.Prelude.{ℕ, ◌+◌, ◌-◌, ◌≤◌, ◌≡◌, List, ◌++◌, length, take}
 use Rattle.std.proofs.Common.{arith, ap, ◌∙◌}
 use Rattle.std.proofs.Math.Path.{refl, sym}
@@ -19,8 +21,6 @@ use Rattle.store.specs.Frame.{string_same, maybe_same}
 use Rattle.store.specs.Rows.{store_of}
 use Rattle.store.specs.Steps.{scope_shaped, scope_bounded, top_shaped, top_bounded}
 use Rattle.store.specs.Added.{scope_set}
-use Rattle.store.specs.declared.stored.Maybe.{Maybe}
-use Rattle.store.specs.declared.stored.Maybe.TheVariants.{Not, Given}
 use Rattle.store.specs.declared.state.State.{State}
 use Rattle.made.specs.Made.{reach_of}
 use Rattle.scopes.specs.declared.go.Out.{Out}
@@ -33,19 +33,19 @@ use Rattle.loads.specs.Steps.{Opening}
 use Rattle.reader.specs.Command.{comes_refused, refused_is, done_is, reads_is, state_is, counted_held, counted_worded, counted_few}
 
 -- ---- behind a load
-restored_view : (mem : Bytes) (st : Store) (s rs : State) (t : Maybe) (log : Bytes)
+restored_view : (mem : Bytes) (st : Store) (s rs : State) (t : Option Stored) (log : Bytes)
     → model_of mem st (restored_by s rs t) log ≡ with_design_top (with_scope (model_of mem st rs log) (string mem s.head.scope)) (given (maybe_of mem t) (model_of mem st rs log).design_top)
 unfolding model_of
-restored_view mem st s rs Not log = refl
-restored_view mem st s rs (Given t) log = refl
+restored_view mem st s rs None log = refl
+restored_view mem st s rs (Some t) log = refl
 
-restored_fill : (s rs : State) (t : Maybe) → (restored_by s rs t).fill ≡ rs.fill
-restored_fill s rs Not = refl
-restored_fill s rs (Given t) = refl
+restored_fill : (s rs : State) (t : Option Stored) → (restored_by s rs t).fill ≡ rs.fill
+restored_fill s rs None = refl
+restored_fill s rs (Some t) = refl
 
-restored_count : (s rs : State) (t : Maybe) → (restored_by s rs t).count ≡ rs.count
-restored_count s rs Not = refl
-restored_count s rs (Given t) = refl
+restored_count : (s rs : State) (t : Option Stored) → (restored_by s rs t).count ≡ rs.count
+restored_count s rs None = refl
+restored_count s rs (Some t) = refl
 
 module _ (files area nums : List ℕ) (s rs : State) (v : Held files area nums 0 rs) (short : s.head.scope.len ≤ 512) (near : reach_of (length files) s.head.scope ≤ length files + rs.fill.end) where
   scope_held : Held files area nums 0 (scope_set rs s.head.scope)
@@ -63,14 +63,14 @@ module _ (files area nums : List ℕ) (s rs : State) (v : Held files area nums 0
         words = v.words;
       }
 
-  restored_held : (t : Maybe) → of_maybe (reach_of (length files)) t ≤ length files + rs.fill.end → Held files area nums 0 (restored_by s rs t)
-  restored_held Not h = scope_held
-  restored_held (Given t) h =
+  restored_held : (t : Option Stored) → of_maybe (reach_of (length files)) t ≤ length files + rs.fill.end → Held files area nums 0 (restored_by s rs t)
+  restored_held None h = scope_held
+  restored_held (Some t) h =
       let w = scope_held in
       record {
         lends = w.lends;
-        shaped = top_shaped (store_of nums rs) (scope_set rs s.head.scope) w.shaped (Given t);
-        bounded = top_bounded (reach_of (length files)) (length files + rs.fill.end) (store_of nums rs) (scope_set rs s.head.scope) w.bounded (Given t) h;
+        shaped = top_shaped (store_of nums rs) (scope_set rs s.head.scope) w.shaped (Some t);
+        bounded = top_bounded (reach_of (length files)) (length files + rs.fill.end) (store_of nums rs) (scope_set rs s.head.scope) w.bounded (Some t) h;
         commands = w.commands;
         substituted = w.substituted;
         scopes = w.scopes;

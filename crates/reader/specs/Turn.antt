@@ -1,4 +1,8 @@
 -- Laws: a turn of the loop over a file's commands. Assumes nothing.
+use Rattle.std.specs.Prelude.{Option, Some, None, Result, Ok, Err}
+use Rattle.substitution.specs.declared.put.Full.{Full}
+use Rattle.substitution.specs.Room.{full}
+use Rattle.commands.specs.declared.next.Words.{Words}
 use Rattle.std.specs.Prelude.{ℕ, zero, suc, ◌+◌, ◌-◌, ◌*◌, ◌≤◌, ◌<◌, ◌^◌, ◌≡◌, List, [], ◌∷◌, ◌++◌, leb, length, take, drop, get_or}
 use Rattle.std.proofs.Common.{arith, sym, ap, ◌∙◌, leb-true, get_or-take, drop-drop}
 use Rattle.std.proofs.Math.Path.{refl}
@@ -36,8 +40,6 @@ use Rattle.loads.specs.Steps.{Texts, Opening}
 use Rattle.reader.specs.Command.{comes_refused, refused_is, done_is}
 use Rattle.commands.specs.Stored.{NextOf}
 use Rattle.commands.specs.Reading.{results, first_of}
-use Rattle.commands.specs.declared.next.Next.{Next as Answer}
-use Rattle.commands.specs.declared.next.Next.TheVariants.{Words, None, Full}
 use Rattle.reader.specs.File.{some_words, none_left, Past, past_left, Found, found_left, past_reads, found_reads, found_few}
 
 -- ---- the index is below the rows
@@ -156,9 +158,9 @@ module _ (job files area₀ nums₀ log₁ : List ℕ) (count k left : ℕ) (s :
       unfolding model_of
       log_is lg ar nu st = refl
 
-      module _ (area' words' : List ℕ) (r : Answer) (w : NextOf files T at vs area area' o limit words words' r) where
+      module _ (area' words' : List ℕ) (r : Result (Option Words) Full) (w : NextOf files T at vs area area' o limit words words' r) where
         -- there is no command left
-        none_by : NextOf files T at vs area area' o limit words words' None → Ran files area₀ area' nums₀ nums log₁ log s (record { tag = 0; state = u }) all_reads
+        none_by : NextOf files T at vs area area' o limit words words' (Ok None) → Ran files area₀ area' nums₀ nums log₁ log s (record { tag = 0; state = u }) all_reads
         none_by y =
             let e : commands (drop at T) ≡ [] = none_left vs o limit (commands (drop at T)) y.is in
             let ends : (log₀ text : Bytes) (p : Rest area nums log at u log₀ text) → all_reads text ≡ done (counted_of u) (model_at files area nums u p.written) = λ log₀ text p. sym p.reads ∙ reads_none load path VS (commands (drop at T)) (counted_of u) (model_at files area nums u p.written) e in
@@ -172,7 +174,7 @@ module _ (job files area₀ nums₀ log₁ : List ℕ) (count k left : ℕ) (s :
                   record { result = rw (l, y.lent.area) (sym (ends log₀ text p)); logged = λ z. rw l p.logged };
             }
 
-        pub turn_none : r ≡ None → Ran files area₀ area' nums₀ nums log₁ log s (record { tag = 0; state = u }) all_reads
+        pub turn_none : r ≡ Ok None → Ran files area₀ area' nums₀ nums log₁ log s (record { tag = 0; state = u }) all_reads
         turn_none e = none_by (rw e at w)
 
         -- a reading limit is passed
@@ -188,7 +190,7 @@ module _ (job files area₀ nums₀ log₁ : List ℕ) (count k left : ℕ) (s :
             let q : limit + (24576 - limit) ≡ 24576 = omega (arith, limit_in) in
             rw q at (sym (drop-drop (24576 - limit) limit area') ∙ ap (drop (24576 - limit)) h ∙ drop-drop (24576 - limit) limit area)
 
-        full_by : NextOf files T at vs area area' o limit words words' Full → (b : State) → b ≡ begun_at u o → Ran files area₀ area' nums₀ nums log₁ log s (record { tag = 10; state = b }) all_reads
+        full_by : NextOf files T at vs area area' o limit words words' (Err full) → (b : State) → b ≡ begun_at u o → Ran files area₀ area' nums₀ nums log₁ log s (record { tag = 10; state = b }) all_reads
         full_by y b eb' =
             record {
               held = λ z. absurd (omega (arith, z));
@@ -199,12 +201,12 @@ module _ (job files area₀ nums₀ log₁ : List ℕ) (count k left : ℕ) (s :
                   (past_reads_is (past_left vs o limit (commands (drop at T)) y.is) log₀ text (g.rest log₀ text q) ∙ rw eb');
             }
 
-        pub turn_full : r ≡ Full → (b : State) → b ≡ begun_at u o → Ran files area₀ area' nums₀ nums log₁ log s (record { tag = 10; state = b }) all_reads
+        pub turn_full : r ≡ Err full → (b : State) → b ≡ begun_at u o → Ran files area₀ area' nums₀ nums log₁ log s (record { tag = 10; state = b }) all_reads
         turn_full e b eb' = full_by (rw e at w) b eb'
 
         -- a command is read
-        module _ (n next e : ℕ) (er : r ≡ Words n next e) where
-          y : NextOf files T at vs area area' o limit words words' (Words n next e)
+        module _ (n next e : ℕ) (er : r ≡ Ok (Some (record { count = n; next = next; end = e }))) where
+          y : NextOf files T at vs area area' o limit words words' (Ok (Some (record { count = n; next = next; end = e })))
           y = rw er at w
 
           found : Found vs o limit (commands (drop at T)) (strings (files ++ take e area') words' 0 n) (commands (drop next T)) e

@@ -1,6 +1,5 @@
 -- The reading of a whole job, from its index: what is asked, and what is left in all that is lent. Assumes nothing.
-use Rattle.std.specs.Prelude.{ℕ, ◌+◌, ◌≤◌, ◌<◌, ◌^◌, ◌≡◌, List, ◌++◌, length, take, drop}
-use Rattle.std.proofs.Math.Option.{some}
+use Rattle.std.specs.Prelude.{ℕ, ◌+◌, ◌≤◌, ◌<◌, ◌^◌, ◌≡◌, List, ◌++◌, length, take, drop, Some}
 use Rattle.text.specs.Ascii.{Bytes}
 use Rattle.jobindex.specs.Index.{path_at, body_at}
 use Rattle.model.specs.Limits.{most_depth}
@@ -20,7 +19,7 @@ reading_at job nums count first = read_file (files_in job nums count) most_depth
 pub record Starts (job files area nums : List ℕ) (count first : ℕ) : Type 0 where
   pub few : count ≤ 32
   pub start_row : first < count
-  pub start_is : file_named (files_in job nums count) (path_at job nums first) ≡ some (body_at job nums first)
+  pub start_is : file_named (files_in job nums count) (path_at job nums first) ≡ Some (body_at job nums first)
   pub bodies : body_bytes job nums count ≤ length files
   pub files_short : length files ≤ 65536
   pub area_long : 24576 ≤ length area

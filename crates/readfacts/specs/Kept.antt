@@ -1,12 +1,10 @@
 -- Theorem: every reading that ends leaves records whose lists are within the limits. Assumes nothing.
-use Rattle.std.specs.Prelude.{ℕ, zero, suc, ◌+◌, ◌*◌, ◌≤◌, max, Bool, ◌&&◌, not}
+use Rattle.std.specs.Prelude.{ℕ, zero, suc, ◌+◌, ◌*◌, ◌≤◌, max, Bool, ◌&&◌, not, option_map, Option, None, Some}
 use Prim.Native.String.{String}
 use Rattle.std.proofs.Common.{arith, le_trans, ap, leb-true}
 use Rattle.std.proofs.Math.Path.{◌≡◌, refl}
 use Rattle.std.proofs.Math.Bool.{true, false, cond}
 use mathlib.Core.List.{List, [], ◌∷◌, ◌++◌, map, map-append}
-use Rattle.std.proofs.Math.Option
-use Rattle.std.proofs.Math.Option.{Option, none, some}
 use Rattle.std.proofs.Math.Dec.{leb}
 use Rattle.std.proofs.Math.ListN.{length, length-append}
 use Rattle.std.proofs.lemmas.List.{length-map}
@@ -47,16 +45,16 @@ module _ (key : String) (ws : List Bytes) where
   few_option h = go (option_of (ascii key) ws) refl
     where
       go : (o : Option Bytes) → option_of (ascii key) ws ≡ o → length (option_list key ws) ≤ 64
-      go none e = rw e (omega arith)
-      go (some v) e = rw e (leb-true (length (list v)) 64 (both (leb (length (list v)) 64) true (rw e at h)).0)
+      go None e = rw e (omega arith)
+      go (Some v) e = rw e (leb-true (length (list v)) 64 (both (leb (length (list v)) 64) true (rw e at h)).0)
 
   total_option : total (entries_of (option_value key ws)) ≡ length (option_list key ws)
   unfolding total
   total_option = go (option_of (ascii key) ws) refl
     where
       go : (o : Option Bytes) → option_of (ascii key) ws ≡ o → total (entries_of (option_value key ws)) ≡ length (option_list key ws)
-      go none e = rw e
-      go (some v) e = rw e (omega arith)
+      go None e = rw e
+      go (Some v) e = rw e (omega arith)
 
 below_size : (m : Model) (ns : List Bytes) → length (all_below m ns) ≡ length ns
 below_size m ns = length-map ns (below_scope m)
@@ -72,17 +70,17 @@ map_push f (y ∷ xs) x = ap (λ (l : List ℕ). f y ∷ l) (map_push f xs x)
 
 -- the first that passes a test changed
 module _ {A : Type 0} (t : A → Bool) (g : A → A) (e : A → ℕ) (n : ℕ) (keeps : (x : A) → e x ≤ n → e (g x) ≤ n) where
-  first_kept : (xs ys : List A) → on_first t g xs ≡ some ys → Bound e n xs → Bound e n ys
+  first_kept : (xs ys : List A) → on_first t g xs ≡ Some ys → Bound e n xs → Bound e n ys
   unfolding on_first
   first_kept [] ys h none_left = absurd (let z : ◌≡◌ {A = ℕ} 0 1 = cc in omega arith)
   first_kept (x ∷ xs) ys h (one_more p b) = by (t x) refl (λ zs d. first_kept xs zs d b)
     where
-      rest : (o : Option (List A)) → on_first t g xs ≡ o → Option.map (λ (zs : List A). x ∷ zs) o ≡ some ys → ((zs : List A) → on_first t g xs ≡ some zs → Bound e n zs) → Bound e n ys
-      rest none d f k = absurd (let z : ◌≡◌ {A = ℕ} 0 1 = cc in omega arith)
-      rest (some zs) d f k = let q : ys ≡ x ∷ zs = cc in rw q (one_more p (k zs d))
+      rest : (o : Option (List A)) → on_first t g xs ≡ o → option_map (λ (zs : List A). x ∷ zs) o ≡ Some ys → ((zs : List A) → on_first t g xs ≡ Some zs → Bound e n zs) → Bound e n ys
+      rest None d f k = absurd (let z : ◌≡◌ {A = ℕ} 0 1 = cc in omega arith)
+      rest (Some zs) d f k = let q : ys ≡ x ∷ zs = cc in rw q (one_more p (k zs d))
 
-      by : (c : Bool) → t x ≡ c → ((zs : List A) → on_first t g xs ≡ some zs → Bound e n zs) → Bound e n ys
-      by true d k = let q : some (g x ∷ xs) ≡ some ys = rw d at h in let r : ys ≡ g x ∷ xs = cc in rw r (one_more (keeps x p) b)
+      by : (c : Bool) → t x ≡ c → ((zs : List A) → on_first t g xs ≡ Some zs → Bound e n zs) → Bound e n ys
+      by true d k = let q : Some (g x ∷ xs) ≡ Some ys = rw d at h in let r : ys ≡ g x ∷ xs = cc in rw r (one_more (keeps x p) b)
       by false d k = rest (on_first t g xs) refl (rw d at h) k
 
 -- ---- what no command but its own changes
@@ -146,8 +144,8 @@ module _ (e : ℕ) (m : Model) (f : Few e m) (w : Bytes) (ws : List Bytes) where
   few_domain : Fits (option_value "-elements" ws) → Few e (domain_command m ws)
   unfolding domain_command
   few_domain h =
-      few_domains e m f (m.domains ++ (record { name = name_of ws; elements = all_below m (option_list "-elements" ws) ++ cond (has_flag (ascii "-include_scope") ws) (m.scope ∷ []) []; power = none; ground_net = none; scope = m.scope } ∷ []))
-      (within_snoc (λ (d : Domain). length d.elements) (record { name = name_of ws; elements = all_below m (option_list "-elements" ws) ++ cond (has_flag (ascii "-include_scope") ws) (m.scope ∷ []) []; power = none; ground_net = none; scope = m.scope }) f.domains (size (has_flag (ascii "-include_scope") ws)))
+      few_domains e m f (m.domains ++ (record { name = name_of ws; elements = all_below m (option_list "-elements" ws) ++ cond (has_flag (ascii "-include_scope") ws) (m.scope ∷ []) []; power = None; ground_net = None; scope = m.scope } ∷ []))
+      (within_snoc (λ (d : Domain). length d.elements) (record { name = name_of ws; elements = all_below m (option_list "-elements" ws) ++ cond (has_flag (ascii "-include_scope") ws) (m.scope ∷ []) []; power = None; ground_net = None; scope = m.scope }) f.domains (size (has_flag (ascii "-include_scope") ws)))
     where
       size : (b : Bool) → length (all_below m (option_list "-elements" ws) ++ cond b (m.scope ∷ []) []) ≤ 65
       size true = omega (arith, length-append (all_below m (option_list "-elements" ws)) (m.scope ∷ []), below_size m (option_list "-elements" ws), few_option "-elements" ws h)
@@ -172,14 +170,14 @@ module _ (e : ℕ) (m : Model) (f : Few e m) (w : Bytes) (ws : List Bytes) where
   few_supply : Few e (supply_command m ws)
   unfolding supply_command
   few_supply =
-      go (on_first (λ (d : Domain). same d.name (name_of ws)) (supplied (Option.map (below_scope m) (option_of (ascii "-primary_power_net") ws)) (Option.map (below_scope m) (option_of (ascii "-primary_ground_net") ws))) m.domains) refl
+      go (on_first (λ (d : Domain). same d.name (name_of ws)) (supplied (option_map (below_scope m) (option_of (ascii "-primary_power_net") ws)) (option_map (below_scope m) (option_of (ascii "-primary_ground_net") ws))) m.domains) refl
     where
-      go : (o : Option (List Domain)) → on_first (λ (d : Domain). same d.name (name_of ws)) (supplied (Option.map (below_scope m) (option_of (ascii "-primary_power_net") ws)) (Option.map (below_scope m) (option_of (ascii "-primary_ground_net") ws))) m.domains ≡ o
+      go : (o : Option (List Domain)) → on_first (λ (d : Domain). same d.name (name_of ws)) (supplied (option_map (below_scope m) (option_of (ascii "-primary_power_net") ws)) (option_map (below_scope m) (option_of (ascii "-primary_ground_net") ws))) m.domains ≡ o
           → Few e (or_warned o (with_domains m) (warned m (format1 "set_domain_supply_net: unknown power domain '{0}'" (name_of ws))))
-      go none d = few_warned e m f (format1 "set_domain_supply_net: unknown power domain '{0}'" (name_of ws))
-      go (some xs) d =
+      go None d = few_warned e m f (format1 "set_domain_supply_net: unknown power domain '{0}'" (name_of ws))
+      go (Some xs) d =
           few_domains e m f xs
-          (first_kept (λ (x : Domain). same x.name (name_of ws)) (supplied (Option.map (below_scope m) (option_of (ascii "-primary_power_net") ws)) (Option.map (below_scope m) (option_of (ascii "-primary_ground_net") ws))) (λ (x : Domain). length x.elements) 65 (λ x h. h) m.domains xs d f.domains)
+          (first_kept (λ (x : Domain). same x.name (name_of ws)) (supplied (option_map (below_scope m) (option_of (ascii "-primary_power_net") ws)) (option_map (below_scope m) (option_of (ascii "-primary_ground_net") ws))) (λ (x : Domain). length x.elements) 65 (λ x h. h) m.domains xs d f.domains)
 
   few_switch : Fits (lists_of Command.create_power_switch w ws) → Few e (switch_command m w ws)
   unfolding switch_command
@@ -207,8 +205,8 @@ module _ (e : ℕ) (m : Model) (f : Few e m) (w : Bytes) (ws : List Bytes) where
   few_isolation h = by (has_flag (ascii "-no_isolation") ws) (has_flag (ascii "-update") ws)
     where
       found : (o : Option (List Isolation)) → on_first (is_strategy (name_of ws) (domain_of ws)) (updated m ws) m.isolations ≡ o → Few e (or_warned o (with_isolations m) (added m ws))
-      found none d = few_added h
-      found (some xs) d = few_isolations e m f xs (first_kept (is_strategy (name_of ws) (domain_of ws)) (updated m ws) (λ (i : Isolation). length i.elements) 64 (updated_few h) m.isolations xs d f.isolations)
+      found None d = few_added h
+      found (Some xs) d = few_isolations e m f xs (first_kept (is_strategy (name_of ws) (domain_of ws)) (updated m ws) (λ (i : Isolation). length i.elements) 64 (updated_few h) m.isolations xs d f.isolations)
 
       by : (a b : Bool) → Few e (cond a (warned m (format1 "set_isolation {0}: -no_isolation, ignored" (name_of ws))) (cond b (or_warned (on_first (is_strategy (name_of ws) (domain_of ws)) (updated m ws) m.isolations) (with_isolations m) (added m ws)) (added m ws)))
       by true b = few_warned e m f (format1 "set_isolation {0}: -no_isolation, ignored" (name_of ws))
@@ -220,8 +218,8 @@ module _ (e : ℕ) (m : Model) (f : Few e m) (w : Bytes) (ws : List Bytes) where
   few_control = go (on_first (is_strategy (name_of ws) (domain_of ws)) (controlled ws) m.isolations) refl
     where
       go : (o : Option (List Isolation)) → on_first (is_strategy (name_of ws) (domain_of ws)) (controlled ws) m.isolations ≡ o → Few e (or_warned o (with_isolations m) (warned m (format1 "set_isolation_control: unknown isolation strategy '{0}'" (name_of ws))))
-      go none d = few_warned e m f (format1 "set_isolation_control: unknown isolation strategy '{0}'" (name_of ws))
-      go (some xs) d = few_isolations e m f xs (first_kept (is_strategy (name_of ws) (domain_of ws)) (controlled ws) (λ (i : Isolation). length i.elements) 64 (λ x h. h) m.isolations xs d f.isolations)
+      go None d = few_warned e m f (format1 "set_isolation_control: unknown isolation strategy '{0}'" (name_of ws))
+      go (Some xs) d = few_isolations e m f xs (first_kept (is_strategy (name_of ws) (domain_of ws)) (controlled ws) (λ (i : Isolation). length i.elements) 64 (λ x h. h) m.isolations xs d f.isolations)
 
   few_retention : Few (e + total (entries_of (option_value "-elements" ws))) (retention_command m ws)
   unfolding retention_command
@@ -261,8 +259,8 @@ module _ (e : ℕ) (m : Model) (f : Few e m) (w : Bytes) (ws : List Bytes) where
       grown t g = rw (values_push t.states (record { name = name_of ws; values = option_list "-state" ws })) (omega (arith, few_option "-state" ws h))
 
       go : (o : Option (List Table)) → on_first (λ (t : Table). same t.name (table_of ws)) (with_state ws) m.tables ≡ o → Few e (or_warned o (with_tables m) (warned m (format1 "add_pst_state: unknown PST '{0}'" (table_of ws))))
-      go none d = few_warned e m f (format1 "add_pst_state: unknown PST '{0}'" (table_of ws))
-      go (some xs) d =
+      go None d = few_warned e m f (format1 "add_pst_state: unknown PST '{0}'" (table_of ws))
+      go (Some xs) d =
           few_tables e m f xs
           (first_kept (λ (t : Table). same t.name (table_of ws)) (with_state ws) (λ (t : Table). length t.supplies) 64 (λ t g. g) m.tables xs d f.tables)
           (first_kept (λ (t : Table). same t.name (table_of ws)) (with_state ws) (λ (t : Table). most_values t.states) 64 grown m.tables xs d f.states)
@@ -305,8 +303,8 @@ module _ (e : ℕ) (m : Model) (f : Few e m) (w : Bytes) (ws : List Bytes) where
 
 -- ---- any command
 few_entered : (e : ℕ) (m : Model) (o : Option Bytes) → Few e m → Few e (entered_by o m)
-few_entered e m none f = f
-few_entered e m (some s) f = few_scope e m f _
+few_entered e m None f = f
+few_entered e m (Some s) f = few_scope e m f _
 
 few_moved : (e : ℕ) (m : Model) (ws : List Bytes) → Few e m → Few e (scope_command m ws)
 unfolding scope_command
@@ -360,8 +358,8 @@ module _ (load : Bytes → Counted → Model → Reading) (loads : Loads load) (
       go (refused x k) g rest = g
 
 few_body : (load : Bytes → Counted → Model → Reading) → Loads load → (path : Bytes) (o : Option Bytes) (n : Counted) (m : Model) → Few n.entries m → FewIn (read_body load path o n m)
-few_body load loads path none n m f = tt
-few_body load loads path (some body) n m f = few_commands load loads path m.variables _ n m f
+few_body load loads path None n m f = tt
+few_body load loads path (Some body) n m f = few_commands load loads path m.variables _ n m f
 
 few_file : (files : List File) (left : ℕ) (path : Bytes) (n : Counted) (m : Model) → Few n.entries m → FewIn (read_file files left path n m)
 unfolding read_file

@@ -1,4 +1,5 @@
 -- The first byte of a text in pieces: laws as the needs ask them. Assumes nothing.
+use Rattle.std.specs.Prelude.{Option, Some, None}
 use Prim.Native.Nat.{ℕ, zero, suc, ◌+◌, ◌-◌, ◌≤◌, ◌<◌}
 use mathlib.Core.Path.{◌≡◌, refl, sym, ap, ◌∙◌}
 use mathlib.Core.Bool.{Bool, true, false, ◌&&◌}
@@ -14,13 +15,9 @@ use Rattle.text.specs.Lists.{take_none}
 use Rattle.text.specs.Sames.{both, no_true}
 use Rattle.names.specs.Name.{name_of, slash, step_of as name_step}
 use Rattle.names.specs.declared.name.Name.{Name}
-use Rattle.names.specs.declared.name.Step.{Step as NameStep}
-use Rattle.names.specs.declared.name.Step.TheVariants.{Byte as NameByte, End as NameEnd}
 use Rattle.refs.specs.Text.{front_of, text_of, step_of, Starts, ref_of, no_name, job_ref}
 use Rattle.refs.specs.Laws.{none_is, job_is}
 use Rattle.refs.specs.declared.Ref.{Ref}
-use Rattle.refs.specs.declared.Step.{Step}
-use Rattle.refs.specs.declared.Step.TheVariants.{Byte, End}
 
 -- ---- texts that are made: a name that is none
 
@@ -40,13 +37,13 @@ part_first job at zero h g = absurd (h refl)
 part_first job at (suc l) h g = rw (drop-cons job at 0 g, add-one, sub-one)
 
 module _ (job : Bytes) (at len : ℕ) where
-  pub starts_none : len ≡ 0 → Starts job at len End
+  pub starts_none : len ≡ 0 → Starts job at len None
   starts_none h = record { is = λ mem. rw h }
 
-  pub starts_past : length job ≤ at → Starts job at len End
+  pub starts_past : length job ≤ at → Starts job at len None
   starts_past h = record { is = λ mem. rw (drop_of_length-le job {i = at} h) (take_none len) }
 
-  pub starts_byte : (r : Ref) → (len ≡ 0 → ⊥) → at < length job → r ≡ job_ref (at + 1) (len - 1) → Starts job at len (Byte (get_or job at 0) r)
+  pub starts_byte : (r : Ref) → (len ≡ 0 → ⊥) → at < length job → r ≡ job_ref (at + 1) (len - 1) → Starts job at len (Some ((get_or job at 0), r))
   starts_byte r h g e = record { is = λ mem. part_first job at len h g ∙ rw (e, job_is job mem (at + 1) (len - 1)) }
 
 pub ruleset starts = (rules, starts_none, starts_past, starts_byte)
@@ -54,19 +51,19 @@ pub ruleset starts = (rules, starts_none, starts_past, starts_byte)
 -- ---- behind the name
 
 module _ (job mem : Bytes) where
-  module _ (n : Name) (at len : ℕ) (p : NameStep) (e : name_of mem n ≡ name_step mem p) where
-    pub last_end_lem : (u : Step) → p ≡ NameEnd → Starts job at len u → name_of mem n ++ take len (drop at job) ≡ step_of job mem u
+  module _ (n : Name) (at len : ℕ) (p : Option (ℕ × Name)) (e : name_of mem n ≡ name_step mem p) where
+    pub last_end_lem : (u : Option (ℕ × Ref)) → p ≡ None → Starts job at len u → name_of mem n ++ take len (drop at job) ≡ step_of job mem u
     last_end_lem u h g = rw (e, h) (g.is mem)
 
-    pub last_byte : (b : ℕ) (l t : Name) → p ≡ NameByte b t → l ≡ no_name → name_of mem n ++ take len (drop at job) ≡ b ∷ text_of job mem (ref_of l false 0 false t at len)
+    pub last_byte : (b : ℕ) (x : Ref) (t : Name) → p ≡ Some (b, t) → x ≡ job_ref at len → name_of mem n ++ take len (drop at job) ≡ b ∷ text_of job mem (ref_of x.name x.cut x.upto x.sep t x.at x.len)
     unfolding text_of
-    last_byte b l t h g = rw (e, h, g, none_is mem)
+    last_byte b x t h g = rw (e, h, g, none_is mem)
 
-  pub behind_sep : (s : Bool) (n l : Name) (at len : ℕ) → s ≡ true → l ≡ no_name → slash s ++ (name_of mem n ++ take len (drop at job)) ≡ byte "/" ∷ text_of job mem (ref_of l false 0 false n at len)
+  pub behind_sep : (s : Bool) (n : Name) (x : Ref) (at len : ℕ) → s ≡ true → x ≡ job_ref at len → slash s ++ (name_of mem n ++ take len (drop at job)) ≡ byte "/" ∷ text_of job mem (ref_of x.name x.cut x.upto x.sep n x.at x.len)
   unfolding text_of
-  behind_sep s n l at len h g = rw (h, g, none_is mem)
+  behind_sep s n x at len h g = rw (h, g, none_is mem)
 
-  pub behind_none : (s : Bool) (w : Bytes) (u : Step) → w ≡ step_of job mem u → s ≡ false → slash s ++ w ≡ step_of job mem u
+  pub behind_none : (s : Bool) (w : Bytes) (u : Option (ℕ × Ref)) → w ≡ step_of job mem u → s ≡ false → slash s ++ w ≡ step_of job mem u
   behind_none s w u e h = rw h e
 
 pub ruleset behinds = (rules, last_end_lem, last_byte, behind_sep, behind_none)
@@ -89,16 +86,16 @@ front_byte true (suc k) b n h = rw sub-one
 front_byte false k b n h = refl
 
 module _ (job mem : Bytes) (r : Ref) where
-  pub next_cut : (u : Step) → slash r.sep ++ (name_of mem r.last ++ take r.len (drop r.at job)) ≡ step_of job mem u → (r.cut && eqb r.upto 0) ≡ true → text_of job mem r ≡ step_of job mem u
+  pub next_cut : (u : Option (ℕ × Ref)) → slash r.sep ++ (name_of mem r.last ++ take r.len (drop r.at job)) ≡ step_of job mem u → (r.cut && eqb r.upto 0) ≡ true → text_of job mem r ≡ step_of job mem u
   unfolding text_of
   next_cut u e h = rw (front_none r.cut r.upto (name_of mem r.name) h) e
 
-  module _ (p : NameStep) (f : name_of mem r.name ≡ name_step mem p) where
-    pub next_end : (u : Step) → slash r.sep ++ (name_of mem r.last ++ take r.len (drop r.at job)) ≡ step_of job mem u → p ≡ NameEnd → text_of job mem r ≡ step_of job mem u
+  module _ (p : Option (ℕ × Name)) (f : name_of mem r.name ≡ name_step mem p) where
+    pub next_end : (u : Option (ℕ × Ref)) → slash r.sep ++ (name_of mem r.last ++ take r.len (drop r.at job)) ≡ step_of job mem u → p ≡ None → text_of job mem r ≡ step_of job mem u
     unfolding text_of
     next_end u e h = rw (f, h, front_empty r.cut r.upto) e
 
-    pub next_byte : (b k : ℕ) (t : Name) → p ≡ NameByte b t → k ≡ r.upto - 1 → (r.cut && eqb r.upto 0) ≡ false → text_of job mem r ≡ b ∷ text_of job mem (ref_of t r.cut k r.sep r.last r.at r.len)
+    pub next_byte : (b k : ℕ) (t : Name) → p ≡ Some (b, t) → k ≡ r.upto - 1 → (r.cut && eqb r.upto 0) ≡ false → text_of job mem r ≡ b ∷ text_of job mem (ref_of t r.cut k r.sep r.last r.at r.len)
     unfolding text_of
     next_byte b k t h g z = rw (f, h, g, front_byte r.cut r.upto b (name_of mem t) z)
 

@@ -7,7 +7,7 @@ use native.Mathlib.Omega.{arith}
 use lib.Dec.{eqb}
 use lib.ListN.{length, take, drop, get_or}
 use borrow.Author.Rules.{rules}
-use borrow.Author.Tests.{eqb-true}
+use borrow.Author.Tests.{eqb-false, eqb-true}
 use Rattle.text.specs.Ascii.{Bytes}
 use Rattle.text.specs.Compare.{same}
 use Rattle.text.specs.Sames.{same_refl, same_eq, differ, both, no_true}
@@ -103,7 +103,14 @@ is_apart (x ∷ u) (y ∷ v) h g z =
     let b : suc (length v) - 1 ≡ length v = omega arith in
     record { is = λ _. λ p q. ends_differ x y u v p q (λ k. z (rw (a, b) (last_get x u ∙ k ∙ sym (last_get y v)))) }
 
-pub ruleset aparts = (rules, not_apart, is_apart)
+pub apart_by : (u v : Bytes) → (length u ≡ 0 → ⊥) → (length v ≡ 0 → ⊥) → Apart u v (not (eqb (get_or u (length u - 1) 0) (get_or v (length v - 1) 0)))
+apart_by u v h g = go (eqb (get_or u (length u - 1) 0) (get_or v (length v - 1) 0)) refl
+  where
+    go : (b : Bool) → eqb (get_or u (length u - 1) 0) (get_or v (length v - 1) 0) ≡ b → Apart u v (not b)
+    go true e = not_apart u v
+    go false e = is_apart u v h g (eqb-false _ _ e)
+
+pub ruleset aparts = (rules, not_apart, apart_by)
 
 -- ---- what stands before
 

@@ -1,4 +1,5 @@
 -- What is written part by part: laws as the needs ask them. Assumes nothing.
+use Rattle.std.specs.Prelude.{Option, Some, None, is_some}
 use Prim.Native.Nat.{ℕ, suc, ◌+◌, ◌-◌, ◌≤◌, ◌<◌}
 use native.Mathlib.Omega.{arith}
 use mathlib.Core.Path.{◌≡◌, refl, sym, ◌∙◌}
@@ -14,8 +15,6 @@ use Rattle.out.specs.Emit.{Out, emit, emit_append}
 use Rattle.out.specs.Bytewise.{flat, becomes, dotted, flat_two, flat_same}
 use Rattle.names.specs.Name.{name_of, slash, step_of as name_step}
 use Rattle.names.specs.declared.name.Name.{Name}
-use Rattle.names.specs.declared.name.Step.{Step as NameStep}
-use Rattle.names.specs.declared.name.Step.TheVariants.{Byte as NameByte, End as NameEnd}
 use Rattle.refs.specs.Text.{front_of, text_of, as_dots}
 use Rattle.refs.specs.Heads.{is_there}
 use Rattle.refs.specs.declared.Ref.{Ref}
@@ -48,20 +47,31 @@ pub record Fronts (mem : Bytes) (f : ℕ → Bytes) (w o : Out) (x : Name) (k : 
   pub keeps : emit o (flat f (take k (name_of mem x))) ≡ w
 
 module _ (mem : Bytes) (f : ℕ → Bytes) (w o : Out) (x : Name) (k : ℕ) (inv : Fronts mem f w o x k) where
-  pub front_all : k ≤ 0 → o ≡ w
+  pub front_all : k ≡ 0 → o ≡ w
   unfolding flat emit
-  front_all h = let z : k ≡ 0 = omega arith in rw z at inv.keeps
+  front_all z = rw z at inv.keeps
 
-  module _ (p : NameStep) (e : name_of mem x ≡ name_step mem p) where
-    pub front_end : p ≡ NameEnd → o ≡ w
+  module _ (p : Option (ℕ × Name)) (e : name_of mem x ≡ name_step mem p) where
+    pub front_end : p ≡ None → o ≡ w
     unfolding flat emit
     front_end h = rw (e, h, take_none k) at inv.keeps
 
-    pub front_step : 0 < k → (b : ℕ) (u : Name) (o' : Out) → p ≡ NameByte b u → o' ≡ emit o (f b) → Fronts mem f w o' u (k - 1)
+    pub front_step : 0 < k → (b : ℕ) (u : Name) (o' : Out) → p ≡ Some (b, u) → o' ≡ emit o (f b) → Fronts mem f w o' u (k - 1)
     unfolding flat
     front_step l b u o' h g = let z : k ≡ suc (k - 1) = omega arith in record { keeps = rw g (rw (z, e, h, emit_append) at inv.keeps) }
 
-pub ruleset fronts = (rules, front_all, front_end, front_step)
+pub front_start : (mem : Bytes) (f : ℕ → Bytes) (o : Out) (x : Name) (k : ℕ) → Fronts mem f (emit o (flat f (take k (name_of mem x)))) o x (k - 0)
+front_start mem f o x k = let z : k - 0 ≡ k = omega arith in rw z (record { keeps = refl })
+
+pub front_next : (mem : Bytes) (f : ℕ → Bytes) (w o : Out) (x : Name) (n i : ℕ) (inv : Fronts mem f w o x (n - i)) (p : Option (ℕ × Name)) (e : name_of mem x ≡ name_step mem p) → i < n → (b : ℕ) (u : Name) (o' : Out) → p ≡ Some (b, u) → o' ≡ emit o (f b) → Fronts mem f w o' u (n - (i + 1))
+front_next mem f w o x n i inv p e l b u o' h g =
+    let z : n - i - 1 ≡ n - (i + 1) = omega arith in
+    rw z at (front_step mem f w o x (n - i) inv p e (omega arith) b u o' h g)
+
+pub front_done : (mem : Bytes) (f : ℕ → Bytes) (w o : Out) (x : Name) (n i : ℕ) → Fronts mem f w o x (n - i) → n ≤ i → o ≡ w
+front_done mem f w o x n i inv h = let z : n - i ≡ 0 = omega arith in front_all mem f w o x (n - i) inv z
+
+pub ruleset fronts = (rules, front_done, front_end, front_next)
 
 -- ---- with dots, where they are wanted
 
@@ -131,10 +141,8 @@ module _ (job mem : Bytes) (r : Ref) (u : Bytes) (e : u ≡ take r.len (drop r.a
         go x k [] c = sym (rw (front_empty x k))
         go x k (y ∷ n) c = sym (rw (front_byte x k y n c))
 
-pub there_end : (mem : Bytes) (n : Name) (p : NameStep) → name_of mem n ≡ name_step mem p → p ≡ NameEnd → false ≡ is_there (name_of mem n)
-there_end mem n p e h = rw (e, h)
+pub there_is : (mem : Bytes) (n : Name) (p : Option (ℕ × Name)) → name_of mem n ≡ name_step mem p → is_some p ≡ is_there (name_of mem n)
+there_is mem n None e = rw e
+there_is mem n (Some (b, u)) e = rw e
 
-pub there_byte : (mem : Bytes) (n : Name) (p : NameStep) → name_of mem n ≡ name_step mem p → (b : ℕ) (u : Name) → p ≡ NameByte b u → true ≡ is_there (name_of mem n)
-there_byte mem n p e b u h = rw (e, h)
-
-pub ruleset theres = (rules, there_end, there_byte, there_part, there_last, there_none, there_name)
+pub ruleset theres = (rules, there_is, there_part, there_last, there_none, there_name)

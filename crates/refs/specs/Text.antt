@@ -1,4 +1,5 @@
 -- How a `Ref` stands for a byte string: a stored name, or its first bytes; a slash; another stored name; a part of the job. Assumes nothing.
+use Rattle.std.specs.Prelude.{Option, Some, None}
 use Rattle.std.specs.Prelude.{ℕ, ◌≡◌, Bool, false, true, cond, ◌&&◌, [], ◌∷◌, ◌++◌, eqb, take, drop}
 use Rattle.text.specs.Ascii.{Bytes, byte}
 use Rattle.out.specs.Bytewise.{dotted}
@@ -6,8 +7,6 @@ use Rattle.spans.specs.Span.{◌⋯◌}
 use Rattle.names.specs.Name.{named, name_of, slash}
 use Rattle.names.specs.declared.name.Name.{Name}
 use Rattle.refs.specs.declared.Ref.{Ref}
-use Rattle.refs.specs.declared.Step.{Step}
-use Rattle.refs.specs.declared.Step.TheVariants.{Byte, End}
 
 abbrev pub front_of : Bool → ℕ → Bytes → Bytes
 front_of cut upto n = cond cut (take upto n) n
@@ -16,12 +15,12 @@ unfoldable pub text_of : Bytes → Bytes → Ref → Bytes
 text_of job mem r = front_of r.cut r.upto (name_of mem r.name) ++ (slash r.sep ++ (name_of mem r.last ++ take r.len (drop r.at job)))
 
 -- what is left, as the answer of a read tells it
-abbrev pub step_of : Bytes → Bytes → Step → Bytes
-step_of job mem (Byte b r) = b ∷ text_of job mem r
-step_of job mem End = []
+abbrev pub step_of : Bytes → Bytes → Option (ℕ × Ref) → Bytes
+step_of job mem (Some (b, r)) = b ∷ text_of job mem r
+step_of job mem None = []
 
 -- of a part of the job: its first byte and what is left, whatever is stored
-pub record Starts (job : Bytes) (at len : ℕ) (r : Step) : Type 0 where
+pub record Starts (job : Bytes) (at len : ℕ) (r : Option (ℕ × Ref)) : Type 0 where
   pub is : (mem : Bytes) → take len (drop at job) ≡ step_of job mem r
 
 -- ---- texts that are made

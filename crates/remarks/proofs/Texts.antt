@@ -1,4 +1,5 @@
 -- Texts of the report: each law is stated as a need asks it. Assumes nothing.
+use Rattle.std.specs.Prelude.{Option, Some, None}
 use Prim.Native.Nat.{ℕ}
 use mathlib.Core.Path.{◌≡◌, refl, sym, ap, ◌∙◌}
 use mathlib.Core.Bool.{Bool, true, false, not}
@@ -14,8 +15,6 @@ use Rattle.names.specs.declared.name.Name.{Name}
 use Rattle.model.specs.Commands.{or_else}
 use Rattle.store.specs.Strings.{string, maybe_of}
 use Rattle.store.specs.declared.stored.Stored.{Stored}
-use Rattle.store.specs.declared.stored.Maybe.{Maybe}
-use Rattle.store.specs.declared.stored.Maybe.TheVariants.{Not, Given}
 use Rattle.store.specs.declared.state.Isolation.{Isolation}
 use Rattle.texts.specs.Isolation.{lowered}
 use Rattle.texts.specs.Texts.{warning_line}
@@ -31,6 +30,12 @@ use Rattle.keep.specs.declared.Cover.{Cover}
 use Rattle.remarks.specs.Lines.{no_signal, unknown_domain, not_outputs, clamp_unknown, strategy_line, or_arg, Lined}
 
 -- ---- warnings
+
+-- ---- a text over a buffer
+
+-- what was written into the text stands in the buffer
+pub over_written : (out out' : Bytes) (at o : ℕ) (z₀ z₁ : Out) (t : Bytes) → z₁ ≡ emit z₀ t → z₀ ≡ out ▸ at → out' ▸ o ≡ z₁ → out' ▸ o ≡ emit (out ▸ at) t
+over_written out out' at o z₀ z₁ t e f g = g ∙ rw (← f) e
 
 module _ (warn : Bool) (c : Cover) (out : Bytes) where
   -- a line that was written
@@ -93,24 +98,24 @@ pub ruleset unknowns = (rules, unknown_written)
 
 -- ---- the line
 
-pub or_not : (m : Maybe) (k : ℕ) (r : Arg) → r ≡ fixed_arg k → m ≡ Not → r ≡ or_arg m k
+pub or_not : (m : Option Stored) (k : ℕ) (r : Arg) → r ≡ fixed_arg k → m ≡ None → r ≡ or_arg m k
 or_not m k r e h = rw h e
 
-pub or_given : (m : Maybe) (k : ℕ) (s : Stored) (n : Name) (r : Arg) → r ≡ name_arg n → n ≡ stored_name s → m ≡ Given s → r ≡ or_arg m k
+pub or_given : (m : Option Stored) (k : ℕ) (s : Stored) (n : Name) (r : Arg) → r ≡ name_arg n → n ≡ stored_name s → m ≡ Some s → r ≡ or_arg m k
 or_given m k s n r e f h = rw (h, ← f) e
 
 pub ruleset ors = (rules, or_not, or_given)
 
 module _ (job mem : Bytes) (scope : List Bytes) (top : Bytes) where
-  or_zero : (m : Maybe) → arg_of job mem scope top (or_arg m 7) ≡ or_else (maybe_of mem m) (ascii "0")
+  or_zero : (m : Option Stored) → arg_of job mem scope top (or_arg m 7) ≡ or_else (maybe_of mem m) (ascii "0")
   unfolding arg_of
-  or_zero Not = refl
-  or_zero (Given s) = name_arg_lem job mem scope top (stored_name s) ∙ stored_is mem s
+  or_zero None = refl
+  or_zero (Some s) = name_arg_lem job mem scope top (stored_name s) ∙ stored_is mem s
 
-  or_high : (m : Maybe) → arg_of job mem scope top (or_arg m 10) ≡ or_else (maybe_of mem m) (ascii "high")
+  or_high : (m : Option Stored) → arg_of job mem scope top (or_arg m 10) ≡ or_else (maybe_of mem m) (ascii "high")
   unfolding arg_of
-  or_high Not = refl
-  or_high (Given s) = name_arg_lem job mem scope top (stored_name s) ∙ stored_is mem s
+  or_high None = refl
+  or_high (Some s) = name_arg_lem job mem scope top (stored_name s) ∙ stored_is mem s
 
   name_of_lem : (s : Stored) (n : Name) (a : Arg) → a ≡ name_arg n → n ≡ stored_name s → arg_of job mem scope top a ≡ string mem s
   name_of_lem s n a e f = ap (arg_of job mem scope top) e ∙ name_arg_lem job mem scope top n ∙ ap (name_of mem) f ∙ stored_is mem s

@@ -17,11 +17,12 @@ use format::arg::{Arg, fixed, name as name_arg};
 use format::fill::{fill, fill1, fill2};
 use keep::{Cover, warned};
 use names::name::Name;
-use out::emit::put;
+use out::emit::Text;
 use store::state::Isolation;
-use store::stored::Maybe;
+use store::stored::Stored;
 
 // It has no signal.
+#[tactic(auto, using(crate::proofs::Texts::warns))]
 pub fn no_signal(
     out: &mut [u8],
     warn: bool,
@@ -36,9 +37,9 @@ pub fn no_signal(
     if !warn {
         return warned(c, c.at);
     }
-    let o = fill1(
-        out,
-        c.at,
+    let mut text = Text::over(out, c.at);
+    fill1(
+        &mut text,
         b"warning: isolation strategy '{0}' has no -isolation_signal; not simulated\n",
         job,
         files,
@@ -48,10 +49,12 @@ pub fn no_signal(
         b"",
         name_arg(n),
     );
+    let o = text.end();
     warned(c, o)
 }
 
 // Its domain d is not known.
+#[tactic(auto, using(crate::proofs::Texts::warns))]
 pub fn unknown_domain(
     out: &mut [u8],
     warn: bool,
@@ -67,9 +70,9 @@ pub fn unknown_domain(
     if !warn {
         return warned(c, c.at);
     }
-    let o = fill2(
-        out,
-        c.at,
+    let mut text = Text::over(out, c.at);
+    fill2(
+        &mut text,
         b"warning: isolation strategy '{0}': unknown domain '{1}'\n",
         job,
         files,
@@ -80,10 +83,12 @@ pub fn unknown_domain(
         name_arg(n),
         name_arg(d),
     );
+    let o = text.end();
     warned(c, o)
 }
 
 // It applies to a, which is not the outputs.
+#[tactic(auto, using(crate::proofs::Texts::warns))]
 pub fn not_outputs(
     out: &mut [u8],
     warn: bool,
@@ -99,9 +104,9 @@ pub fn not_outputs(
     if !warn {
         return warned(c, c.at);
     }
-    let o = fill2(
-        out,
-        c.at,
+    let mut text = Text::over(out, c.at);
+    fill2(
+        &mut text,
         b"warning: isolation strategy '{0}': -applies_to {1} not simulated (outputs only)\n",
         job,
         files,
@@ -112,6 +117,7 @@ pub fn not_outputs(
         name_arg(n),
         name_arg(a),
     );
+    let o = text.end();
     warned(c, o)
 }
 
@@ -127,9 +133,9 @@ fn put_unknown(
 ) -> usize
     ensures { out.new ▸ result ≡ emit (out.old ▸ at) (warning_line (clamp_unknown (name_of (files.now ++ area.now) n) (lowered (name_of (files.now ++ area.now) v)))) }
 {
-    let o = fill1(
-        out,
-        at,
+    let mut text = Text::over(out, at);
+    fill1(
+        &mut text,
         b"warning: isolation strategy '{0}': clamp value '",
         job,
         files,
@@ -139,11 +145,13 @@ fn put_unknown(
         b"",
         name_arg(n),
     );
-    let p = put_lowered(out, o, files, area, v);
-    put(out, p, b"' not simulated\n")
+    put_lowered(&mut text, files, area, v);
+    text.put(b"' not simulated\n");
+    text.end()
 }
 
 // Its clamp value v is none that is simulated.
+#[tactic(auto, using(crate::proofs::Texts::warns))]
 pub fn clamp_unknown(
     out: &mut [u8],
     warn: bool,
@@ -164,12 +172,13 @@ pub fn clamp_unknown(
 }
 
 // What is given, or a literal.
-fn or_literal(m: Maybe, k: u8) -> Arg
+#[tactic(auto, using(crate::proofs::Texts::ors))]
+fn or_literal(m: Option<Stored>, k: u8) -> Arg
     ensures { result ≡ or_arg m k }
 {
     match m {
-        Maybe::Not => fixed(k),
-        Maybe::Given(s) => name_arg(stored(s)),
+        None => fixed(k),
+        Some(s) => name_arg(stored(s)),
     }
 }
 
@@ -193,9 +202,9 @@ fn put_line(
     let d = stored(domain);
     let clamp = or_literal(given, 7);
     let sense = or_literal(written, 10);
+    let mut text = Text::over(out, at);
     fill(
-        out,
-        at,
+        &mut text,
         b"isolation {0} on {1}: clamp {2} control {3} sense {4}\n",
         job,
         files,
@@ -208,10 +217,12 @@ fn put_line(
         clamp,
         name_arg(signal),
         sense,
-    )
+    );
+    text.end()
 }
 
 // The line of a strategy with this signal.
+#[tactic(auto, using(crate::proofs::Texts::lineds))]
 pub fn line(
     out: &mut [u8],
     warn: bool,

@@ -82,12 +82,10 @@ fn is_due(a: Answer, d: Due) -> bool {
 
 // Whether all numbers are 0.
 fn all_zero(nums: &[u32]) -> bool {
-    let mut i = 0;
-    while i < nums.len() {
+    for i in 0..nums.len() {
         if nums[i] != 0 {
             return false;
         }
-        i += 1;
     }
     true
 }

@@ -1,4 +1,5 @@
 -- The lines of the shifters: laws as the needs ask them. Assumes nothing.
+use Rattle.store.specs.declared.state.Few.{Few}
 use Prim.Native.Nat.{ℕ, ◌+◌, ◌≤◌, ◌<◌}
 use mathlib.Core.Path.{◌≡◌, refl, sym, ap, ◌∙◌}
 use mathlib.Core.List.{List, ◌++◌, map}
@@ -12,20 +13,19 @@ use Rattle.texts.specs.Texts.{shifter_line}
 use Rattle.store.specs.Strings.{string}
 use Rattle.store.specs.View.{shifter_of}
 use Rattle.store.specs.declared.state.Shifter.{Shifter}
-use Rattle.store.specs.declared.state.Shifters.{Shifters}
 use Rattle.setting.specs.Orders.{Holds, holds_few, holds_next, holds_end}
 
 pub shifter_is : (mem : Bytes) (x : Shifter) (o o' : Out) → o' ≡ emit o (format2 "level shifter {0} on {1}: transparent\n" (string mem x.name) (string mem x.domain)) → o' ≡ emit o (shifter_line (shifter_of mem x))
 unfolding shifter_of
 shifter_is mem x o o' h = h
 
-pub record Lines (mem : Bytes) (t : Shifters) (w o : Out) (i : ℕ) : Type 0 where
+pub record Lines (mem : Bytes) (t : Few Shifter) (w o : Out) (i : ℕ) : Type 0 where
   pub keeps : emit o (each shifter_line (map (shifter_of mem) (drop i (take t.n t.all)))) ≡ w
 
-pub lines_start : (mem : Bytes) (t : Shifters) (o : Out) → Lines mem t (emit o (each shifter_line (map (shifter_of mem) (take t.n t.all)))) o 0
+pub lines_start : (mem : Bytes) (t : Few Shifter) (o : Out) → Lines mem t (emit o (each shifter_line (map (shifter_of mem) (take t.n t.all)))) o 0
 lines_start mem t o = record { keeps = refl }
 
-module _ (of : Shifter → ℕ) (bound : ℕ) (t : Shifters) (g : Holds of bound t.n t.all) where
+module _ (of : Shifter → ℕ) (bound : ℕ) (t : Few Shifter) (g : Holds of bound t.n t.all) where
   pub few_shifters : t.n ≤ 32
   few_shifters = holds_few of bound t.n t.all g
 

@@ -2,7 +2,7 @@
 #![tactic(auto)]
 
 ghost use Rattle.std.specs.Prelude.{◌≡◌, ◌++◌, map, ◌≤◌, length, take, drop};
-ghost use Rattle.out.specs.Emit.{◌▸◌, emit};
+ghost use Rattle.out.specs.Text.{Writes};
 ghost use Rattle.out.specs.Items.{each};
 ghost use Rattle.nametable.specs.Table.{table_names};
 ghost use Rattle.scope.specs.Parts.{parts};
@@ -17,17 +17,16 @@ ghost use Rattle.reportlines.specs.Lines.{head_text, scope_text};
 
 use format::arg::wrapped;
 use listnames::put_names;
-use out::emit::put;
+use out::emit::Text;
 use refs::of_job;
 use store::row::row_at;
-use store::state::{Shifter, Shifters};
+use store::state::{Few, Shifter};
 use store::stored::Stored;
 use storedtexts::{fill1, fill2};
 
 // Writes the scope's path, and its module, whose name is a part of the job.
 fn put_head(
-    out: &mut [u8],
-    at: usize,
+    to: &mut Text,
     job: &[u8],
     files: &[u8],
     area: &[u8],
@@ -36,12 +35,11 @@ fn put_head(
     top: &[u8],
     place: usize,
     len: usize,
-) -> usize
-    ensures { out.new ▸ result ≡ emit (out.old ▸ at) (head_text top.now (parts over.now from) (take len (drop place job.now))) }
+)
+    ensures { Writes to.old (head_text top.now (parts over.now from) (take len (drop place job.now))) to.new }
 {
     format::fill::fill2(
-        out,
-        at,
+        to,
         b"scope {0} ({1}), ",
         job,
         files,
@@ -56,8 +54,7 @@ fn put_head(
 
 // Writes the line of the scope: its path, its module, the number of nets, the nets.
 pub fn scope_line(
-    out: &mut [u8],
-    at: usize,
+    to: &mut Text,
     job: &[u8],
     files: &[u8],
     area: &[u8],
@@ -68,65 +65,48 @@ pub fn scope_line(
     len: usize,
     nets: &[u32],
     n: usize,
-) -> usize
+)
     requires { n ≤ 65536 }
-    ensures { out.new ▸ result ≡ emit (out.old ▸ at) (scope_text top.now (parts over.now from) (take len (drop place job.now)) n (table_names (files.now ++ area.now) nets.now n)) }
+    ensures { Writes to.old (scope_text top.now (parts over.now from) (take len (drop place job.now)) n (table_names (files.now ++ area.now) nets.now n)) to.new }
 {
-    let a = put_head(out, at, job, files, area, over, from, top, place, len);
-    let b = out::number::decimal(out, a, n as u64);
-    let c = put(out, b, b" supply nets: ");
-    let d = put_names(out, c, files, area, nets, n, b", ");
-    put(out, d, b"\n")
+    put_head(to, job, files, area, over, from, top, place, len);
+    to.decimal(n as u64);
+    to.put(b" supply nets: ");
+    put_names(to, files, area, nets, n, b", ");
+    to.put(b"\n")
 }
 
 // Writes the line of a level shifter.
-fn shifter_line(out: &mut [u8], at: usize, files: &[u8], area: &[u8], x: Shifter) -> usize
-    ensures { out.new ▸ result ≡ emit (out.old ▸ at) (shifter_line (shifter_of (files.now ++ area.now) x)) }
+fn shifter_line(to: &mut Text, files: &[u8], area: &[u8], x: Shifter)
+    ensures { Writes to.old (shifter_line (shifter_of (files.now ++ area.now) x)) to.new }
 {
-    let name = x.name;
-    let domain = x.domain;
     fill2(
-        out,
-        at,
+        to,
         b"level shifter {0} on {1}: transparent\n",
         files,
         area,
-        name,
-        domain,
+        x.name,
+        x.domain,
     )
 }
 
 // Writes the lines of all level shifters.
-pub fn shifter_lines(out: &mut [u8], at: usize, files: &[u8], area: &[u8], t: Shifters) -> usize
+pub fn shifter_lines(to: &mut Text, files: &[u8], area: &[u8], t: Few<Shifter>)
     requires { Holds (of_shifter (reach_of (length files.now))) (length (files.now ++ area.now)) t.n t.all }
-    ensures { out.new ▸ result ≡ emit (out.old ▸ at) (each shifter_line (map (shifter_of (files.now ++ area.now)) (take t.n t.all))) }
+    ensures { Writes to.old (each shifter_line (map (shifter_of (files.now ++ area.now)) (take t.n t.all))) to.new }
 {
-    let m = t.n;
-    let mut o = at;
-    let mut i = 0;
-    while i < m {
-        let x = t.all[i];
-        o = shifter_line(out, o, files, area, x);
-        i += 1;
+    for i in 0..t.n {
+        shifter_line(to, files, area, t.all[i]);
     }
-    o
 }
 
 // Writes a warning of reading, by its kind.
-fn warning_line(
-    out: &mut [u8],
-    at: usize,
-    files: &[u8],
-    area: &[u8],
-    kind: u32,
-    name: Stored,
-) -> usize
-    ensures { out.new ▸ result ≡ emit (out.old ▸ at) (warning_line (text_of kind (string (files.now ++ area.now) name))) }
+fn warning_line(to: &mut Text, files: &[u8], area: &[u8], kind: u32, name: Stored)
+    ensures { Writes to.old (warning_line (text_of kind (string (files.now ++ area.now) name))) to.new }
 {
     if kind == 3 {
         return fill1(
-            out,
-            at,
+            to,
             b"warning: set_domain_supply_net: unknown power domain '{0}'\n",
             files,
             area,
@@ -135,8 +115,7 @@ fn warning_line(
     }
     if kind == 4 {
         return fill1(
-            out,
-            at,
+            to,
             b"warning: set_isolation {0}: -no_isolation, ignored\n",
             files,
             area,
@@ -145,8 +124,7 @@ fn warning_line(
     }
     if kind == 5 {
         return fill1(
-            out,
-            at,
+            to,
             b"warning: set_isolation_control: unknown isolation strategy '{0}'\n",
             files,
             area,
@@ -155,8 +133,7 @@ fn warning_line(
     }
     if kind == 6 {
         return fill1(
-            out,
-            at,
+            to,
             b"warning: add_pst_state: unknown PST '{0}'\n",
             files,
             area,
@@ -165,8 +142,7 @@ fn warning_line(
     }
     if kind == 7 {
         return fill1(
-            out,
-            at,
+            to,
             b"warning: '{0}' parsed but not simulated\n",
             files,
             area,
@@ -174,8 +150,7 @@ fn warning_line(
         );
     }
     fill1(
-        out,
-        at,
+        to,
         b"warning: unsupported UPF command '{0}' ignored\n",
         files,
         area,
@@ -184,28 +159,15 @@ fn warning_line(
 }
 
 // Writes the warnings of reading.
-pub fn read_warnings(
-    out: &mut [u8],
-    at: usize,
-    files: &[u8],
-    area: &[u8],
-    nums: &[u32],
-    rows: usize,
-) -> usize
+pub fn read_warnings(to: &mut Text, files: &[u8], area: &[u8], nums: &[u32], rows: usize)
     requires { rows ≤ 1024 }
-    ensures { out.new ▸ result ≡ emit (out.old ▸ at) (each warning_line (map (warning_text (files.now ++ area.now)) (warnings_in (rows_in nums.now rows)))) }
+    ensures { Writes to.old (each warning_line (map (warning_text (files.now ++ area.now)) (warnings_in (rows_in nums.now rows)))) to.new }
 {
-    let mut o = at;
-    let mut i = 0;
-    while i < rows {
+    for i in 0..rows {
         let r = row_at(nums, i);
         if r.kind < 3 {
-            i += 1;
             continue;
         }
-        let name = r.name;
-        o = warning_line(out, o, files, area, r.kind, name);
-        i += 1;
+        warning_line(to, files, area, r.kind, r.name);
     }
-    o
 }

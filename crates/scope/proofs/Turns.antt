@@ -1,19 +1,24 @@
 -- One turn along the parts of an override, and along a path of instance names.
 -- Assumes nothing.
+use Rattle.std.specs.Prelude.{Option, unwrap_or}
+use Rattle.std.specs.List.{position_or_len}
+use Rattle.std.proofs.Common.{ltb, ltb-true, ltb-false, length-drop}
+use Rattle.std.proofs.Math.Nat.{sub-zero}
+use Rattle.std.proofs.lemmas.List.Recursion.{is_position_or_len}
+use Rattle.text.specs.Scans.{before_le}
 use mathlib.Core.Path.{◌≡◌, refl, ap, ◌∙◌, sym}
 use Prim.Native.Nat.{ℕ, suc, ◌+◌, ◌-◌, ◌<◌, ◌≤◌}
 use native.Mathlib.Numerals.{add-one}
 use native.Mathlib.Omega.{arith}
-use mathlib.Core.Bool.{Bool, true, false}
-use mathlib.Core.List.{List, [], ◌∷◌}
-use mathlib.Core.Option.{none, some}
+use mathlib.Core.Bool.{Bool, true, false, cond, not}
+use mathlib.Core.List.{List, [], ◌∷◌, map}
+use Rattle.std.specs.Prelude.{None, Some}
 use lib.ListN.{length, take, drop, get_or, drop_of_length-le}
 use lib.Seq.{drop-drop, drop-cons}
 use borrow.Author.Rules.{rules}
 use Rattle.text.specs.Ascii.{Bytes}
 use Rattle.text.specs.Compare.{same}
 use Rattle.text.specs.Scan.{before, Ends}
-use Rattle.text.specs.Lists.{here}
 use Rattle.jobindex.specs.Index.{module_row}
 use Rattle.jobindex.specs.declared.Span.{Span}
 use Rattle.design.specs.Lookup.{module_at}
@@ -23,41 +28,91 @@ use Rattle.lookup.specs.Rows.{modules, row_is, ModuleSeen, below, at_none, at_mo
 use Rattle.search.specs.declared.Found.{Found}
 use Rattle.search.specs.Found.{way_from}
 use Rattle.scope.specs.declared.PartAt.{PartAt}
-use Rattle.scope.specs.declared.PartAt.TheVariants as part
-use Rattle.scope.specs.Parts.{separates, parts, PartSeen, no_parts, parts_skip, parts_word, separates_first}
+use Rattle.scope.specs.Parts.{separates, parts, PartSeen, no_parts, parts_skip, parts_word}
+
+-- ---- scans
+module _ (p : ℕ → Bool) where
+  before_is : (t : List ℕ) → before p t ≡ position_or_len p t
+  unfolding before
+  before_is = is_position_or_len (before p) p refl (λ x xs. ap (cond (p x) 0) (omega arith))
+
+  -- the first place that passes p
+  abbrev pub FoundAt : List ℕ → Option ℕ → Type 0
+  FoundAt t None = before p t ≡ length t
+  FoundAt t (Some n) = (n ≡ before p t) × (n < length t)
+
+  -- what `position` found, as `position_from_yields_List` says it
+  pub found_at : (t : List ℕ) (r : Option ℕ) → r ≡ cond (ltb (position_or_len p t) (length t)) (Some (position_or_len p t)) None → FoundAt t r
+  found_at t r h = rw (h, ← before_is t) (go (ltb (before p t) (length t)) refl)
+    where
+      go : (q : Bool) → ltb (before p t) (length t) ≡ q → FoundAt t (cond q (Some (before p t)) None)
+      go true e = (refl, ltb-true (before p t) (length t) e)
+      go false e = omega (arith, ltb-false (before p t) (length t) e, before_le p t)
+
+  position_or_end : (t : List ℕ) (r : Option ℕ) → FoundAt t r → unwrap_or r (length t) ≡ before p t
+  position_or_end t None h = sym h
+  position_or_end t (Some n) h = h.0
+
+  pub ends_at : (at n : ℕ) (s t : List ℕ) (r : Option ℕ) → at ≤ length s → t ≡ drop at s → n ≡ unwrap_or r (length t) → FoundAt t r → Ends (at + before p (drop at s)) (length s) (at + n)
+  ends_at at n s t r l e f g =
+      let m : n ≡ before p t = f ∙ position_or_end t r g in
+      record { is_at = rw (m, e); within = omega (arith, m, e, ap (before p) e, before_le p (drop at s), length-drop at s) }
 
 -- ---- the next part
-module _ (over : Bytes) (at i : ℕ) (inv : parts over at ≡ parts over i) where
-  pub part_none : length over ≤ i → PartSeen over at part.End
-  part_none h = record { says = sym (inv ∙ rw (drop_of_length-le over {i = i} h) no_parts); goes = tt }
+abbrev pub joins : ℕ → Bool
+joins b = not (separates b)
 
-  module _ (h : i < length over) (e : ℕ) (ends : Ends (i + before separates (drop i over)) (length over) e) where
-    pub part_skip : e ≡ i → parts over at ≡ parts over (i + 1)
-    part_skip g =
-        let z : before separates (drop i over) ≡ 0 = omega (arith, ends.is_at) in
-        inv ∙ rw (here over i h) (parts_skip (get_or over i 0) (drop (i + 1) over) (separates_first (get_or over i 0) (drop (i + 1) over) (ap (before separates) (sym (here over i h)) ∙ z)))
+skip_all : (p : Bytes) → override_parts p ≡ override_parts (drop (before joins p) p)
+unfolding before joins
+skip_all [] = refl
+skip_all (b ∷ p) = go (separates b) refl (skip_all p)
+  where
+    go : (q : Bool) → separates b ≡ q → override_parts p ≡ override_parts (drop (before joins p) p) → override_parts (b ∷ p) ≡ override_parts (drop (cond (not q) 0 (suc (before joins p))) (b ∷ p))
+    go true e f = parts_skip b p e ∙ f
+    go false e f = refl
 
-    pub part_here : at ≤ i → (e ≡ i → ⊥) → PartSeen over at (part.Part i (e - i) e)
-    part_here l g =
-        let n : before separates (drop i over) ≡ e - i = omega (arith, ends.is_at) in
-        let m : i + (e - i) ≡ e = omega (arith, ends.is_at) in
+-- behind the separators a part has a byte
+begins : (p : Bytes) → before joins p < length p → 0 < before separates (drop (before joins p) p)
+unfolding before joins
+begins [] h = absurd (omega arith)
+begins (b ∷ p) h = go (separates b) refl (λ k. begins p k) h
+  where
+    go : (q : Bool) → separates b ≡ q → (before joins p < length p → 0 < before separates (drop (before joins p) p)) → cond (not q) 0 (suc (before joins p)) < suc (length p) → 0 < before separates (drop (cond (not q) 0 (suc (before joins p))) (b ∷ p))
+    go true e f k = f (omega arith)
+    go false e f k = rw e (omega arith)
+
+module _ (over : Bytes) (at : ℕ) (after : Bytes) (ea : after ≡ drop at over) where
+  pub part_none : FoundAt joins after None → PartSeen over at None
+  part_none h =
+      let d : drop (before joins after) after ≡ [] = drop_of_length-le after {i = before joins after} (omega arith) in
+      record { says = sym (rw (← ea) (skip_all after ∙ rw d no_parts)); goes = tt }
+
+  module _ (n : ℕ) (found : FoundAt joins after (Some n)) where
+    pub part_within : at + n < length over
+    part_within = omega (arith, found.1, ap length ea, length-drop at over)
+
+    pub part_here : (e : ℕ) → Ends (at + n + before separates (drop (at + n) over)) (length over) e → PartSeen over at (Some (record { at = (at + n); len = (e - (at + n)); next = e }))
+    part_here e ends =
+        let d : drop n after ≡ drop (at + n) over = rw ea (drop-drop n at over) in
+        let b : 0 < before separates (drop (at + n) over) = rw (← d, found.0) (begins after (omega (arith, found.0, found.1))) in
+        let m : before separates (drop (at + n) over) ≡ e - (at + n) = omega (arith, ends.is_at) in
+        let z : at + n + (e - (at + n)) ≡ e = omega (arith, ends.is_at) in
+        let s : parts over at ≡ parts over (at + n) = rw (← ea, ← d, found.0) (skip_all after) in
         record {
-          says = sym (inv ∙ (parts_word (drop i over) (omega (arith, ends.is_at)) ∙ rw (n, drop-drop (e - i) i over, m)));
-          goes = (omega (arith, ends.is_at), ends.within);
+          says = sym (s ∙ (parts_word (drop (at + n) over) b ∙ rw (m, drop-drop (e - (at + n)) (at + n) over, z)));
+          goes = (omega (arith, ends.is_at, b), ends.within);
         }
 
-pub ruleset part_turns = (rules, part_none, part_skip, part_here)
-
 -- ---- without the top's own name
-module _ (over top : Bytes) (r : PartAt) (seen : PartSeen over 0 r) where
-  pub top_none : r ≡ part.End → parts over 0 ≡ without_top top (override_parts over)
-  top_none g = let e : override_parts over ≡ [] = rw (← seen.says, g) in rw e
+module _ (over top : Bytes) where
+  pub top_none : PartSeen over 0 None → parts over 0 ≡ without_top top (override_parts over)
+  top_none seen = let e : override_parts over ≡ [] = rw (← seen.says) in rw e
 
-  module _ (a l next : ℕ) (g : r ≡ part.Part a l next) (w : Bytes) (ew : w ≡ take l (drop a over)) (b : Bool) (eb : b ≡ same w top) where
-    first_is : override_parts over ≡ w ∷ parts over next
-    first_is = rw (ew, ← seen.says, g)
+  module _ (r : PartAt) (seen : PartSeen over 0 (Some r)) (w : Bytes) (ew : w ≡ take r.len (drop r.at over)) (b : Bool) (eb : b ≡ same w top) where
+    first_is : override_parts over ≡ w ∷ parts over r.next
+    first_is = rw (ew, ← seen.says)
 
-    pub top_first : b ≡ true → parts over next ≡ without_top top (override_parts over)
+    pub top_first : b ≡ true → parts over r.next ≡ without_top top (override_parts over)
     top_first h = rw (first_is, ← eb, h)
 
     pub top_other : b ≡ false → parts over 0 ≡ without_top top (override_parts over)
@@ -66,12 +121,12 @@ module _ (over top : Bytes) (r : PartAt) (seen : PartSeen over 0 r) where
 pub ruleset tops = (rules, top_none, top_first, top_other)
 
 -- ---- down a path: `names` are still to go
-row_one : (job : Bytes) (index : List ℕ) (row : ℕ) → row_is job index (row + 1) ≡ some (module_row job index row)
+row_one : (job : Bytes) (index : List ℕ) (row : ℕ) → row_is job index (row + 1) ≡ Some (module_row job index row)
 unfolding row_is
 row_one job index row = rw add-one
 
 module _ (job : Bytes) (index : List ℕ) (count row : ℕ) (n : Bytes) (ns : List Bytes) (q : ℕ) (seen : ModuleSeen job index count (below (modules job index count) (module_row job index row) n) q) where
-  down_none : q ≡ 0 → module_at (modules job index count) (module_row job index row) (n ∷ ns) ≡ none
+  down_none : q ≡ 0 → module_at (modules job index count) (module_row job index row) (n ∷ ns) ≡ None
   down_none h = at_more (modules job index count) (module_row job index row) n ns ∙ rw (← seen.says, h, row_none job index)
 
   down_some : (q ≡ 0 → ⊥) → module_at (modules job index count) (module_row job index row) (n ∷ ns) ≡ module_at (modules job index count) (module_row job index (q - 1)) ns
@@ -86,72 +141,62 @@ module _ (job : Bytes) (index : List ℕ) (count k : ℕ) (over : Bytes) (at : �
   pub along_start : count ≤ 128 → k < count → Along job index count k over at k at
   along_start f h = record { left = refl; there = h; few = f }
 
-  module _ (row i : ℕ) (inv : Along job index count k over at row i) (r : PartAt) (seen : PartSeen over i r) where
-    pub along_end : r ≡ part.End → ModuleSeen job index count (module_at (modules job index count) (module_row job index k) (parts over at)) (row + 1)
-    along_end g =
-        let e : parts over i ≡ [] = rw (← seen.says, g) in
+  module _ (row i : ℕ) (inv : Along job index count k over at row i) where
+    pub along_end : PartSeen over i None → ModuleSeen job index count (module_at (modules job index count) (module_row job index k) (parts over at)) (row + 1)
+    along_end seen =
+        let e : parts over i ≡ [] = rw (← seen.says) in
         record { says = row_one job index row ∙ sym (inv.left ∙ rw e (at_none (modules job index count) (module_row job index row))); within = omega (arith, inv.there) }
 
-    module _ (a l next : ℕ) (g : r ≡ part.Part a l next) where
-      pub along_less : length over - next < length over - i
-      along_less = let s : (i < next) × (next ≤ length over) = rw g at seen.goes in omega (arith, s.0, s.1)
+    module _ (r : PartAt) (seen : PartSeen over i (Some r)) where
+      pub along_less : length over - r.next < length over - i
+      along_less = omega (arith, seen.goes.0, seen.goes.1)
 
-      module _ (w : Bytes) (ew : w ≡ take l (drop a over)) (q : ℕ) (found : ModuleSeen job index count (below (modules job index count) (module_row job index row) w) q) where
-        names_are : parts over i ≡ w ∷ parts over next
-        names_are = rw (ew, ← seen.says, g)
+      module _ (w : Bytes) (ew : w ≡ take r.len (drop r.at over)) (q : ℕ) (found : ModuleSeen job index count (below (modules job index count) (module_row job index row) w) q) where
+        names_are : parts over i ≡ w ∷ parts over r.next
+        names_are = rw (ew, ← seen.says)
 
         pub along_none : q ≡ 0 → ModuleSeen job index count (module_at (modules job index count) (module_row job index k) (parts over at)) 0
-        along_none h = record { says = row_none job index ∙ sym (inv.left ∙ rw names_are (down_none job index count row w (parts over next) q found h)); within = omega arith }
+        along_none h = record { says = row_none job index ∙ sym (inv.left ∙ rw names_are (down_none job index count row w (parts over r.next) q found h)); within = omega arith }
 
-        pub along_on : (q ≡ 0 → ⊥) → Along job index count k over at (q - 1) next
+        pub along_on : (q ≡ 0 → ⊥) → Along job index count k over at (q - 1) r.next
         along_on h =
             record {
-              left = inv.left ∙ rw names_are (down_some job index count row w (parts over next) q found h);
+              left = inv.left ∙ rw names_are (down_some job index count row w (parts over r.next) q found h);
               there = omega (arith, found.within);
               few = inv.few;
             }
 
 pub ruleset alongs = (rules, along_start, along_end, along_less, along_none, along_on)
 
--- ---- down the way of a type search
-pub record Way (job : Bytes) (index : List ℕ) (count k : ℕ) (f : Found) (row i : ℕ) : Type 0 where
-  pub left : module_at (modules job index count) (module_row job index k) (way_from job 0 f) ≡ module_at (modules job index count) (module_row job index row) (way_from job i f)
+-- ---- down the way of a type search: the names of `names` from i on are still to go
+pub record Way (job : Bytes) (index : List ℕ) (count k : ℕ) (names : List Span) (row i : ℕ) : Type 0 where
+  pub left : module_at (modules job index count) (module_row job index k) (map (spanned job) names) ≡ module_at (modules job index count) (module_row job index row) (map (spanned job) (drop i names))
   pub there : row < count
   pub few : count ≤ 128
-  pub long : length f.names ≡ 33
 
-module _ (job : Bytes) (index : List ℕ) (count k : ℕ) (f : Found) where
-  pub way_start : count ≤ 128 → k < count → length f.names ≡ 33 → Way job index count k f k 0
-  way_start c h l = record { left = refl; there = h; few = c; long = l }
+module _ (job : Bytes) (index : List ℕ) (count k : ℕ) (names : List Span) where
+  pub way_start : count ≤ 128 → k < count → Way job index count k names k 0
+  way_start c h = record { left = refl; there = h; few = c }
 
-  module _ (row i : ℕ) (inv : Way job index count k f row i) where
-    way_over : way_from job i f ≡ [] → ModuleSeen job index count (module_at (modules job index count) (module_row job index k) (way_from job 0 f)) (row + 1)
-    way_over e = record { says = row_one job index row ∙ sym (inv.left ∙ rw e (at_none (modules job index count) (module_row job index row))); within = omega (arith, inv.there) }
+  module _ (row i : ℕ) (inv : Way job index count k names row i) where
+    pub way_end : length names ≤ i → (f : Found) → names ≡ take f.count f.names → ModuleSeen job index count (module_at (modules job index count) (module_row job index k) (way_from job 0 f)) (row + 1)
+    way_end h f e =
+        let d : drop i names ≡ [] = drop_of_length-le names {i = i} h in
+        record { says = row_one job index row ∙ sym (rw (sub-zero, ← e) (inv.left ∙ rw d (at_none (modules job index count) (module_row job index row)))); within = omega (arith, inv.there) }
 
-    pub way_end : f.count ≤ i → ModuleSeen job index count (module_at (modules job index count) (module_row job index k) (way_from job 0 f)) (row + 1)
-    way_end h = let z : f.count - i ≡ 0 = omega arith in way_over (rw z)
+    module _ (h : i < length names) (d : Span) (w : Bytes) (ew : w ≡ spanned job (get_or names i d)) (q : ℕ) (found : ModuleSeen job index count (below (modules job index count) (module_row job index row) w) q) where
+      way_names : map (spanned job) (drop i names) ≡ w ∷ map (spanned job) (drop (i + 1) names)
+      way_names = ap (λ (l : List Span). map (spanned job) l) (drop-cons names i d h) ∙ rw (ew, add-one i)
 
-    pub way_full : i < f.count → 33 ≤ i → ModuleSeen job index count (module_at (modules job index count) (module_row job index k) (way_from job 0 f)) (row + 1)
-    way_full g h =
-        let z : f.count - i ≡ suc (f.count - (i + 1)) = omega arith in
-        way_over (rw (drop_of_length-le f.names {i = i} (omega (arith, inv.long)), z))
+      pub way_none : q ≡ 0 → (f : Found) → names ≡ take f.count f.names → ModuleSeen job index count (module_at (modules job index count) (module_row job index k) (way_from job 0 f)) 0
+      way_none y f e = record { says = row_none job index ∙ sym (rw (sub-zero, ← e) (inv.left ∙ rw way_names (down_none job index count row w (map (spanned job) (drop (i + 1) names)) q found y))); within = omega arith }
 
-    module _ (h : i < f.count) (g : i < 33) (d : Span) (w : Bytes) (ew : w ≡ spanned job (get_or f.names i d)) (q : ℕ) (found : ModuleSeen job index count (below (modules job index count) (module_row job index row) w) q) where
-      way_names : way_from job i f ≡ w ∷ way_from job (i + 1) f
-      way_names =
-          let z : f.count - i ≡ suc (f.count - (i + 1)) = omega arith in
-          rw (z, drop-cons f.names i d (omega (arith, inv.long)), ← ew, ← add-one i)
-
-      pub way_none : q ≡ 0 → ModuleSeen job index count (module_at (modules job index count) (module_row job index k) (way_from job 0 f)) 0
-      way_none y = record { says = row_none job index ∙ sym (inv.left ∙ rw way_names (down_none job index count row w (way_from job (i + 1) f) q found y)); within = omega arith }
-
-      pub way_on : (q ≡ 0 → ⊥) → Way job index count k f (q - 1) (i + 1)
+      pub way_on : (q ≡ 0 → ⊥) → Way job index count k names (q - 1) (i + 1)
       way_on y =
           record {
-            left = inv.left ∙ rw way_names (down_some job index count row w (way_from job (i + 1) f) q found y);
+            left = inv.left ∙ rw way_names (down_some job index count row w (map (spanned job) (drop (i + 1) names)) q found y);
             there = omega (arith, found.within);
             few = inv.few;
-            long = inv.long;
           }
 
-pub ruleset way_turns = (rules, way_start, way_end, way_full, way_none, way_on)
+pub ruleset way_turns = (rules, way_start, way_end, way_none, way_on)

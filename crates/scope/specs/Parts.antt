@@ -1,5 +1,6 @@
 -- The parts of an override, as they stand in its bytes.
 -- Assumes nothing.
+use Rattle.std.specs.Prelude.{Option, Some, None}
 use Rattle.std.specs.Prelude.{ℕ, suc, ◌+◌, ◌≤◌, ◌<◌, ◌≡◌, refl, Bool, true, false, cond, not, ◌||◌, List, [], ◌∷◌, map, length, take, drop, get_or, eqb, ltb}
 use Rattle.std.proofs.Common.{ap, ◌∙◌, sym, suc-add, arith, drop_of_length-le, length-take-le, lt-ltb, ltb-true, ltb-false}
 use Rattle.std.proofs.Math.Dec.{leb-suc-suc}
@@ -12,7 +13,6 @@ use Rattle.text.specs.Lists.{here}
 use Rattle.design.specs.Lists.{those}
 use Rattle.texts.specs.Scope.{slash_of, override_parts}
 use Rattle.scope.specs.declared.PartAt.{PartAt}
-use Rattle.scope.specs.declared.PartAt.TheVariants as part
 
 -- a byte that parts them
 abbrev pub separates : ℕ → Bool
@@ -22,15 +22,15 @@ separates b = eqb b (byte "/") || eqb b (byte ".")
 abbrev pub parts : Bytes → ℕ → List Bytes
 parts over at = override_parts (drop at over)
 
-abbrev pub parts_left : Bytes → PartAt → List Bytes
-parts_left over part.End = []
-parts_left over (part.Part a l next) = take l (drop a over) ∷ parts over next
+abbrev pub parts_left : Bytes → Option PartAt → List Bytes
+parts_left over None = []
+parts_left over (Some r) = take r.len (drop r.at over) ∷ parts over r.next
 
-abbrev pub PartOn : Bytes → ℕ → PartAt → Type 0
-PartOn over at part.End = Unit {0}
-PartOn over at (part.Part a l next) = (at < next) × (next ≤ length over)
+abbrev pub PartOn : Bytes → ℕ → Option PartAt → Type 0
+PartOn over at None = Unit {0}
+PartOn over at (Some r) = (at < r.next) × (r.next ≤ length over)
 
-pub record PartSeen (over : Bytes) (at : ℕ) (r : PartAt) : Type 0 where
+pub record PartSeen (over : Bytes) (at : ℕ) (r : Option PartAt) : Type 0 where
   pub says : parts_left over r ≡ parts over at
   pub goes : PartOn over at r
 

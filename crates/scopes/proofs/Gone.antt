@@ -1,4 +1,5 @@
 -- Laws: the scope moved. Assumes nothing.
+use Rattle.std.specs.Prelude.{Option, Some, None}
 use Prim.Native.Nat.{ℕ, ◌+◌, ◌-◌, ◌≤◌, ◌<◌, ◌^◌}
 use native.Mathlib.Omega.{arith}
 use mathlib.Core.Path.{◌≡◌, refl, sym, ap, ◌∙◌}
@@ -16,16 +17,12 @@ use Rattle.spans.specs.Area.{Wrote}
 use Rattle.spans.specs.Writes.{Written, written_none, written_piece, written_byte, written_all, wrote_kept, wrote_long, wrote_back, wrote_front}
 use Rattle.spans.specs.Reach.{reach, stored, reach_held, reach_end, none_reach}
 use Rattle.spans.specs.declared.span.Span.{Span}
-use Rattle.spans.specs.declared.span.Found.{Found}
-use Rattle.spans.specs.declared.span.Found.TheVariants.{At as Found-as-At, None}
 use Rattle.tcl.specs.Arguments.{name_of, option_of}
 use Rattle.args.specs.View.{words_from, Reads, Finds}
 use Rattle.model.specs.Scope.{below, moved, entered}
 use Rattle.store.specs.Strings.{string, span_of, stored_of}
 use Rattle.store.specs.declared.stored.Stored.{Stored}
 use Rattle.store.specs.declared.state.State.{State}
-use Rattle.scopes.specs.declared.target.Target.{Target}
-use Rattle.scopes.specs.declared.target.Target.TheVariants.{At, Below}
 use Rattle.scopes.specs.declared.go.Place.{Place}
 use Rattle.scopes.specs.declared.go.Went.{Went}
 use Rattle.scopes.specs.Target.{target_of, Targets}
@@ -179,7 +176,7 @@ below_none : (scope name : Bytes) (a : ℕ) → a ≡ length scope → a ≡ 0 �
 below_none [] name a e h = refl
 below_none (b ∷ scope) name a e h = absurd (omega (arith, e, h))
 
-module _ (files area : Bytes) (s : Place) (name : Span) (v : Aims files area s name Below) where
+module _ (files area : Bytes) (s : Place) (name : Span) (v : Aims files area s name None) where
   abbrev mem : Bytes
   mem = files ++ take s.end area
 
@@ -269,21 +266,21 @@ module _ (files area : Bytes) (s : Place) (name : Span) (v : Aims files area s n
               })
 
 -- ---- by the target
-module _ (files area : Bytes) (s : Place) (name : Span) (t : Target) (v : Aims files area s name t) where
+module _ (files area : Bytes) (s : Place) (name : Span) (t : Option Span) (v : Aims files area s name t) where
   pub aims_count : s.end ≡ length (take s.end area)
   aims_count = sym (length-take-le s.end area (end_in_lem files area s v.space))
 
-  pub aims_at : (x : Span) → t ≡ At x → Reaches files (take s.end area) s x
+  pub aims_at : (x : Span) → t ≡ Some x → Reaches files (take s.end area) s x
   aims_at x e = up_to_lem files area s v.space x (rw e at v.target)
 
-  pub aims_below : t ≡ Below → Aims files area s name Below
+  pub aims_below : t ≡ None → Aims files area s name None
   aims_below e = rw e at v
 
-  pub go_at : (x : Span) → t ≡ At x → (r : Went) → Goes (files ++ take s.end area) s x r (scope_fits s.scopes (bytes (files ++ take s.end area) x))
+  pub go_at : (x : Span) → t ≡ Some x → (r : Went) → Goes (files ++ take s.end area) s x r (scope_fits s.scopes (bytes (files ++ take s.end area) x))
       → Shifts files area area s (target_of (files ++ take s.end area) (string (files ++ take s.end area) s.scope) (bytes (files ++ take s.end area) name) t) r (scope_fits s.scopes (target_of (files ++ take s.end area) (string (files ++ take s.end area) s.scope) (bytes (files ++ take s.end area) name) t))
   go_at x e r g = rw e (goes_moves files area s x (bytes (files ++ take s.end area) x) r (aims_at x e) refl g)
 
-  pub go_beneath : (area' : Bytes) → t ≡ Below → (r : Went) → Shifts files area area' s (below (string (files ++ take s.end area) s.scope) (bytes (files ++ take s.end area) name)) r (scope_fits s.scopes (below (string (files ++ take s.end area) s.scope) (bytes (files ++ take s.end area) name)))
+  pub go_beneath : (area' : Bytes) → t ≡ None → (r : Went) → Shifts files area area' s (below (string (files ++ take s.end area) s.scope) (bytes (files ++ take s.end area) name)) r (scope_fits s.scopes (below (string (files ++ take s.end area) s.scope) (bytes (files ++ take s.end area) name)))
       → Shifts files area area' s (target_of (files ++ take s.end area) (string (files ++ take s.end area) s.scope) (bytes (files ++ take s.end area) name) t) r (scope_fits s.scopes (target_of (files ++ take s.end area) (string (files ++ take s.end area) s.scope) (bytes (files ++ take s.end area) name) t))
   go_beneath area' e r g = rw e g
 
@@ -304,7 +301,7 @@ module _ (files area : Bytes) (words : List ℕ) (n : ℕ) (s : Place) (v : Line
     scope_reach : reach (length files) x ≤ length files + s.end
     scope_reach = rw ex v.space.scope
 
-    module _ (name : Span) (named : reach (length files) name ≤ length files + s.end) (w goal : Bytes) (ew : bytes known name ≡ w) (t : Target) (g : Targets known x name goal t) where
+    module _ (name : Span) (named : reach (length files) name ≤ length files + s.end) (w goal : Bytes) (ew : bytes known name ≡ w) (t : Option Span) (g : Targets known x name goal t) where
       aims : Aims files area s name t
       aims = record { space = v.space; named = named; target = g.within (length files) (length files + s.end) (small_end files area s v.space) scope_reach named }
 
@@ -312,7 +309,7 @@ module _ (files area : Bytes) (words : List ℕ) (n : ℕ) (s : Place) (v : Line
       goes area' r m = let e : target_of known (string known s.scope) (bytes known name) t ≡ goal = rw ex at g.is in rw e at m
 
     -- set_scope
-    module _ (name : Span) (a : Reads known words n (name_of (words_from known words n 1)) name) (t : Target) (g : Targets known x name (moved (bytes known x) (bytes known name)) t) where
+    module _ (name : Span) (a : Reads known words n (name_of (words_from known words n 1)) name) (t : Option Span) (g : Targets known x name (moved (bytes known x) (bytes known name)) t) where
       named_reach : reach (length files) name ≤ length files + s.end
       named_reach = omega (arith, a.within (reach (length files)) (none_reach (length files)), v.line)
 
@@ -326,11 +323,11 @@ module _ (files area : Bytes) (words : List ℕ) (n : ℕ) (s : Place) (v : Line
           (rw (ex, a.is) at (goes name named_reach (bytes known name) (moved (bytes known x) (bytes known name)) refl t g area' r m))
 
     -- load_upf
-    module _ (f : Found) (a : Finds known words n (option_of (ascii "-scope") (words_from known words n 1)) f) where
+    module _ (f : Option Span) (a : Finds known words n (option_of (ascii "-scope") (words_from known words n 1)) f) where
       pub load_same : f ≡ None → (r : Went) → r.tag ≡ 0 → r.place ≡ s → Leads files area area s (option_of (ascii "-scope") (words_from known words n 1)) r
       load_same e r p q = rw (← a.is, e) (record { tag = p; place = q; same = refl })
 
-      module _ (w : Span) (e : f ≡ Found-as-At w) (t : Target) (g : Targets known x w (entered (bytes known x) (bytes known w)) t) where
+      module _ (w : Span) (e : f ≡ Some w) (t : Option Span) (g : Targets known x w (entered (bytes known x) (bytes known w)) t) where
         option_reach : reach (length files) w ≤ length files + s.end
         option_reach = omega (arith, rw e at (a.within (reach (length files)) (none_reach (length files))), v.line)
 

@@ -1,4 +1,5 @@
 -- Laws: where a word moves the scope. Assumes nothing.
+use Rattle.std.specs.Prelude.{Option, Some, None}
 use Prim.Native.Nat.{ℕ, suc, ◌+◌, ◌-◌, ◌*◌, ◌≤◌, ◌<◌, ◌^◌}
 use native.Mathlib.Omega.{arith}
 use mathlib.Core.Path.{◌≡◌, refl, sym, ap, ◌∙◌}
@@ -17,13 +18,9 @@ use Rattle.text.specs.Sames.{differ}
 use Rattle.spans.specs.Span.{◌⋯◌, bytes}
 use Rattle.spans.specs.Reach.{reach, Held, filed, stored, reach_held, held_by, reach_end}
 use Rattle.spans.specs.declared.span.Span.{Span}
-use Rattle.spans.specs.declared.span.Got.{Got}
-use Rattle.spans.specs.declared.span.Got.TheVariants.{Yes, No}
 use Rattle.spans.specs.Span.{got_of}
 use Rattle.model.specs.Scope.{scoped, up, moved, entered}
 use Rattle.model.specs.Up.{slashed, up_size, up_is, up_short, size_step}
-use Rattle.scopes.specs.declared.target.Target.{Target}
-use Rattle.scopes.specs.declared.target.Target.TheVariants.{At, Below}
 use Rattle.scopes.specs.Target.{Rooted, Targets}
 
 -- ---- the last slash: i bytes are passed, the last of them that is a slash stands at `last`, and x is left
@@ -47,14 +44,14 @@ module _ (mem : Bytes) (s : Span) where
   passed_start = record { size = start_by (bytes mem s); left = omega arith }
 
   module _ (i last : ℕ) (x : Span) (v : Passed mem s i last x) where
-    pub passed_end : (p : Got) → bytes mem x ≡ got_of mem p → p ≡ No → last ≡ up_size (bytes mem s)
+    pub passed_end : (p : Option (ℕ × Span)) → bytes mem x ≡ got_of mem p → p ≡ None → last ≡ up_size (bytes mem s)
     unfolding any
     passed_end p e h = sym (v.size ∙ rw (e, h))
 
-    module _ (p : Got) (e₀ : bytes mem x ≡ got_of mem p) (b : ℕ) (t : Span) (h : p ≡ Yes b t) where
+    module _ (p : Option (ℕ × Span)) (e₀ : bytes mem x ≡ got_of mem p) (b : ℕ) (t : Span) (h : p ≡ Some (b, t)) where
       pub passed_step : (r : ℕ) → r ≡ cond (eqb b 47) i last → Passed mem s (i + 1) r t
       passed_step r g =
-          let e : bytes mem x ≡ got_of mem (Yes b t) = e₀ ∙ ap (got_of mem) h in
+          let e : bytes mem x ≡ got_of mem (Some (b, t)) = e₀ ∙ ap (got_of mem) h in
           record {
             size = v.size ∙ rw (e, g) (size_step i last b (bytes mem t));
             left = omega (arith, v.left, ap length e);
@@ -68,7 +65,7 @@ passed_le files area s i last x v =
 pub passed_add : (files area : Bytes) (s : Span) (i last : ℕ) (x : Span) → Passed (files ++ area) s i last x → length files * 1 < 2 ^ 63 → length area * 1 < 2 ^ 63 → i + 1 < 2 ^ 64
 passed_add files area s i last x v h g = omega (arith, passed_le files area s i last x v)
 
-pub passed_less : (mem : Bytes) (x : Span) (p : Got) (b : ℕ) (t : Span) → bytes mem x ≡ got_of mem p → p ≡ Yes b t → length (bytes mem t) < length (bytes mem x)
+pub passed_less : (mem : Bytes) (x : Span) (p : Option (ℕ × Span)) (b : ℕ) (t : Span) → bytes mem x ≡ got_of mem p → p ≡ Some (b, t) → length (bytes mem t) < length (bytes mem x)
 passed_less mem x p b t e h = let g : bytes mem x ≡ b ∷ bytes mem t = e ∙ ap (got_of mem) h in omega (arith, ap length g)
 
 pub later_slash : (last i b : ℕ) → b ≡ 47 → i ≡ cond (eqb b 47) i last
@@ -100,7 +97,7 @@ module _ (long n : ℕ) (s : Span) (small : n < 2 ^ 32) (h : reach long s ≤ n)
 
 -- ---- the first byte of a name
 module _ (mem : Bytes) (name : Span) where
-  module _ (p : Got) (e₀ : bytes mem name ≡ got_of mem p) (b : ℕ) (t : Span) (k : p ≡ Yes b t) where
+  module _ (p : Option (ℕ × Span)) (e₀ : bytes mem name ≡ got_of mem p) (b : ℕ) (t : Span) (k : p ≡ Some (b, t)) where
     e : bytes mem name ≡ b ∷ bytes mem t
     e = e₀ ∙ ap (got_of mem) k
 
@@ -118,7 +115,7 @@ module _ (mem : Bytes) (name : Span) where
     unfolding bytes
     rest_is = sym (drop_take 1 name.len (drop name.at mem) ∙ rw drop-drop)
 
-    pub rooted_slash : b ≡ 47 → Rooted mem name (At ((name.at + 1) ⋯ (name.len - 1)))
+    pub rooted_slash : b ≡ 47 → Rooted mem name (Some ((name.at + 1) ⋯ (name.len - 1)))
     unfolding same
     rooted_slash g =
         record {
@@ -126,20 +123,20 @@ module _ (mem : Bytes) (name : Span) where
           within = λ l n small h. rest_reach l n name small h first_len;
         }
 
-    pub rooted_other : (b ≡ 47 → ⊥) → Rooted mem name Below
+    pub rooted_other : (b ≡ 47 → ⊥) → Rooted mem name None
     unfolding same
     rooted_other g = record { is = λ scope. rw (e, ne_eqb b 47 g); within = λ l n small h. omega arith }
 
-  pub rooted_none : (p : Got) → bytes mem name ≡ got_of mem p → p ≡ No → Rooted mem name Below
+  pub rooted_none : (p : Option (ℕ × Span)) → bytes mem name ≡ got_of mem p → p ≡ None → Rooted mem name None
   unfolding same
   rooted_none p e h = record { is = λ scope. rw (e, h); within = λ l n small h. omega arith }
 
 -- its place is within the slices
-pub first_two : (files area : Bytes) (name : Span) (p : Got) (b : ℕ) (t : Span) → bytes (files ++ area) name ≡ got_of (files ++ area) p → p ≡ Yes b t → name.at < length files + length area
+pub first_two : (files area : Bytes) (name : Span) (p : Option (ℕ × Span)) (b : ℕ) (t : Span) → bytes (files ++ area) name ≡ got_of (files ++ area) p → p ≡ Some (b, t) → name.at < length files + length area
 first_two files area name p b t e k = omega (arith, first_at_lem (files ++ area) name p e b t k, length-append files area)
 
 -- and can be counted on
-pub first_add : (files area : Bytes) (name : Span) (p : Got) (b : ℕ) (t : Span) → bytes (files ++ area) name ≡ got_of (files ++ area) p → p ≡ Yes b t → length files * 1 < 2 ^ 63 → length area * 1 < 2 ^ 63 → name.at + 1 < 2 ^ 64
+pub first_add : (files area : Bytes) (name : Span) (p : Option (ℕ × Span)) (b : ℕ) (t : Span) → bytes (files ++ area) name ≡ got_of (files ++ area) p → p ≡ Some (b, t) → length files * 1 < 2 ^ 63 → length area * 1 < 2 ^ 63 → name.at + 1 < 2 ^ 64
 first_add files area name p b t e k h g = omega (arith, first_two files area name p b t e k)
 
 pub ruleset roots = (rules, first_len, first_add, rooted_slash, rooted_other, rooted_none)
@@ -160,25 +157,25 @@ front_is mem s k e =
 
 module _ (mem : Bytes) (scope name : Span) where
   module _ (t : Bool) (e : t ≡ same (bytes mem name) (46 ∷ [])) where
-    pub moved_dot : t ≡ true → Targets mem scope name (moved (bytes mem scope) (bytes mem name)) (At (0 ⋯ 0))
+    pub moved_dot : t ≡ true → Targets mem scope name (moved (bytes mem scope) (bytes mem name)) (Some (0 ⋯ 0))
     unfolding moved
     moved_dot h = record { is = none_is mem ∙ rw (← e, h); within = λ l n small g k. none_within l n }
 
-    pub entered_dot : t ≡ true → Targets mem scope name (entered (bytes mem scope) (bytes mem name)) (At scope)
+    pub entered_dot : t ≡ true → Targets mem scope name (entered (bytes mem scope) (bytes mem name)) (Some scope)
     unfolding entered
     entered_dot h = record { is = rw (← e, h); within = λ l n small g k. g }
 
     module _ (h : t ≡ false) where
-      pub entered_slash : (t' : Bool) → t' ≡ same (bytes mem name) (47 ∷ []) → t' ≡ true → Targets mem scope name (entered (bytes mem scope) (bytes mem name)) (At scope)
+      pub entered_slash : (t' : Bool) → t' ≡ same (bytes mem name) (47 ∷ []) → t' ≡ true → Targets mem scope name (entered (bytes mem scope) (bytes mem name)) (Some scope)
       unfolding entered
       entered_slash t' e' h' = record { is = rw (← e, h, ← e', h'); within = λ l n small g k. g }
 
-      pub entered_on : (t' : Bool) → t' ≡ same (bytes mem name) (47 ∷ []) → t' ≡ false → (r : Target) → Rooted mem name r → Targets mem scope name (entered (bytes mem scope) (bytes mem name)) r
+      pub entered_on : (t' : Bool) → t' ≡ same (bytes mem name) (47 ∷ []) → t' ≡ false → (r : Option Span) → Rooted mem name r → Targets mem scope name (entered (bytes mem scope) (bytes mem name)) r
       unfolding entered scoped
       entered_on t' e' h' r v = record { is = v.is (bytes mem scope) ∙ rw (← e, h, ← e', h'); within = λ l n small g k. v.within l n small k }
 
       module _ (k : ℕ) (ek : k ≡ length (bytes mem name)) where
-        pub moved_empty : k ≡ 0 → Targets mem scope name (moved (bytes mem scope) (bytes mem name)) (At (0 ⋯ 0))
+        pub moved_empty : k ≡ 0 → Targets mem scope name (moved (bytes mem scope) (bytes mem name)) (Some (0 ⋯ 0))
         unfolding moved same
         moved_empty z = record { is = none_is mem ∙ rw (no_bytes (bytes mem name) (sym ek ∙ z)); within = λ l n small g q. none_within l n }
 
@@ -186,13 +183,13 @@ module _ (mem : Bytes) (scope name : Span) where
           some_bytes : same (bytes mem name) [] ≡ false
           some_bytes = sym (differ (bytes mem name) [] (λ q. z (ek ∙ q)))
 
-          pub moved_up : t' ≡ true → (u : ℕ) → u ≡ up_size (bytes mem scope) → Targets mem scope name (moved (bytes mem scope) (bytes mem name)) (At (scope.at ⋯ u))
+          pub moved_up : t' ≡ true → (u : ℕ) → u ≡ up_size (bytes mem scope) → Targets mem scope name (moved (bytes mem scope) (bytes mem name)) (Some (scope.at ⋯ u))
           unfolding moved bytes
           moved_up h' u eu =
               let l : u ≤ scope.len = omega (arith, eu, up_short (take scope.len (drop scope.at mem)), length-take scope.len (drop scope.at mem)) in
               record { is = front_is mem scope u eu ∙ rw (← e, h, some_bytes, ← e', h'); within = λ l' n small g q. front_reach l' n scope small g u l }
 
-          pub moved_on_lem : t' ≡ false → (r : Target) → Rooted mem name r → Targets mem scope name (moved (bytes mem scope) (bytes mem name)) r
+          pub moved_on_lem : t' ≡ false → (r : Option Span) → Rooted mem name r → Targets mem scope name (moved (bytes mem scope) (bytes mem name)) r
           unfolding moved scoped
           moved_on_lem h' r v = record { is = v.is (bytes mem scope) ∙ rw (← e, h, some_bytes, ← e', h'); within = λ l n small g q. v.within l n small q }
 

@@ -1,6 +1,5 @@
 -- The scope moved: what is asked of the memory, and what is left there. Assumes nothing.
-use Rattle.std.specs.Prelude.{ℕ, ◌+◌, ◌-◌, ◌≤◌, ◌<◌, ◌^◌, ◌≡◌, Bool, true, false, ◌&&◌, List, ◌++◌, leb, length, take, drop}
-use Rattle.std.proofs.Math.Option.{Option, none, some}
+use Rattle.std.specs.Prelude.{ℕ, ◌+◌, ◌-◌, ◌≤◌, ◌<◌, ◌^◌, ◌≡◌, Bool, true, false, ◌&&◌, List, ◌++◌, leb, length, take, drop, Option, None, Some}
 use Rattle.text.specs.Ascii.{Bytes}
 use Rattle.spans.specs.Span.{bytes, pairs}
 use Rattle.spans.specs.Reach.{reach, last_of}
@@ -10,7 +9,6 @@ use Rattle.model.specs.Scope.{entered}
 use Rattle.store.specs.Strings.{string, span_of, stored_of}
 use Rattle.store.specs.declared.stored.Stored.{Stored}
 use Rattle.store.specs.declared.state.State.{State}
-use Rattle.scopes.specs.declared.target.Target.{Target}
 use Rattle.scopes.specs.declared.go.Out.{Out}
 use Rattle.scopes.specs.declared.go.Place.{Place}
 use Rattle.scopes.specs.declared.go.Went.{Went}
@@ -64,7 +62,7 @@ pub record Space (files area : Bytes) (p : Place) : Type 0 where
   pub small : length files + length area < 2 ^ 32
 
 -- and the name, and what is aimed at, reach no further than the area's end
-pub record Aims (files area : Bytes) (p : Place) (name : Span) (t : Target) : Type 0 where
+pub record Aims (files area : Bytes) (p : Place) (name : Span) (t : Option Span) : Type 0 where
   pub space : Space files area p
   pub named : reach (length files) name ≤ length files + p.end
   pub target : target_reach (length files) t ≤ length files + p.end
@@ -106,8 +104,8 @@ pub record Same (area₀ area : Bytes) (s : State) (r : Out) : Type 0 where
   pub same : area ≡ area₀
 
 abbrev pub Enters : Bytes → Bytes → Bytes → State → Option Bytes → Out → Type 0
-Enters files area₀ area s none r = Same area₀ area s r
-Enters files area₀ area s (some w) r =
+Enters files area₀ area s None r = Same area₀ area s r
+Enters files area₀ area s (Some w) r =
     Moves files area₀ area s (entered (string (files ++ take s.fill.end area₀) s.head.scope) w) r
     (scope_fits s.count.scopes (entered (string (files ++ take s.fill.end area₀) s.head.scope) w))
 
@@ -157,7 +155,7 @@ pub record Keeps (area₀ area : Bytes) (p : Place) (r : Went) : Type 0 where
   pub same : area ≡ area₀
 
 abbrev pub Leads : Bytes → Bytes → Bytes → Place → Option Bytes → Went → Type 0
-Leads files area₀ area p none r = Keeps area₀ area p r
-Leads files area₀ area p (some w) r =
+Leads files area₀ area p None r = Keeps area₀ area p r
+Leads files area₀ area p (Some w) r =
     Shifts files area₀ area p (entered (string (files ++ take p.end area₀) p.scope) w) r
     (scope_fits p.scopes (entered (string (files ++ take p.end area₀) p.scope) w))

@@ -1,7 +1,6 @@
 -- Laws: what is left of a place, of the state that has it. Assumes nothing.
-use Rattle.std.specs.Prelude.{ℕ, ◌≡◌, Bool, true, false, ◌++◌, take}
+use Rattle.std.specs.Prelude.{ℕ, ◌≡◌, Bool, true, false, ◌++◌, take, Option, None, Some}
 use Rattle.std.proofs.Common.{ap}
-use Rattle.std.proofs.Math.Option.{Option, none, some}
 use Rattle.text.specs.Ascii.{Bytes}
 use Rattle.model.specs.Scope.{entered}
 use Rattle.store.specs.Strings.{string}
@@ -30,8 +29,8 @@ pub moves_at : (files area area' : Bytes) (u : State) (t : Place → Bytes) (p :
 moves_at files area area' u t p r e g = state_by_lem files area area' u r (t (place_of u)) (scope_fits u.count.scopes (t (place_of u))) (rw (← e) at g)
 
 enters_by : (files area area' : Bytes) (u : State) (o : Option Bytes) (r : Went) → Leads files area area' (place_of u) o r → Enters files area area' u o (out_of u r)
-enters_by files area area' u none r g = record { tag = g.tag; state = ap (λ (k : Place). moved_to u k.scope k.scopes k.end) g.place; same = g.same }
-enters_by files area area' u (some w) r g =
+enters_by files area area' u None r g = record { tag = g.tag; state = ap (λ (k : Place). moved_to u k.scope k.scopes k.end) g.place; same = g.same }
+enters_by files area area' u (Some w) r g =
     state_by_lem files area area' u r (entered (string (files ++ take u.fill.end area) u.head.scope) w)
     (scope_fits u.count.scopes (entered (string (files ++ take u.fill.end area) u.head.scope) w)) g
 

@@ -6,14 +6,13 @@ ghost use Rattle.tcl.specs.Arguments.{name_of, option_of};
 ghost use Rattle.text.specs.Ascii.{ascii};
 ghost use Rattle.args.specs.View.{words_from};
 ghost use Rattle.store.specs.Strings.{string};
-ghost use Rattle.scopes.specs.declared.target.Target.TheVariants.{Below};
 ghost use Rattle.scopes.specs.Target.{target_of};
 ghost use Rattle.scopes.specs.Moves.{scope_fits, place_of, out_of, Reaches, Goes, Line, Aims, Shifts, Moves, Leads};
 
-use super::target::{Target, entered, moved};
+use super::target::{entered, moved};
 use args::argument::{name, option};
 use spans::area::append_span;
-use spans::span::{Found, Span, size};
+use spans::span::{Span, size};
 use store::state::State;
 use store::stored::{Stored, narrow, span};
 
@@ -59,7 +58,7 @@ fn go_to(files: &[u8], area: &[u8], p: Place, t: Span) -> Went
 
 // The scope is a name below the scope, written to the area.
 fn go_below(files: &[u8], area: &mut [u8], p: Place, name: Span) -> Went
-    requires { Aims files.now area.old p name Below }
+    requires { Aims files.now area.old p name None }
     ensures { Shifts files.now area.old area.new p (below (string (files.now ++ take p.end area.old) p.scope) (bytes (files.now ++ take p.end area.old) name)) result (scope_fits p.scopes (below (string (files.now ++ take p.end area.old) p.scope) (bytes (files.now ++ take p.end area.old) name))) }
 {
     let scope = span(p.scope);
@@ -88,13 +87,13 @@ fn go_below(files: &[u8], area: &mut [u8], p: Place, name: Span) -> Went
     Went { tag: 0, place: q }
 }
 
-fn go(files: &[u8], area: &mut [u8], p: Place, name: Span, t: Target) -> Went
+fn go(files: &[u8], area: &mut [u8], p: Place, name: Span, t: Option<Span>) -> Went
     requires { Aims files.now area.old p name t }
     ensures { Shifts files.now area.old area.new p (target_of (files.now ++ take p.end area.old) (string (files.now ++ take p.end area.old) p.scope) (bytes (files.now ++ take p.end area.old) name) t) result (scope_fits p.scopes (target_of (files.now ++ take p.end area.old) (string (files.now ++ take p.end area.old) p.scope) (bytes (files.now ++ take p.end area.old) name) t)) }
 {
     match t {
-        Target::At(x) => go_to(files, &area[..p.end], p, x),
-        Target::Below => go_below(files, area, p, name),
+        Some(x) => go_to(files, &area[..p.end], p, x),
+        None => go_below(files, area, p, name),
     }
 }
 
@@ -117,11 +116,9 @@ pub fn load_scope(files: &[u8], area: &mut [u8], words: &[u32], n: usize, p: Pla
 {
     let scope = span(p.scope);
     let o = p.end;
-    match option(files, &area[..o], words, n, b"-scope") {
-        Found::None => Went { tag: 0, place: p },
-        Found::At(w) => {
-            let t = entered(files, &area[..o], scope, w);
-            go(files, area, p, w, t)
-        }
-    }
+    let Some(w) = option(files, &area[..o], words, n, b"-scope") else {
+        return Went { tag: 0, place: p };
+    };
+    let t = entered(files, &area[..o], scope, w);
+    go(files, area, p, w, t)
 }

@@ -7,7 +7,7 @@ use native.Mathlib.Numerals.{add-one}
 use native.Mathlib.Omega.{arith}
 use mathlib.Core.Bool.{Bool, true, false}
 use mathlib.Core.List.{List, [], ◌∷◌, map}
-use mathlib.Core.Option.{Option, none, some}
+use Rattle.std.specs.Prelude.{Option, None, Some}
 use lib.ListN.{length, take, drop, set, length-set, length-replicate}
 use lib.Dec.{ltb}
 use lib.Seq.{drop-cons, get_or-set_same, drop-set-lt}
@@ -16,29 +16,21 @@ use borrow.Author.Tests.{lt-ltb, le-ltb, ltb-true, ltb-false}
 use Rattle.text.specs.Ascii.{Bytes}
 use Rattle.text.specs.Compare.{same}
 use Rattle.text.specs.Sames.{no_true}
-use Rattle.fields.specs.declared.Dims.{Dims}
-use Rattle.joblines.specs.Job.{Inst, Module}
+use Rattle.joblines.specs.Job.{Module}
 use Rattle.joblines.specs.Sections.{insts_in}
 use Rattle.jobindex.specs.Index.{section, module_row}
 use Rattle.jobindex.specs.declared.Span.{Span}
 use Rattle.design.specs.Limits.{most_calls}
 use Rattle.design.specs.Lists.{on_some}
-use Rattle.design.specs.Lookup.{module_named, instances}
+use Rattle.design.specs.Lookup.{module_named}
 use Rattle.design.specs.Search.{Search, nothing, called, under, or_else, at_instance, among_instances, search_from}
-use Rattle.lines.specs.Cursors.{spanned, inst_is, InstSeen, Stepped}
+use Rattle.lines.specs.Cursors.{spanned, inst_is, InstSeen}
 use Rattle.lines.specs.declared.InstAt.{InstAt}
-use Rattle.lines.specs.declared.InstAt.TheVariants as inst
 use Rattle.lookup.specs.Rows.{modules, row_is, ModuleSeen, insts_from, insts_end, insts_are}
 use Rattle.search.specs.declared.Found.{Found}
-use Rattle.search.specs.Found.{way_from, way, Searched, no_names, no_way, past, way_to, way_below}
+use Rattle.search.specs.Found.{way_from, Searched, no_names, no_way, past, way_to, way_below}
 
 -- ---- answers
-pub made_way : (f : Found) (depth : ℕ) (name : Span) (calls : ℕ) → f ≡ no_way calls
-    → record { over = f.over; found = true; calls = f.calls; count = depth + 1; names = set f.names depth name } ≡ way_to depth name calls
-made_way f depth name calls e = rw e
-
-pub ruleset ways = (rules, made_way)
-
 no_long : length no_names ≡ 33
 no_long = length-replicate {A = Span} 33 (record { at = 0; len = 0 })
 
@@ -60,12 +52,12 @@ least : (s r : Search) → s.calls ≤ (or_else s r).calls
 least s r = go s.found
   where
     go : (o : Option (List Bytes)) → s.calls ≤ (on_some o (record { found = r.found; calls = s.calls + r.calls }) (λ ns. s)).calls
-    go none = omega arith
-    go (some ns) = omega arith
+    go None = omega arith
+    go (Some ns) = omega arith
 
 -- nothing found so far: the calls add up
 module _ (job : Bytes) (depth calls : ℕ) (s : Search) (few : calls < 4096) where
-  none_here : (made : ℕ) → s.found ≡ none → calls + s.calls ≡ made → made ≤ 4096 → Searched job depth calls s (no_way made)
+  none_here : (made : ℕ) → s.found ≡ None → calls + s.calls ≡ made → made ≤ 4096 → Searched job depth calls s (no_way made)
   none_here made f e h =
       record {
         over_is = sym (le-ltb most_calls (calls + s.calls) (omega arith));
@@ -117,50 +109,47 @@ module _ (job : Bytes) (index : List ℕ) (count : ℕ) (kind : Bytes) (k left c
       ap (λ n. search_from (modules job index count) kind n (module_row job index k)) s ∙ rw (insts_are job index k, ea, ee) in
       record { total = ap (λ (q : Search). calls + q.calls) e ∙ omega arith; found_by_lem = ap (λ (q : Search). q.found) e; few = omega arith; room = omega arith; deep = l33; more = omega arith; many = l128 }
 
-  module _ (made at end : ℕ) (inv : Left job index count kind k left calls made at end) (r : InstAt) (seen : InstSeen job at end r) where
-    pub left_end : r ≡ inst.End → (f : Found) → f ≡ no_way made → Searched job (33 - left) calls (whole job index count kind k left calls) f
+  module _ (made at end : ℕ) (inv : Left job index count kind k left calls made at end) where
+    pub left_end : InstSeen job at end None → (f : Found) → f ≡ no_way made → Searched job (33 - left) calls (whole job index count kind k left calls) f
     unfolding among_instances
-    left_end g f e =
-        let n : rest job index count kind k left calls at end ≡ nothing = rw (← seen.says, g) in
+    left_end seen f e =
+        let n : rest job index count kind k left calls at end ≡ nothing = rw (← seen.says) in
         rw e (none_here job (33 - left) calls (whole job index count kind k left calls) inv.room made (inv.found_by_lem ∙ ap (λ (q : Search). q.found) n) (inv.total ∙ (ap (λ (q : Search). made + q.calls) n ∙ add-zero made)) inv.few)
 
-    module _ (d : Dims) (n t : Span) (next : ℕ) (g : r ≡ inst.Inst d n t next) where
-      on : Stepped job at end next
-      on = rw g at seen.goes
-
-      pub left_less : end - next < end - at
-      left_less = omega (arith, on.further, on.within)
+    module _ (i : InstAt) (seen : InstSeen job at end (Some i)) where
+      pub left_less : end - i.next < end - at
+      left_less = omega (arith, seen.goes.further, seen.goes.within)
 
       abbrev here : Search
-      here = at_instance (modules job index count) kind (search_from (modules job index count) kind (left - 1)) (inst_is job end d n t next)
+      here = at_instance (modules job index count) kind (search_from (modules job index count) kind (left - 1)) (inst_is job end i.dims i.name i.kind i.next)
 
-      rest_here : rest job index count kind k left calls at end ≡ or_else here (rest job index count kind k left calls next end)
+      rest_here : rest job index count kind k left calls at end ≡ or_else here (rest job index count kind k left calls i.next end)
       unfolding among_instances
-      rest_here = rw (← seen.says, g)
+      rest_here = rw (← seen.says)
 
-      module _ (p : Bytes) (ep : p ≡ spanned job t) (b : Bool) (eb : b ≡ same p kind) where
-        test : same (spanned job t) kind ≡ b
+      module _ (p : Bytes) (ep : p ≡ spanned job i.kind) (b : Bool) (eb : b ≡ same p kind) where
+        test : same (spanned job i.kind) kind ≡ b
         test = sym (eb ∙ ap (λ (q : Bytes). same q kind) ep)
 
-        pub left_found : b ≡ true → (depth : ℕ) → depth ≡ 33 - left → (f : Found) → f ≡ way_to depth n made → Searched job (33 - left) calls (whole job index count kind k left calls) f
+        pub left_found : b ≡ true → (depth : ℕ) → depth ≡ 33 - left → (f : Found) → f ≡ way_to depth i.name made → Searched job (33 - left) calls (whole job index count kind k left calls) f
         left_found h depth ed f e =
-            let s : rest job index count kind k left calls at end ≡ record { found = some (spanned job n ∷ []); calls = 0 } = rest_here ∙ rw (test, h) in
+            let s : rest job index count kind k left calls at end ≡ record { found = Some (spanned job i.name ∷ []); calls = 0 } = rest_here ∙ rw (test, h) in
             let c : calls + (whole job index count kind k left calls).calls ≡ made = inv.total ∙ (ap (λ (q : Search). made + q.calls) s ∙ add-zero made) in
             let one : depth + 1 - (depth + 1) ≡ 0 = omega arith in
             rw (e, ← ed) (record {
               over_is = sym (le-ltb most_calls (calls + (whole job index count kind k left calls).calls) (omega (arith, inv.few)));
               calls_is = λ q. sym c;
-              way_is = λ q. ap (λ (w : List Bytes). some w) (way_cons job no_names depth (depth + 1) n (omega (arith, no_long, inv.more)) (omega arith) ∙ rw one) ∙ sym (inv.found_by_lem ∙ ap (λ (q : Search). q.found) s);
+              way_is = λ q. ap (λ (w : List Bytes). Some w) (way_cons job no_names depth (depth + 1) i.name (omega (arith, no_long, inv.more)) (omega arith) ∙ rw one) ∙ sym (inv.found_by_lem ∙ ap (λ (q : Search). q.found) s);
               deeper = λ q y. omega arith;
-              long = length-set no_names depth n ∙ no_long;
+              long = length-set no_names depth i.name ∙ no_long;
             })
 
         module _ (h : b ≡ false) (row : ℕ) (named : ModuleSeen job index count (module_named (modules job index count) p) row) where
-          pub left_unlisted : row ≡ 0 → Left job index count kind k left calls made next end
+          pub left_unlisted : row ≡ 0 → Left job index count kind k left calls made i.next end
           unfolding row_is
           left_unlisted z =
-              let m : module_named (modules job index count) (spanned job t) ≡ none = rw (← ep, ← named.says, z) in
-              let s : rest job index count kind k left calls at end ≡ or_else nothing (rest job index count kind k left calls next end) = rest_here ∙ rw (test, h, m) in
+              let m : module_named (modules job index count) (spanned job i.kind) ≡ None = rw (← ep, ← named.says, z) in
+              let s : rest job index count kind k left calls at end ≡ or_else nothing (rest job index count kind k left calls i.next end) = rest_here ∙ rw (test, h, m) in
               record {
                 total = inv.total ∙ (ap (λ (q : Search). made + q.calls) s ∙ omega arith);
                 found_by_lem = inv.found_by_lem ∙ ap (λ (q : Search). q.found) s;
@@ -175,19 +164,19 @@ module _ (job : Bytes) (index : List ℕ) (count : ℕ) (kind : Bytes) (k left c
             abbrev sub : Search
             sub = search_from (modules job index count) kind (left - 1) (module_row job index (row - 1))
 
-            rest_listed : rest job index count kind k left calls at end ≡ or_else (under (spanned job n) sub) (rest job index count kind k left calls next end)
+            rest_listed : rest job index count kind k left calls at end ≡ or_else (under (spanned job i.name) sub) (rest job index count kind k left calls i.next end)
             unfolding row_is
             rest_listed =
                 let y : row ≡ suc (row - 1) = omega arith in
-                let m : module_named (modules job index count) (spanned job t) ≡ some (module_row job index (row - 1)) = rw (← ep, ← named.says) (ap (row_is job index) y) in
+                let m : module_named (modules job index count) (spanned job i.kind) ≡ Some (module_row job index (row - 1)) = rw (← ep, ← named.says) (ap (row_is job index) y) in
                 rest_here ∙ rw (test, h, m)
 
             module _ (f : Found) (s : Searched job (33 - (left - 1)) made sub f) where
               pub left_over : f.over ≡ true → Searched job (33 - left) calls (whole job index count kind k left calls) f
               left_over o =
                   let m : most_calls < made + sub.calls = ltb-true most_calls (made + sub.calls) (sym s.over_is ∙ o) in
-                  let l = least (under (spanned job n) sub) (rest job index count kind k left calls next end) in
-                  let e : (rest job index count kind k left calls at end).calls ≡ (or_else (under (spanned job n) sub) (rest job index count kind k left calls next end)).calls = ap (λ (q : Search). q.calls) rest_listed in
+                  let l = least (under (spanned job i.name) sub) (rest job index count kind k left calls i.next end) in
+                  let e : (rest job index count kind k left calls at end).calls ≡ (or_else (under (spanned job i.name) sub) (rest job index count kind k left calls i.next end)).calls = ap (λ (q : Search). q.calls) rest_listed in
                   record {
                     over_is = o ∙ sym (lt-ltb most_calls (calls + (whole job index count kind k left calls).calls) (omega (arith, inv.total)));
                     calls_is = λ q. absurd (no_true (sym q ∙ o));
@@ -200,28 +189,28 @@ module _ (job : Bytes) (index : List ℕ) (count : ℕ) (kind : Bytes) (k left c
                 within : made + sub.calls ≤ 4096
                 within = ltb-false most_calls (made + sub.calls) (sym s.over_is ∙ o)
 
-                pub left_below : f.found ≡ true → (depth : ℕ) → depth ≡ 33 - left → (q : Found) → q ≡ way_below f depth n → Searched job (33 - left) calls (whole job index count kind k left calls) q
+                pub left_below : f.found ≡ true → (depth : ℕ) → depth ≡ 33 - left → (q : Found) → q ≡ way_below f depth i.name → Searched job (33 - left) calls (whole job index count kind k left calls) q
                 left_below y depth ed q e =
                     let deep : 33 - (left - 1) ≡ depth + 1 = omega (arith, inv.deep, inv.more) in
-                    let w : sub.found ≡ some (way_from job (depth + 1) f) = sym (s.way_is o) ∙ rw (y, deep) in
-                    let r : rest job index count kind k left calls at end ≡ under (spanned job n) sub = rest_listed ∙ rw w in
+                    let w : sub.found ≡ Some (way_from job (depth + 1) f) = sym (s.way_is o) ∙ rw (y, deep) in
+                    let r : rest job index count kind k left calls at end ≡ under (spanned job i.name) sub = rest_listed ∙ rw w in
                     let c : calls + (whole job index count kind k left calls).calls ≡ made + sub.calls = inv.total ∙ ap (λ (q : Search). made + q.calls) r in
-                    let path : map (spanned job) (take (f.count - depth) (drop depth (set f.names depth n))) ≡ spanned job n ∷ way_from job (depth + 1) f =
-                    way_cons job f.names depth f.count n (omega (arith, s.long, inv.more)) (omega (arith, s.deeper o y)) in
-                    let under_is : (under (spanned job n) sub).found ≡ some (spanned job n ∷ way_from job (depth + 1) f) = rw w in
-                    let found : (whole job index count kind k left calls).found ≡ some (spanned job n ∷ way_from job (depth + 1) f) = inv.found_by_lem ∙ (ap (λ (q : Search). q.found) r ∙ under_is) in
+                    let path : map (spanned job) (take (f.count - depth) (drop depth (set f.names depth i.name))) ≡ spanned job i.name ∷ way_from job (depth + 1) f =
+                    way_cons job f.names depth f.count i.name (omega (arith, s.long, inv.more)) (omega (arith, s.deeper o y)) in
+                    let under_is : (under (spanned job i.name) sub).found ≡ Some (spanned job i.name ∷ way_from job (depth + 1) f) = rw w in
+                    let found : (whole job index count kind k left calls).found ≡ Some (spanned job i.name ∷ way_from job (depth + 1) f) = inv.found_by_lem ∙ (ap (λ (q : Search). q.found) r ∙ under_is) in
                     rw (e, ← ed) (record {
                       over_is = s.over_is ∙ ap (ltb most_calls) (sym c);
                       calls_is = λ v. s.calls_is o ∙ sym c;
                       way_is = λ v. rw (y, path) (sym found);
                       deeper = λ v x. omega (arith, s.deeper o y);
-                      long = length-set f.names depth n ∙ s.long;
+                      long = length-set f.names depth i.name ∙ s.long;
                     })
 
-                pub left_on : f.found ≡ false → Left job index count kind k left calls f.calls next end
+                pub left_on : f.found ≡ false → Left job index count kind k left calls f.calls i.next end
                 left_on y =
-                    let w : sub.found ≡ none = sym (s.way_is o) ∙ rw y in
-                    let r : rest job index count kind k left calls at end ≡ record { found = (rest job index count kind k left calls next end).found; calls = sub.calls + (rest job index count kind k left calls next end).calls } = rest_listed ∙ rw w in
+                    let w : sub.found ≡ None = sym (s.way_is o) ∙ rw y in
+                    let r : rest job index count kind k left calls at end ≡ record { found = (rest job index count kind k left calls i.next end).found; calls = sub.calls + (rest job index count kind k left calls i.next end).calls } = rest_listed ∙ rw w in
                     record {
                       total = inv.total ∙ (ap (λ (q : Search). made + q.calls) r ∙ omega (arith, s.calls_is o));
                       found_by_lem = inv.found_by_lem ∙ ap (λ (q : Search). q.found) r;

@@ -1,7 +1,6 @@
 -- What the answer of a search says: a refusal exactly where the calls pass the limit; else the way and the number of calls.
 -- Assumes nothing.
-use Rattle.std.specs.Prelude.{ℕ, ◌+◌, ◌-◌, ◌<◌, ◌≡◌, true, false, cond, List, map, length, take, drop, set, replicate, ltb}
-use Rattle.std.proofs.Math.Option.{Option, none, some}
+use Rattle.std.specs.Prelude.{ℕ, ◌+◌, ◌-◌, ◌<◌, ◌≡◌, true, false, cond, List, map, length, take, drop, set, replicate, ltb, Option, None, Some}
 use Rattle.text.specs.Ascii.{Bytes}
 use Rattle.jobindex.specs.declared.Span.{Span}
 use Rattle.design.specs.Limits.{most_calls}
@@ -14,7 +13,7 @@ abbrev pub way_from : Bytes → ℕ → Found → List Bytes
 way_from job depth f = map (spanned job) (take (f.count - depth) (drop depth f.names))
 
 abbrev pub way : Bytes → ℕ → Found → Option (List Bytes)
-way job depth f = cond f.found (some (way_from job depth f)) none
+way job depth f = cond f.found (Some (way_from job depth f)) None
 
 -- r is the answer of a search s at a depth, which was called after `before` calls
 pub record Searched (job : Bytes) (depth before : ℕ) (s : Search) (r : Found) : Type 0 where

@@ -8,7 +8,6 @@ ghost use Rattle.lookup.specs.Rows.{modules};
 ghost use Rattle.search.specs.Found.{Searched, no_way, past, way_to, way_below};
 
 use jobindex::Span;
-use lines::InstAt;
 
 // What a search comes to: whether it would make more than 4,096 calls; whether an instance was found, and the calls made so far; the
 // instance names of the way to it, parts of the job.
@@ -25,13 +24,12 @@ pub struct Found {
 fn nothing(calls: usize) -> Found
     ensures { result ≡ no_way calls }
 {
-    let z = Span { at: 0, len: 0 };
     Found {
         over: false,
         found: false,
         calls,
         count: 0,
-        names: [z; 33],
+        names: [Span { at: 0, len: 0 }; 33],
     }
 }
 
@@ -39,13 +37,9 @@ fn nothing(calls: usize) -> Found
 fn refused() -> Found
     ensures { result ≡ past }
 {
-    let z = Span { at: 0, len: 0 };
     Found {
         over: true,
-        found: false,
-        calls: 0,
-        count: 0,
-        names: [z; 33],
+        ..nothing(0)
     }
 }
 
@@ -54,24 +48,25 @@ fn found_at(depth: usize, name: Span, calls: usize) -> Found
     requires { depth < 33 }
     ensures { result ≡ way_to depth name calls }
 {
-    let mut f = nothing(calls);
-    f.found = true;
-    f.count = depth + 1;
+    let way = Found {
+        found: true,
+        count: depth + 1,
+        ..nothing(calls)
+    };
+    below(way, depth, name)
+}
+
+// A way that begins one instance further up.
+fn below(mut f: Found, depth: usize, name: Span) -> Found
+    requires { depth < 33 }
+    ensures { result ≡ way_below f depth name }
+{
     f.names[depth] = name;
     f
 }
 
-// A way that begins one instance further up.
-fn below(f: Found, depth: usize, name: Span) -> Found
-    requires { depth < 33 }
-    ensures { result ≡ way_below f depth name }
-{
-    let mut g = f;
-    g.names[depth] = name;
-    g
-}
-
 // The search from module k with `left` depths left, after `calls` calls.
+#[tactic(auto, using(crate::proofs::Turns::starts, crate::proofs::Turns::turns))]
 fn search_from(
     job: &[u8],
     index: &[u32],
@@ -94,38 +89,27 @@ fn search_from(
     let depth = 33 - left;
     let end = lookup::insts_end(index, k);
     let mut at = lookup::insts_from(index, k);
-    loop {
-        let r = lines::next_inst(job, at, end);
-        let InstAt::Inst {
-            dims: _,
-            name,
-            kind: own,
-            next,
-        } = r
-        else {
-            return nothing(made);
-        };
-        let t = lines::part_of(job, own);
+    while let Some(inst) = lines::next_inst(job, at, end) {
+        let t = lines::part_of(job, inst.kind);
         if text::compare::same(t, kind) {
-            return found_at(depth, name, made);
+            return found_at(depth, inst.name, made);
         }
         let row = lookup::module_named(job, index, count, t);
         if row == 0 {
-            at = next;
+            at = inst.next;
             continue;
         }
         let f = search_from(job, index, count, kind, row - 1, left - 1, made);
-        let over = f.over;
-        if over {
+        if f.over {
             return f;
         }
-        let found = f.found;
-        if found {
-            return below(f, depth, name);
+        if f.found {
+            return below(f, depth, inst.name);
         }
         made = f.calls;
-        at = next;
+        at = inst.next;
     }
+    nothing(made)
 }
 
 // The way from module k to the first instance of a type.

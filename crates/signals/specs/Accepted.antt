@@ -1,9 +1,8 @@
 -- An accepted job: what its texts were made of; jobs that are alike but for their retentions.
 -- Assumes nothing.
-use Rattle.std.specs.Prelude.{ℕ, ◌≡◌, Bool, true, false, cond}
+use Rattle.std.specs.Prelude.{ℕ, ◌≡◌, Bool, true, false, cond, Option, None, Some}
 use Rattle.std.proofs.Common.{arith, ◌∙◌}
 use Rattle.std.proofs.Math.Path.{refl, sym}
-use Rattle.std.proofs.Math.Option.{Option, none, some}
 use mathlib.Core.List.Memᴰ.{head as here}
 use mathlib.Core.List.Memᴰ.{tail as there}
 use mathlib.Core.List.{List, [], ◌∷◌, ◌++◌, Memᴰ as Mem}
@@ -33,7 +32,7 @@ pub record Accepted (l : Lent) (t g p r o : Bytes) : Type 0 where
   pub records : Model
   pub carried_out : reading job ≡ Reading.done counts records
   pub top : Module
-  pub is_top : module_named job.modules job.top ≡ some top
+  pub is_top : module_named job.modules job.top ≡ Some top
   pub path : List Bytes
   pub base : Module
   pub scope_at : scope_of job top records.design_top ≡ Scope.at path base
@@ -48,7 +47,7 @@ module _ (l : Lent) (t g p r o : Bytes) where
   no : {x k : ℕ} {A : Type 0} → Answer.refused x k ≡ Answer.texts g p r o → A
   no e = let z : ◌≡◌ {A = ℕ} 0 1 = cc in absurd (omega arith)
 
-  module _ (j : Job) (a : parse t ≡ accepted j) (n : Counted) (m : Model) (c : reading j ≡ Reading.done n m) (top : Module) (i : module_named j.modules j.top ≡ some top) where
+  module _ (j : Job) (a : parse t ≡ accepted j) (n : Counted) (m : Model) (c : reading j ≡ Reading.done n m) (top : Module) (i : module_named j.modules j.top ≡ Some top) where
     made : (path : List Bytes) (base : Module) → scope_of j top m.design_top ≡ Scope.at path base → (f : Bool) → fits (setting_of j path base m) ≡ f
         → (b : Bool) → cond f (cond b (Answer.texts (glue_of (setting_of j path base m)) (package_of (setting_of j path base m)) (report_of (setting_of j path base m)) m.log) (Answer.refused 14 0)) (Answer.refused 13 0) ≡ Answer.texts g p r o
         → Accepted l t g p r o
@@ -78,8 +77,8 @@ module _ (l : Lent) (t g p r o : Bytes) where
     by_scope (Scope.no_scope k) s e = no e
 
   by_top : (j : Job) → parse t ≡ accepted j → (n : Counted) (m : Model) → reading j ≡ Reading.done n m → (x : Option Module) → module_named j.modules j.top ≡ x → below_top l j m x ≡ Answer.texts g p r o → Accepted l t g p r o
-  by_top j a n m c none i e = no e
-  by_top j a n m c (some top) i e = by_scope j a n m c top i (scope_of j top m.design_top) refl e
+  by_top j a n m c None i e = no e
+  by_top j a n m c (Some top) i e = by_scope j a n m c top i (scope_of j top m.design_top) refl e
 
   by_reading : (j : Job) → parse t ≡ accepted j → (x : Reading) → reading j ≡ x → after_reading l j x ≡ Answer.texts g p r o → Accepted l t g p r o
   by_reading j a (Reading.done n m) c e = by_top j a n m c (module_named j.modules j.top) refl e
@@ -137,13 +136,13 @@ pub record Alike {l l' : Lent} {t g p r o t' g' p' r' o' : Bytes} (a : Accepted 
   pub override : a.job.override ≡ b.job.override
   pub records : SameBut a.records b.records
 
-some_same : {x y : Module} → ◌≡◌ {A = Option Module} (some x) (some y) → x ≡ y
+some_same : {x y : Module} → ◌≡◌ {A = Option Module} (Some x) (Some y) → x ≡ y
 some_same e = cc
 
 module _ {l l' : Lent} {t g p r o t' g' p' r' o' : Bytes} (a : Accepted l t g p r o) (b : Accepted l' t' g' p' r' o') (k : Alike a b) where
   same_top : a.top ≡ b.top
   same_top =
-      let e : module_named b.job.modules b.job.top ≡ some a.top = rw (← k.modules, ← k.top) a.is_top in
+      let e : module_named b.job.modules b.job.top ≡ Some a.top = rw (← k.modules, ← k.top) a.is_top in
       some_same (sym e ∙ b.is_top)
 
   same_scope : Scope.at a.path a.base ≡ Scope.at b.path b.base

@@ -1,11 +1,9 @@
 -- "0 means accepted": no refusal has the number 0, so an answer with the number 0 is four texts.
 -- Assumes nothing.
-use Rattle.std.specs.Prelude.{ℕ, zero, suc, ◌+◌, ◌<◌, ◌≡◌, refl, Bool, false, cond, ◌&&◌, leb, ltb, length, drop}
+use Rattle.std.specs.Prelude.{ℕ, zero, suc, ◌+◌, ◌<◌, ◌≡◌, refl, Bool, false, cond, ◌&&◌, leb, ltb, length, drop, option_map, Option, None, Some}
 use native.Mathlib.Omega.{arith}
 use Rattle.std.proofs.Math.Bool.{true, not}
 use mathlib.Core.List.{List, [], ◌∷◌, ◌++◌, map}
-use Rattle.std.proofs.Math.Option
-use Rattle.std.proofs.Math.Option.{Option, none, some}
 use Rattle.std.proofs.Math.ListN.{take}
 use Rattle.text.specs.Ascii.{Bytes, ascii}
 use Rattle.text.specs.Compare.{same, starts_with}
@@ -47,8 +45,8 @@ Fault (Read.refuse x) = 0 < x
 Fault (Read.on d j rest) = Unit {0}
 
 abbrev MaybeFault : Option Read → Type 0
-MaybeFault none = Unit {0}
-MaybeFault (some r) = Fault r
+MaybeFault None = Unit {0}
+MaybeFault (Some r) = Fault r
 
 within_fault : {A : Type 0} (a : A) (b c : Bool) (go : A → Read) → Fault (go a) → Fault (and_then (cond b (cond c (good a) (bad 6)) (bad 5)) go)
 within_fault a true true go h = h
@@ -56,14 +54,14 @@ within_fault a true false go h = omega arith
 within_fault a false c go h = omega arith
 
 checked_fault : {A : Type 0} (a : Option A) (b : Bool) (new : A → Bool) (go : A → Read) → ((x : A) → Fault (go x)) → Fault (and_then (check a b new) go)
-checked_fault none b new go h = omega arith
-checked_fault (some a) b new go h = within_fault a b (new a) go (h a)
+checked_fault None b new go h = omega arith
+checked_fault (Some a) b new go h = within_fault a b (new a) go (h a)
 
 when_fault : (b : Bool) (r : Read) → Fault r → MaybeFault (when b r)
 when_fault true r h = h
 when_fault false r h = tt
 
-map_fault : {A : Type 0} (b : Bool) (a : Option A) (w : Bool) (new : A → Bool) (go : A → Read) → ((x : A) → Fault (go x)) → MaybeFault (Option.map (λ (r : Checked A). and_then r go) (when b (check a w new)))
+map_fault : {A : Type 0} (b : Bool) (a : Option A) (w : Bool) (new : A → Bool) (go : A → Read) → ((x : A) → Fault (go x)) → MaybeFault (option_map (λ (r : Checked A). and_then r go) (when b (check a w new)))
 map_fault true a w new go h = checked_fault a w new go h
 map_fault false a w new go h = tt
 
@@ -137,8 +135,8 @@ module _ (j : Job) (line rest : Bytes) where
   end_fault = when_fault (same line (ascii "end=")) _ tt
 
   else_fault : (a : Option Read) (r : Read) → MaybeFault a → Fault r → Fault (or_else a r)
-  else_fault none r h g = g
-  else_fault (some a) r h g = h
+  else_fault None r h g = g
+  else_fault (Some a) r h g = h
 
   line_fault : (d : Due) → Fault (read_line d j line rest)
   unfolding read_line
@@ -212,8 +210,8 @@ module _ (load : Bytes → Counted → Model → Reading) (path : Bytes) (h : (p
   commands_unread vs (c ∷ cs) n m = on_unread (command load path vs c n m) (read_commands load path vs cs) (command_unread vs c n m) (λ n m. commands_unread vs cs n m)
 
   body_unread : (b : Option Bytes) (n : Counted) (m : Model) → Unread (read_body load path b n m)
-  body_unread none n m = omega arith
-  body_unread (some b) n m = commands_unread m.variables (commands (join b)) n m
+  body_unread None n m = omega arith
+  body_unread (Some b) n m = commands_unread m.variables (commands (join b)) n m
 
 file_unread : (files : List File) (left : ℕ) (path : Bytes) (n : Counted) (m : Model) → Unread (read_file files left path n m)
 unfolding read_file
@@ -230,19 +228,19 @@ Pathless (Path.along ps) = Unit {0}
 Pathless (Path.refused n) = 0 < n
 
 found_pathless : (o : Option (List Bytes)) → Pathless (found_at o)
-found_pathless none = omega arith
-found_pathless (some p) = tt
+found_pathless None = omega arith
+found_pathless (Some p) = tt
 
 top_pathless : (d : List Module) (top : Module) (name : Bytes) (o : Option Bytes) → Pathless (by_design_top d top name o)
-top_pathless d top name none = tt
-top_pathless d top name (some type) = either Pathless (same type name) _ _ tt (either Pathless (leb (calls_made d top type) most_calls) _ _ (found_pathless (find_by_type d top type)) (omega arith))
+top_pathless d top name None = tt
+top_pathless d top name (Some type) = either Pathless (same type name) _ _ tt (either Pathless (leb (calls_made d top type) most_calls) _ _ (found_pathless (find_by_type d top type)) (omega arith))
 
 path_pathless : (j : Job) (top : Module) (o : Option Bytes) → Pathless (scope_path_of j top o)
 path_pathless j top o = either Pathless (same j.override []) _ _ (top_pathless j.modules top j.top o) tt
 
 existing_unscoped : (ps : List Bytes) (o : Option Module) → Unscoped (existing ps o)
-existing_unscoped ps none = omega arith
-existing_unscoped ps (some m) = tt
+existing_unscoped ps None = omega arith
+existing_unscoped ps (Some m) = tt
 
 along_unscoped : (d : List Module) (top : Module) (p : Path) → Pathless p → Unscoped (scope_along d top p)
 along_unscoped d top (Path.along ps) h = existing_unscoped ps (module_at d top ps)
@@ -265,8 +263,8 @@ module _ (l : Lent) where
   in_numbered j m (Scope.no_scope n) h = h
 
   top_numbered : (j : Job) (m : Model) (o : Option Module) → Numbered (below_top l j m o)
-  top_numbered j m none = omega arith
-  top_numbered j m (some top) = in_numbered j m (scope_of j top m.design_top) (scope_unscoped j top m.design_top)
+  top_numbered j m None = omega arith
+  top_numbered j m (Some top) = in_numbered j m (scope_of j top m.design_top) (scope_unscoped j top m.design_top)
 
   reading_numbered : (j : Job) (r : Reading) → Unread r → Numbered (after_reading l j r)
   reading_numbered j (Reading.done n m) h = top_numbered j m (module_named j.modules j.top)

@@ -3,9 +3,8 @@
 -- lines, and the records that its commands leave); `DomainReaches` (walk/specs/Reach.antt: what it is that an element reaches a path, said without the walk);
 -- `lost_paths`, `always_block`, `initial_block`, `powered_line` (texts/specs/Domains.antt); `force_lines` (texts/specs/ForceLines.antt: lines cut from a text).
 -- Assumes nothing.
-use Rattle.std.specs.Prelude.{◌≡◌, ◌↔◌, true, length}
+use Rattle.std.specs.Prelude.{◌≡◌, ◌↔◌, true, length, Some}
 use Rattle.std.proofs.Common.{sym, subst, ◌∙◌}
-use Rattle.std.proofs.Math.Option.{some}
 use mathlib.Core.List.{List, ◌∷◌, ◌++◌, map, Memᴰ as Mem}
 use Rattle.text.specs.Ascii.{Bytes, ascii}
 use Rattle.text.specs.Numbers.{value_from, is_decimal}
@@ -30,8 +29,8 @@ pub record Powered {l : Lent} {t g p r o : Bytes} (a : Accepted l t g p r o) (d 
   pub stands : a.records.domains ≡ front ++ d ∷ back
   pub power : Bytes
   pub ground_net : Bytes
-  pub has_power : d.power ≡ some power
-  pub has_ground : d.ground_net ≡ some ground_net
+  pub has_power : d.power ≡ Some power
+  pub has_ground : d.ground_net ≡ Some ground_net
 
 -- some element of the domain reaches the path q "by at most 32 undimensioned instances, through no retained path, to a losable name"
 abbrev pub Reached : {l : Lent} {t g p r o : Bytes} → Accepted l t g p r o → Domain → Bytes → Type 0

@@ -1,9 +1,8 @@
 -- The starred cases of "Marked runs", one table: what the definitions give beside what document 01 says, and one proof over the whole of it.
 -- Assumes nothing.
 use Prim.Native.String.{String, ◌++◌}
-use Rattle.std.specs.Prelude.{◌≡◌, refl, map, length}
+use Rattle.std.specs.Prelude.{◌≡◌, refl, map, length, Option, None, Some}
 use mathlib.Core.List.{List, [], ◌∷◌, flat_map}
-use Rattle.std.proofs.Math.Option.{Option, none, some}
 use Rattle.text.specs.Ascii.{Bytes, ascii}
 use Rattle.text.specs.Compare.{same, less}
 use Rattle.text.specs.Scan.{before, all, any, split_at}
@@ -58,9 +57,9 @@ in_scope f top d m (Scope.at path base) = f (record { top = top; scope = path; b
 in_scope f top d m (Scope.no_scope n) = []
 
 abbrev after_reading : (Setting → List Bytes) → Job → Option Module → Reading → List Bytes
-after_reading f j none r = []
-after_reading f j (some top) (Reading.done n m) = in_scope f j.top j.modules m (scope_of j top m.design_top)
-after_reading f j (some top) (Reading.refused x k) = []
+after_reading f j None r = []
+after_reading f j (Some top) (Reading.done n m) = in_scope f j.top j.modules m (scope_of j top m.design_top)
+after_reading f j (Some top) (Reading.refused x k) = []
 
 abbrev asked : (Setting → List Bytes) → Parsed → List Bytes
 asked f (Parsed.refused x n) = []
@@ -82,8 +81,8 @@ abbrev words : String → List Bytes
 words t = flat_map (values []) (commands (join (ascii t)))
 
 abbrev or_none : Option Bytes → List Bytes
-or_none none = []
-or_none (some v) = v ∷ []
+or_none None = []
+or_none (Some v) = v ∷ []
 
 abbrev state_values : List Bytes → List Bytes
 state_values ws = map (λ (s : State). s.value) (states (ascii "-on_state") (ascii "-off_state") ws)

@@ -10,16 +10,14 @@ use lib.Dec.{eqb, leb}
 use lib.ListN.{length, take, drop, get_or, drop_of_length-le, length-append, length-take, length-drop, get_or-append, get_or-eq_default}
 use lib.Seq.{drop-cons, get_or-append-add, take_all, take-take, take-append-le, length-take-le}
 use borrow.Author.Rules.{rules}
-use borrow.Author.Tests.{eq-eqb, ne_eqb, eqb-true, leb-true, leb-false}
+use borrow.Author.Tests.{eqb-true, leb-true, leb-false}
 use Rattle.text.specs.Compare.{same}
 use Rattle.text.specs.Lists.{take_none, drop_two, take_two, drop_take}
 use Rattle.text.specs.Sames.{both, same_refl}
-use Rattle.spans.specs.Span.{◌⋯◌, bytes, got_of, pair_at}
-use Rattle.spans.specs.Frame.{whole, bytes_same, shorter}
+use Rattle.spans.specs.Span.{◌⋯◌, bytes, pair_at}
+use Rattle.spans.specs.Frame.{whole, bytes_same}
 use Rattle.spans.specs.Area.{Wrote}
 use Rattle.spans.specs.declared.span.Span.{Span}
-use Rattle.spans.specs.declared.span.Got.{Got}
-use Rattle.spans.specs.declared.span.Got.TheVariants.{Yes, No}
 use Rattle.spans.specs.Writes.{wrote_kept, wrote_long, wrote_two}
 
 -- ---- the first byte
@@ -80,65 +78,11 @@ pub ruleset fetches = (rules, fetch_files, fetch_area)
 
 -- ---- whether the string is s
 
-pub record Is (mem s : List ℕ) (t : Bool) (x : Span) (i : ℕ) : Type 0 where
-  pub keeps : same (bytes mem x) (drop i s) ≡ t
-
-module _ (mem s : List ℕ) (t : Bool) (x : Span) (i : ℕ) (inv : Is mem s t x i) (p : Got) (e : bytes mem x ≡ got_of mem p) where
-  pub is_short : p ≡ No → i < length s → false ≡ t
-  unfolding same
-  is_short h l = rw (e, h, drop-cons s i 0 l) at inv.keeps
-
-  pub is_end : p ≡ No → length s ≤ i → true ≡ t
-  unfolding same
-  is_end h l = rw (e, h, drop_of_length-le s {i = i} l) at inv.keeps
-
-  module _ (a : ℕ) (u : Span) (h : p ≡ Yes a u) where
-    pub is_long : length s ≤ i → false ≡ t
-    unfolding same
-    is_long l = rw (e, h, drop_of_length-le s {i = i} l) at inv.keeps
-
-    pub is_stop : i < length s → (a ≡ get_or s i 0 → ⊥) → false ≡ t
-    unfolding same
-    is_stop l z = rw (e, h, drop-cons s i 0 l, ne_eqb a (get_or s i 0) z) at inv.keeps
-
-    pub is_step : i < length s → a ≡ get_or s i 0 → Is mem s t u (i + 1)
-    unfolding same
-    is_step l z = record { keeps = rw add-one (rw (e, h, drop-cons s i 0 l, eq-eqb a (get_or s i 0) z) at inv.keeps) }
-
-pub ruleset iss = (rules, is_short, is_end, is_long, is_stop, is_step)
-
 -- a string that is fetched whole
 pub is_whole : (mem w p : List ℕ) (s : Span) (r : Bool) → r ≡ same p w → p ≡ take (length p) (bytes mem s) → length p ≡ s.len → r ≡ same (bytes mem s) w
 is_whole mem w p s r e f h = e ∙ ap (λ (q : List ℕ). same q w) (whole mem s p f h)
 
 -- ---- whether two strings are the same
-
-pub record Same (mem : List ℕ) (t : Bool) (x y : Span) : Type 0 where
-  pub keeps : same (bytes mem x) (bytes mem y) ≡ t
-
-module _ (mem : List ℕ) (t : Bool) (x y : Span) (inv : Same mem t x y) (p q : Got) (e : bytes mem x ≡ got_of mem p) (f : bytes mem y ≡ got_of mem q) where
-  pub same_both : p ≡ No → q ≡ No → true ≡ t
-  unfolding same
-  same_both h g = rw (e, f, h, g) at inv.keeps
-
-  pub same_left : (a : ℕ) (u : Span) → p ≡ Yes a u → q ≡ No → false ≡ t
-  unfolding same
-  same_left a u h g = rw (e, f, h, g) at inv.keeps
-
-  pub same_right : (b : ℕ) (v : Span) → p ≡ No → q ≡ Yes b v → false ≡ t
-  unfolding same
-  same_right b v h g = rw (e, f, h, g) at inv.keeps
-
-  module _ (a b : ℕ) (u v : Span) (h : p ≡ Yes a u) (g : q ≡ Yes b v) where
-    pub same_stop : (a ≡ b → ⊥) → false ≡ t
-    unfolding same
-    same_stop z = rw (e, f, h, g, ne_eqb a b z) at inv.keeps
-
-    pub same_step : a ≡ b → Same mem t u v
-    unfolding same
-    same_step z = record { keeps = rw (e, f, h, g, eq-eqb a b z) at inv.keeps }
-
-pub ruleset streams = (rules, shorter, same_both, same_left, same_right, same_stop, same_step)
 
 module _ (mem : List ℕ) (s t : Span) where
   pub same_place : eqb s.at t.at && eqb s.len t.len ≡ true → true ≡ same (bytes mem s) (bytes mem t)

@@ -1,5 +1,6 @@
 -- Laws of spans, for all who store strings: when a fetched part is the whole string, a span within a span, and what is read when the area grows.
 -- Assumes nothing.
+use Rattle.std.specs.Prelude.{Option, Some}
 use Rattle.std.specs.Prelude.{ℕ, zero, suc, ◌+◌, ◌-◌, ◌*◌, ◌≤◌, ◌<◌, max, ◌≡◌, refl, List, [], ◌∷◌, ◌++◌, map, length, take, drop, get_or, set}
 use Rattle.std.proofs.Common.{sym, ap, ◌∙◌, arith, add-zero, zero-add, length-take, length-drop, length-set, drop-drop, take-take, take_all, drop-set-lt, get_or-drop, get_or-set_other, get_or-set_same}
 use Rattle.std.proofs.lemmas.List.{take-append-le}
@@ -7,8 +8,6 @@ use Rattle.text.specs.Ascii.{Bytes}
 use Rattle.text.specs.Lists.{drop_take, drop_two, take_two}
 use Rattle.spans.specs.Span.{◌⋯◌, bytes, pair_at, pairs, got_of}
 use Rattle.spans.specs.declared.span.Span.{Span}
-use Rattle.spans.specs.declared.span.Got.{Got}
-use Rattle.spans.specs.declared.span.Got.TheVariants.{Yes}
 
 -- for clients of `fetch`: a front as long as the span is the whole string
 pub whole : (mem : Bytes) (s : Span) (p : Bytes) → p ≡ take (length p) (bytes mem s) → length p ≡ s.len → p ≡ bytes mem s
@@ -143,5 +142,5 @@ pairs_kept l l' k n e =
     rw q at (sym (get_or-drop (2 * k) l' (i - 2 * k) 0) ∙ f ∙ get_or-drop (2 * k) l (i - 2 * k) 0))
 
 -- a string without its first byte is shorter
-pub shorter : (mem w : List ℕ) (p : Got) (b : ℕ) (u : Span) → w ≡ got_of mem p → p ≡ Yes b u → length (bytes mem u) < length w
+pub shorter : (mem w : List ℕ) (p : Option (ℕ × Span)) (b : ℕ) (u : Span) → w ≡ got_of mem p → p ≡ Some (b, u) → length (bytes mem u) < length w
 shorter mem w p b u e h = rw (e, h) (omega arith)

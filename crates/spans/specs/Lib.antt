@@ -1,4 +1,5 @@
 pub mod Span
+pub mod Stream
 pub mod Area
 pub mod Frame
 pub mod Writes

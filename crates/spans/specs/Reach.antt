@@ -1,5 +1,5 @@
 -- How far strings reach: a measure of a span that says where it ends, and that it does not cross from the files to the area. Assumes nothing.
-use Rattle.std.specs.Prelude.{ℕ, zero, suc, ◌+◌, ◌-◌, ◌≤◌, ◌<◌, ◌^◌, max, ◌≡◌, refl, Bool, true, false, cond, ◌||◌, List, [], ◌∷◌, ◌++◌, leb}
+use Rattle.std.specs.Prelude.{ℕ, zero, suc, ◌+◌, ◌≤◌, ◌<◌, ◌^◌, max, ◌≡◌, refl, Bool, true, false, cond, ◌||◌, List, [], ◌∷◌, ◌++◌, leb}
 use Rattle.std.proofs.Common.{arith, le-leb, leb-true}
 use Rattle.spans.specs.Span.{◌⋯◌, pair_at, pairs}
 use Rattle.spans.specs.Frame.{last_end}

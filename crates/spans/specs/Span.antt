@@ -1,13 +1,8 @@
 -- How a span stands for a byte string: a place and a length in one list, which is the joined files followed by the area.
 -- Assumes nothing.
-use Rattle.std.specs.Prelude.{ℕ, zero, suc, ◌+◌, ◌*◌, List, [], ◌∷◌, map, take, drop, get_or}
-use Rattle.std.proofs.Math.Option.{Option, none, some}
+use Rattle.std.specs.Prelude.{ℕ, zero, suc, ◌+◌, ◌*◌, List, [], ◌∷◌, map, take, drop, get_or, Option, None, Some}
 use Rattle.text.specs.Ascii.{Bytes}
 use Rattle.spans.specs.declared.span.Span.{Span}
-use Rattle.spans.specs.declared.span.Got.{Got}
-use Rattle.spans.specs.declared.span.Got.TheVariants.{Yes, No}
-use Rattle.spans.specs.declared.span.Found.{Found}
-use Rattle.spans.specs.declared.span.Found.TheVariants.{At, None}
 
 infix 55 ◌⋯◌
 abbrev pub ◌⋯◌ : ℕ → ℕ → Span
@@ -18,14 +13,14 @@ unfoldable pub bytes : Bytes → Span → Bytes
 bytes mem s = take s.len (drop s.at mem)
 
 -- a string by its first byte
-abbrev pub got_of : Bytes → Got → Bytes
-got_of mem (Yes b s) = b ∷ bytes mem s
-got_of mem No = []
+abbrev pub got_of : Bytes → Option (ℕ × Span) → Bytes
+got_of mem (Some (b, s)) = b ∷ bytes mem s
+got_of mem None = []
 
 -- a string that was looked for
-abbrev pub found_of : Bytes → Found → Option Bytes
-found_of mem (At s) = some (bytes mem s)
-found_of mem None = none
+abbrev pub found_of : Bytes → Option Span → Option Bytes
+found_of mem (Some s) = Some (bytes mem s)
+found_of mem None = None
 
 -- ---- spans stored as numbers, two each
 

@@ -1,5 +1,5 @@
 -- Laws: what a loop writes to an area. `Written` is its invariant, and `Wrote` what it leaves. Assumes nothing.
-use Rattle.std.specs.Prelude.{◌≡◌, refl, List, [], ◌∷◌, ◌++◌, ℕ, ◌+◌, ◌-◌, ◌≤◌, ◌<◌, length, take, drop, get_or, set}
+use Rattle.std.specs.Prelude.{◌≡◌, refl, List, [], ◌∷◌, ◌++◌, ℕ, ◌+◌, ◌≤◌, ◌<◌, length, take, drop, get_or, set}
 use Rattle.std.proofs.Common.{sym, ap, ◌∙◌, append_assoc, append-nil, add-one, arith, drop_of_length-le, length-set, length-append, length-drop, take-append-drop, drop-drop, take-suc-set, drop-set-lt, length-take-le, take_at, drop_at, take-take}
 use Rattle.std.proofs.lemmas.List.{take-append-le}
 use Rattle.text.specs.Lists.{here}

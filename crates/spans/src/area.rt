@@ -3,7 +3,7 @@ ghost use Rattle.std.specs.Prelude.{◌≡◌, ◌+◌, ◌-◌, ◌≤◌, min,
 ghost use Rattle.spans.specs.Span.{bytes, ◌⋯◌};
 ghost use Rattle.spans.specs.Area.{Wrote};
 
-use super::span::{Span, least, minus};
+use super::span::Span;
 use text::part::part;
 
 // Writes src to the area from o on, and returns where it ends.
@@ -11,14 +11,9 @@ pub fn append(src: &[u8], area: &mut [u8], o: usize) -> usize
     requires { o + length src.now ≤ length area.old }
     ensures { Wrote area.old area.new o src.now result }
 {
-    let mut i = 0;
-    let mut w = o;
-    while i < src.len() {
-        area[w] = src[i];
-        w += 1;
-        i += 1;
-    }
-    w
+    let e = o + src.len();
+    area[o..e].copy_from_slice(src);
+    e
 }
 
 // Copies the n bytes of the area from a on to o, which stands behind them, and returns where the copy ends.
@@ -26,11 +21,7 @@ pub fn append_own(area: &mut [u8], a: usize, n: usize, o: usize) -> usize
     requires { (a + n ≤ o) × (o + n ≤ length area.old) }
     ensures { Wrote area.old area.new o (take n (drop a area.old)) result }
 {
-    let mut i = 0;
-    while i < n {
-        area[o + i] = area[a + i];
-        i += 1;
-    }
+    area.copy_within(a..a + n, o);
     o + n
 }
 
@@ -38,12 +29,10 @@ pub fn append_own(area: &mut [u8], a: usize, n: usize, o: usize) -> usize
 fn own(n: usize, m: usize, s: Span) -> Span
     ensures { result ≡ (s.at - n) ⋯ min (s.len - (n - s.at)) (m - (s.at - n)) }
 {
-    let at = minus(s.at, n);
-    let len = minus(s.len, minus(n, s.at));
-    Span {
-        at: at,
-        len: least(len, minus(m, at)),
-    }
+    let at = s.at.saturating_sub(n);
+    let here = m.saturating_sub(at);
+    let len = s.len.saturating_sub(n.saturating_sub(s.at)).min(here);
+    Span { at, len }
 }
 
 // Writes a string that lies in the files or before m in the area itself to the area from o on, and returns where it ends.

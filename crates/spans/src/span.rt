@@ -7,65 +7,79 @@ ghost use Rattle.spans.specs.Span.{bytes, got_of, pair_at};
 use text::compare::same;
 use text::part::{num, part};
 
-#[derive(Clone, Copy)]
+#[derive(Clone, Copy, PartialEq, Eq)]
 pub struct Span {
     pub at: usize,
     pub len: usize,
 }
 
-// The first byte of a span, and the span without it.
-#[derive(Clone, Copy)]
-pub enum Got {
-    Yes(u8, Span),
-    No,
-}
-
-// A string that is looked for.
-#[derive(Clone, Copy)]
-pub enum Found {
-    At(Span),
-    None,
-}
-
 // The first byte of what is left of a string.
-pub fn first(files: &[u8], area: &[u8], s: Span) -> Got
+#[tactic(auto, using(crate::proofs::Spans::spans))]
+pub fn first(files: &[u8], area: &[u8], s: Span) -> Option<(u8, Span)>
     ensures { bytes (files.now ++ area.now) s ≡ got_of (files.now ++ area.now) result }
 {
     let at = s.at;
     if s.len == 0 {
-        return Got::No;
+        return None;
     }
     if at < files.len() {
-        return Got::Yes(
+        return Some((
             files[at],
             Span {
                 at: at + 1,
                 len: s.len - 1,
             },
-        );
+        ));
     }
     let k = at - files.len();
     if k < area.len() {
-        return Got::Yes(
+        return Some((
             area[k],
             Span {
                 at: at + 1,
                 len: s.len - 1,
             },
-        );
+        ));
     }
-    Got::No
+    None
+}
+
+// A string, read byte by byte: what is left of it.
+#[derive(Drop)]
+pub struct Stream<'a> {
+    pub files: &'a [u8],
+    pub area: &'a [u8],
+    pub left: Span,
+}
+
+impl Iterator for Stream<'_> {
+    ghost use Rattle.std.specs.Iterator.{item_count, YieldsFirst};
+    ghost use Rattle.spans.specs.Stream.{left_of};
+
+    type Item = u8;
+
+    ghost next_gives = { YieldsFirst left_of };
+
+    ghost remaining = { item_count left_of };
+
+    fn next(&mut self) -> Option<u8> {
+        let (b, left) = first(self.files, self.area, self.left)?;
+        self.left = left;
+        Some(b)
+    }
 }
 
 // How many bytes a string has.
+#[tactic(auto, using(crate::proofs::Spans::size_is))]
 pub fn size(files: &[u8], area: &[u8], s: Span) -> usize
     ensures { result ≡ length (bytes (files.now ++ area.now) s) }
 {
-    let there = minus(files.len() + area.len(), s.at);
-    least(s.len, there)
+    let there = (files.len() + area.len()).saturating_sub(s.at);
+    s.len.min(there)
 }
 
 // The string as a part of whichever slice holds it: all of it, where it does not cross from one to the other.
+#[tactic(auto, using(crate::proofs::Spans::fetches))]
 pub fn fetch<'a>(files: &'a [u8], area: &'a [u8], s: Span) -> &'a [u8]
     ensures { result.now ≡ take (length result.now) (bytes (files.now ++ area.now) s) }
 {
@@ -81,27 +95,12 @@ pub fn fetch<'a>(files: &'a [u8], area: &'a [u8], s: Span) -> &'a [u8]
 fn is_stream(files: &[u8], area: &[u8], s: Span, w: &[u8]) -> bool
     ensures { result ≡ Compare·same (bytes (files.now ++ area.now) s) w.now }
 {
-    let mut x = s;
-    let mut i = 0;
-    while i < w.len() {
-        match first(files, area, x) {
-            Got::No => return false,
-            Got::Yes(b, u) => {
-                if b != w[i] {
-                    return false;
-                }
-                x = u;
-                i += 1;
-            }
-        }
-    }
-    match first(files, area, x) {
-        Got::No => true,
-        Got::Yes(_, _) => false,
-    }
+    let left = s;
+    Stream { files, area, left }.eq(w.iter().copied())
 }
 
 // Whether the string is w.
+#[tactic(auto, using(crate::proofs::Spans::is_whole))]
 pub fn is<'a>(files: &'a [u8], area: &'a [u8], s: Span, w: &[u8]) -> bool
     ensures { result ≡ Compare·same (bytes (files.now ++ area.now) s) w.now }
 {
@@ -116,33 +115,25 @@ pub fn is<'a>(files: &'a [u8], area: &'a [u8], s: Span, w: &[u8]) -> bool
 fn same_streams(files: &[u8], area: &[u8], s: Span, t: Span) -> bool
     ensures { result ≡ Compare·same (bytes (files.now ++ area.now) s) (bytes (files.now ++ area.now) t) }
 {
-    let mut x = s;
-    let mut y = t;
-    loop {
-        match first(files, area, x) {
-            Got::No => match first(files, area, y) {
-                Got::No => return true,
-                Got::Yes(_, _) => return false,
-            },
-            Got::Yes(p, u) => match first(files, area, y) {
-                Got::No => return false,
-                Got::Yes(q, v) => {
-                    if p != q {
-                        return false;
-                    }
-                    x = u;
-                    y = v;
-                }
-            },
-        }
-    }
+    let x = Stream {
+        files,
+        area,
+        left: s,
+    };
+    let y = Stream {
+        files,
+        area,
+        left: t,
+    };
+    x.eq(y)
 }
 
 // Whether two strings are the same.
+#[tactic(auto, using(crate::proofs::Spans::same_ways))]
 pub fn same_spans<'a>(files: &'a [u8], area: &'a [u8], s: Span, t: Span) -> bool
     ensures { result ≡ Compare·same (bytes (files.now ++ area.now) s) (bytes (files.now ++ area.now) t) }
 {
-    if (s.at == t.at) & (s.len == t.len) {
+    if s == t {
         return true;
     }
     let p = fetch(files, area, s);
@@ -170,18 +161,12 @@ pub fn pair(nums: &[u32], k: usize) -> Span
 pub fn minus(a: usize, b: usize) -> usize
     ensures { result ≡ a - b }
 {
-    if a < b {
-        return 0;
-    }
-    a - b
+    a.saturating_sub(b)
 }
 
 // The smaller of two numbers.
 pub fn least(a: usize, b: usize) -> usize
     ensures { result ≡ min a b }
 {
-    if a <= b {
-        return a;
-    }
-    b
+    a.min(b)
 }

@@ -1,9 +1,9 @@
 -- Putting the words of states one after the other; laws as the needs ask them. Assumes nothing.
-use Rattle.std.specs.Prelude.{ℕ, suc, ◌+◌, ◌-◌, ◌≤◌, ◌<◌, ◌^◌, ◌≡◌, refl, Bool, true, false, cond, not, length, drop}
+use Rattle.std.specs.Prelude.{Option}
+use Rattle.std.specs.Prelude.{ℕ, suc, ◌+◌, ◌-◌, ◌≤◌, ◌<◌, ◌^◌, ◌≡◌, refl, Bool, true, false, cond, not, length, drop, None, Some}
 use Rattle.std.proofs.Common.{arith, add-zero, ◌∙◌, length-append}
 use Rattle.std.proofs.Math.Path.{sym, ap}
 use mathlib.Core.List.{List, [], ◌∷◌, ◌++◌, map, append_assoc, append-nil, map-append}
-use Rattle.std.proofs.Math.Option.{none, some}
 use Rattle.std.proofs.lemmas.List.{length-map}
 use Rattle.text.specs.Ascii.{Bytes}
 use Rattle.spans.specs.Span.{◌⋯◌, bytes, pairs, strings}
@@ -11,8 +11,6 @@ use Rattle.spans.specs.Reach.{span_end, last_of}
 use Rattle.spans.specs.declared.span.Span.{Span}
 use Rattle.tcl.specs.Arguments.{State, states}
 use Rattle.args.specs.View.{pick, States}
-use Rattle.args.specs.declared.state.State.{State as Word}
-use Rattle.args.specs.declared.state.State.TheVariants.{At as Word-as-At, None as Word-as-None}
 use Rattle.store.specs.Strings.{string, span_of, stored_of}
 use Rattle.store.specs.Order.{Within, none_left}
 use Rattle.store.specs.Rows.{word_put}
@@ -50,11 +48,24 @@ unfolding words_put
 putting_start mem words n one two want nums at =
     record { put = []; becomes = refl; ends = sym (add-zero at); is = refl; within = λ e z. none_left; short = omega (arith, states_short one two (strings mem words 0 n), strings_length mem words 0 n) }
 
-module _ (mem : Bytes) (words : List ℕ) (n : ℕ) (ss : List State) (want : Bool) (nums₀ : List ℕ) (at : ℕ) (nums : List ℕ) (k o : ℕ) (inv : Putting mem words n ss want nums₀ at nums k o) (r : Word) (a : States mem words n (pick k ss) r) where
-  pub putting_end : r ≡ Word-as-None → Puts mem words n (chosen want ss) nums₀ nums at o
+-- a state that is of the kind that is wanted, and one that is not
+is_wanted : (want one : Bool) → one ≡ want → cond want one (not one) ≡ true
+is_wanted true true e = refl
+is_wanted true false e = e
+is_wanted false true e = sym e
+is_wanted false false e = refl
+
+not_wanted : (want one : Bool) → (one ≡ want → ⊥) → cond want one (not one) ≡ false
+not_wanted true true e = absurd (e refl)
+not_wanted true false e = refl
+not_wanted false true e = refl
+not_wanted false false e = absurd (e refl)
+
+module _ (mem : Bytes) (words : List ℕ) (n : ℕ) (ss : List State) (want : Bool) (nums₀ : List ℕ) (at : ℕ) (nums : List ℕ) (k o : ℕ) (inv : Putting mem words n ss want nums₀ at nums k o) (r : Option (Bool × Span)) (a : States mem words n (pick k ss) r) where
+  pub putting_end : r ≡ None → Puts mem words n (chosen want ss) nums₀ nums at o
   unfolding chosen
   putting_end g =
-      let z : none ≡ pick k ss = rw g at a.is in
+      let z : None ≡ pick k ss = rw g at a.is in
       let q : chosen want (drop k ss) ≡ [] = rw (pick_none k ss z) in
       record { put = inv.put; becomes = inv.becomes; ends = inv.ends; is = sym (append-nil (map (string mem) inv.put)) ∙ ap (λ (l : List Bytes). map (string mem) inv.put ++ l) (sym q) ∙ inv.is; within = inv.within }
 
@@ -64,11 +75,11 @@ module _ (mem : Bytes) (words : List ℕ) (n : ℕ) (ss : List State) (want : Bo
   pub putting_big : 16384 ≤ length nums₀ → 16384 ≤ length nums
   putting_big h = omega (arith, putting_long)
 
-  module _ (one : Bool) (v : Span) (g : r ≡ Word-as-At one v) where
+  module _ (one : Bool) (v : Span) (g : r ≡ Some (one, v)) where
     abbrev this : State
     this = record { one = one; value = bytes mem v }
 
-    its : some this ≡ pick k ss
+    its : Some this ≡ pick k ss
     its = rw g at a.is
 
     here : chosen want (drop k ss) ≡ cond (cond want one (not one)) (bytes mem v ∷ chosen want (drop (k + 1) ss)) (chosen want (drop (k + 1) ss))
@@ -84,40 +95,39 @@ module _ (mem : Bytes) (words : List ℕ) (n : ℕ) (ss : List State) (want : Bo
     pub putting_fits : last_of span_end (pairs words 0 n) < 2 ^ 32 → v.at + v.len < 2 ^ 32
     putting_fits h = omega (arith, rw g at (a.within span_end refl))
 
-    module _ (b : Bool) (e : b ≡ cond want one (not one)) where
-      pub putting_past : b ≡ false → Putting mem words n ss want nums₀ at nums (k + 1) o
-      putting_past t =
-          let q : chosen want (drop k ss) ≡ chosen want (drop (k + 1) ss) = here ∙ rw (← e, t) in
-          record { put = inv.put; becomes = inv.becomes; ends = inv.ends; is = ap (λ (l : List Bytes). map (string mem) inv.put ++ l) (sym q) ∙ inv.is; within = inv.within; short = inv.short }
+    pub putting_past : (one ≡ want → ⊥) → Putting mem words n ss want nums₀ at nums (k + 1) o
+    putting_past t =
+        let q : chosen want (drop k ss) ≡ chosen want (drop (k + 1) ss) = here ∙ rw (not_wanted want one t) in
+        record { put = inv.put; becomes = inv.becomes; ends = inv.ends; is = ap (λ (l : List Bytes). map (string mem) inv.put ++ l) (sym q) ∙ inv.is; within = inv.within; short = inv.short }
 
-      module _ (t : b ≡ true) where
-        wanted_here : chosen want (drop k ss) ≡ bytes mem v ∷ chosen want (drop (k + 1) ss)
-        wanted_here = here ∙ rw (← e, t)
+    module _ (t : one ≡ want) where
+      wanted_here : chosen want (drop k ss) ≡ bytes mem v ∷ chosen want (drop (k + 1) ss)
+      wanted_here = here ∙ rw (is_wanted want one t)
 
-        counted : length inv.put + suc (length (chosen want (drop (k + 1) ss))) ≡ length (chosen want ss)
-        counted =
-            let x : length (map (string mem) inv.put ++ chosen want (drop k ss)) ≡ length (chosen want ss) = ap length inv.is in
-            let y : length (chosen want (drop k ss)) ≡ suc (length (chosen want (drop (k + 1) ss))) = ap length wanted_here in
-            omega (arith, x, y, length-append (map (string mem) inv.put) (chosen want (drop k ss)), length-map inv.put (string mem))
+      counted : length inv.put + suc (length (chosen want (drop (k + 1) ss))) ≡ length (chosen want ss)
+      counted =
+          let x : length (map (string mem) inv.put ++ chosen want (drop k ss)) ≡ length (chosen want ss) = ap length inv.is in
+          let y : length (chosen want (drop k ss)) ≡ suc (length (chosen want (drop (k + 1) ss))) = ap length wanted_here in
+          omega (arith, x, y, length-append (map (string mem) inv.put) (chosen want (drop k ss)), length-map inv.put (string mem))
 
-        pub putting_place : at + length (chosen want ss) ≤ 4032 → o < 4032
-        putting_place h = omega (arith, counted, inv.ends)
+      pub putting_place : at + length (chosen want ss) ≤ 4032 → o < 4032
+      putting_place h = omega (arith, counted, inv.ends)
 
-        pub putting_more : at + length (chosen want ss) ≤ 4032 → o + 1 < 2 ^ 64
-        putting_more h = omega (arith, putting_place h)
+      pub putting_more : at + length (chosen want ss) ≤ 4032 → o + 1 < 2 ^ 64
+      putting_more h = omega (arith, putting_place h)
 
-        pub putting_on : (w : Stored) (nums' : List ℕ) → w ≡ stored_of v → nums' ≡ word_put nums o w → Putting mem words n ss want nums₀ at nums' (k + 1) (o + 1)
-        putting_on w nums' ew en =
-            record {
-              put = inv.put ++ (w ∷ []);
-              becomes = en ∙ ap (λ (l : List ℕ). word_put l o w) inv.becomes ∙ ap (λ (j : ℕ). word_put (words_put nums₀ at inv.put) j w) inv.ends ∙ words_push nums₀ at inv.put w;
-              ends = omega (arith, inv.ends, length-append inv.put (w ∷ []));
-              is =
-                  let m : map (string mem) (inv.put ++ (w ∷ [])) ≡ map (string mem) inv.put ++ (bytes mem v ∷ []) = map-append (string mem) inv.put (w ∷ []) ∙ rw ew in
-                  ap (λ (l : List Bytes). l ++ chosen want (drop (k + 1) ss)) m ∙ append_assoc (map (string mem) inv.put) (bytes mem v ∷ []) (chosen want (drop (k + 1) ss)) ∙ ap (λ (l : List Bytes). map (string mem) inv.put ++ l) (sym wanted_here) ∙ inv.is;
-              within = λ d z. within_snoc (λ s. d (span_of s)) w (inv.within d z) (rw ew (rw g at (a.within d z)));
-              short = inv.short;
-            }
+      pub putting_on : (w : Stored) (nums' : List ℕ) → w ≡ stored_of v → nums' ≡ word_put nums o w → Putting mem words n ss want nums₀ at nums' (k + 1) (o + 1)
+      putting_on w nums' ew en =
+          record {
+            put = inv.put ++ (w ∷ []);
+            becomes = en ∙ ap (λ (l : List ℕ). word_put l o w) inv.becomes ∙ ap (λ (j : ℕ). word_put (words_put nums₀ at inv.put) j w) inv.ends ∙ words_push nums₀ at inv.put w;
+            ends = omega (arith, inv.ends, length-append inv.put (w ∷ []));
+            is =
+                let m : map (string mem) (inv.put ++ (w ∷ [])) ≡ map (string mem) inv.put ++ (bytes mem v ∷ []) = map-append (string mem) inv.put (w ∷ []) ∙ rw ew in
+                ap (λ (l : List Bytes). l ++ chosen want (drop (k + 1) ss)) m ∙ append_assoc (map (string mem) inv.put) (bytes mem v ∷ []) (chosen want (drop (k + 1) ss)) ∙ ap (λ (l : List Bytes). map (string mem) inv.put ++ l) (sym wanted_here) ∙ inv.is;
+            within = λ d z. within_snoc (λ s. d (span_of s)) w (inv.within d z) (rw ew (rw g at (a.within d z)));
+            short = inv.short;
+          }
 
 -- ---- the numbers of a switch
 module _ (words : List ℕ) (n first mid end : ℕ) (m : SwitchRoom words n first mid end) where

@@ -1,7 +1,6 @@
 -- The room for words of states is kept by every command: none takes a switch or a port state away. Assumes nothing.
-use Rattle.std.specs.Prelude.{ℕ, ◌+◌, ◌*◌, ◌≤◌, ◌<◌, ◌^◌, ◌≡◌, refl, Bool, true, false, cond, List, [], ◌∷◌, ◌++◌, length}
+use Rattle.std.specs.Prelude.{ℕ, ◌+◌, ◌*◌, ◌≤◌, ◌<◌, ◌^◌, ◌≡◌, refl, Bool, true, false, cond, List, [], ◌∷◌, ◌++◌, length, Option, None, Some, option_map}
 use Rattle.std.proofs.Common.{arith, ap, length-append}
-use Rattle.std.proofs.Math.Option.{Option, none, some, map}
 use Rattle.text.specs.Ascii.{Bytes, ascii}
 use Rattle.text.specs.Compare.{same}
 use Rattle.text.specs.Scan.{any}
@@ -29,8 +28,8 @@ by_test k true x y p q = p
 by_test k false x y p q = q
 
 by_first : {A : Type 0} (k : ℕ) (o : Option (List A)) (go : List A → Model) (z : Model) → ((xs : List A) → k ≤ worded_records (go xs)) → k ≤ worded_records z → k ≤ worded_records (or_warned o go z)
-by_first k none go z p q = q
-by_first k (some xs) go z p q = p xs
+by_first k None go z p q = q
+by_first k (Some xs) go z p q = p xs
 
 -- both tables are kept
 stay : (m x : Model) → x.switches ≡ m.switches → x.port_states ≡ m.port_states → worded_records m ≤ worded_records x
@@ -65,7 +64,7 @@ records_stay Command.create_supply_port m w ws = stay m _ refl refl
 records_stay Command.connect_supply_net m w ws = stay m _ refl refl
 records_stay Command.set_domain_supply_net m w ws =
     by_first (worded_records m)
-    (on_first (λ (d : Domain). same d.name (name_of ws)) (supplied (map (below_scope m) (option_of (ascii "-primary_power_net") ws)) (map (below_scope m) (option_of (ascii "-primary_ground_net") ws))) m.domains)
+    (on_first (λ (d : Domain). same d.name (name_of ws)) (supplied (option_map (below_scope m) (option_of (ascii "-primary_power_net") ws)) (option_map (below_scope m) (option_of (ascii "-primary_ground_net") ws))) m.domains)
     (with_domains m) (warned m (format1 "set_domain_supply_net: unknown power domain '{0}'" (name_of ws))) (λ xs. stay m (with_domains m xs) refl refl) (stay m _ refl refl)
 records_stay Command.create_power_switch m w ws = more_switches m _
 records_stay Command.set_isolation m w ws =

@@ -1,4 +1,5 @@
 -- create_power_switch and add_port_state: what the words come to, and what the commands do. Assumes nothing.
+use Rattle.std.specs.Prelude.{Option, Some, None}
 use Rattle.std.specs.Prelude.{ℕ, ◌+◌, ◌-◌, ◌*◌, ◌≤◌, ◌<◌, ◌^◌, ◌≡◌, refl, true, false, length, take, drop}
 use Rattle.std.proofs.Common.{arith, le_trans, add-zero, ◌∙◌, length-append, take_at, drop_at, take_all}
 use Rattle.std.proofs.Math.Nat.{max-le}
@@ -10,7 +11,6 @@ use Rattle.text.specs.Ascii.{Bytes, ascii}
 use Rattle.spans.specs.Span.{bytes, pair_at, strings}
 use Rattle.spans.specs.Reach.{reach, none_reach}
 use Rattle.spans.specs.declared.span.Span.{Span}
-use Rattle.spans.specs.declared.span.Found.{Found}
 use Rattle.tcl.specs.Arguments.{option_of, name_of, states}
 use Rattle.tcl.specs.Lists.{list}
 use Rattle.args.specs.View.{words_from, Reads, Finds}
@@ -26,7 +26,6 @@ use Rattle.store.specs.Fits.{fit_switches, fit_port_states}
 use Rattle.store.specs.Variables.{now_fits}
 use Rattle.store.specs.Steps.{switch_view, switch_shaped, switch_bounded, portstate_view, portstate_shaped, portstate_bounded}
 use Rattle.store.specs.declared.stored.Stored.{Stored}
-use Rattle.store.specs.declared.stored.Maybe.{Maybe}
 use Rattle.store.specs.declared.state.Switch.{Switch}
 use Rattle.store.specs.declared.state.PortState.{PortState}
 use Rattle.store.specs.declared.state.State.{State}
@@ -88,7 +87,7 @@ unfolding port_state_command new_port_state
 port_told m w ws = refl
 
 -- ---- the switch that the words name
-module _ (mem : Bytes) (words : List ℕ) (n : ℕ) (scope : Stored) (first mid end : ℕ) (named : Span) (domain input output controls : Found)
+module _ (mem : Bytes) (words : List ℕ) (n : ℕ) (scope : Stored) (first mid end : ℕ) (named : Span) (domain input output controls : Option Span)
     (a0 : Reads mem words n (name_of (words_from mem words n 1)) named)
     (a1 : Finds mem words n (option_of (ascii "-domain") (words_from mem words n 1)) domain)
     (a2 : Finds mem words n (option_of (ascii "-input_supply_port") (words_from mem words n 1)) input)
@@ -97,7 +96,7 @@ module _ (mem : Bytes) (words : List ℕ) (n : ℕ) (scope : Stored) (first mid 
   abbrev ws : List Bytes
   ws = words_from mem words n 1
 
-  pub switch_made : (n0 i0 o0 c0 : Stored) (d0 : Maybe) → n0 ≡ stored_of named → d0 ≡ maybe_found domain → i0 ≡ found_or input → o0 ≡ found_or output → c0 ≡ found_or controls → SwitchIs mem words n scope first mid end (record { name = n0; domain = d0; scope = scope; input = i0; output = o0; controls = c0; first = first; ons = mid - first; offs = end - mid })
+  pub switch_made : (n0 i0 o0 c0 : Stored) (d0 : Option Stored) → n0 ≡ stored_of named → d0 ≡ maybe_found domain → i0 ≡ found_or input → o0 ≡ found_or output → c0 ≡ found_or controls → SwitchIs mem words n scope first mid end (record { name = n0; domain = d0; scope = scope; input = i0; output = o0; controls = c0; first = first; ons = mid - first; offs = end - mid })
   switch_made n0 i0 o0 c0 d0 q0 q1 q2 q3 q4 =
       rw (q0, q1, q2, q3, q4)
       (record {

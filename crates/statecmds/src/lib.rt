@@ -1,7 +1,7 @@
 // create_power_switch, add_port_state: their states are words of the store.
 #![tactic(auto)]
 
-ghost use Rattle.std.specs.Prelude.{◌≡◌, cond, not, ◌++◌, ◌+◌, ◌<◌, length};
+ghost use Rattle.std.specs.Prelude.{◌≡◌, ◌++◌, ◌+◌, ◌<◌, length};
 ghost use Rattle.text.specs.Ascii.{ascii};
 ghost use Rattle.spans.specs.Span.{bytes, pair_at, strings};
 ghost use Rattle.tcl.specs.Arguments.{states};
@@ -13,21 +13,11 @@ ghost use Rattle.statecmds.specs.Puts.{PutRoom, SwitchRoom};
 ghost use Rattle.statecmds.specs.Stated.{Puts, SwitchIs, WordRoom, WordsDid};
 
 use args::argument::{name, option};
-use args::state::{State as Word, state_at};
+use args::state::state_at;
 use made::{Brief, Deed};
 use store::state::{PortState, Switch};
 use store::stored::{Below, Stored, as_maybe, narrow, or_empty};
 use store::word::put_word;
-
-// Whether a state is of the kind that is wanted: with the first key (`want`), or with the second.
-fn wanted(first: bool, want: bool) -> bool
-    ensures { result ≡ cond want first (not first) }
-{
-    if want {
-        return first;
-    }
-    !first
-}
 
 // Puts the states with the first key (`want`), or those with the second, into the store from word `at` on, and returns where they end.
 fn put_states<'a>(
@@ -46,20 +36,15 @@ fn put_states<'a>(
 {
     let mut k = 0;
     let mut o = at;
-    loop {
-        match state_at(files, area, words, n, one, two, k) {
-            Word::None => return o,
-            Word::At(first, v) => {
-                if wanted(first, want) {
-                    put_word(nums, o, narrow(v));
-                    o += 1;
-                    k += 1;
-                    continue;
-                }
-                k += 1;
-            }
+    while let Some((first, v)) = state_at(files, area, words, n, one, two, k) {
+        k += 1;
+        if first != want {
+            continue;
         }
+        put_word(nums, o, narrow(v));
+        o += 1;
     }
+    o
 }
 
 // The switch that the words of a command name; its states stand in the store from `first` up to `mid`, then up to `end`.
@@ -109,7 +94,6 @@ pub fn create_power_switch<'a>(
     if 32 <= b.switches {
         return Deed::Full;
     }
-    let scope = b.scope;
     let first = b.words;
     let mid = put_states(
         files,
@@ -133,7 +117,7 @@ pub fn create_power_switch<'a>(
         nums,
         mid,
     );
-    let x = switch(files, area, words, n, scope, first, mid, end);
+    let x = switch(files, area, words, n, b.scope, first, mid, end);
     Deed::Switch(x, end)
 }
 
@@ -152,18 +136,16 @@ pub fn add_port_state<'a>(
     if 32 <= b.portstates {
         return Deed::Full;
     }
-    let scope = b.scope;
     let first = b.words;
     let end = put_states(
         files, area, words, n, b"-state", b"-state", true, nums, first,
     );
     let named = name(files, area, words, n);
-    let b = Below {
-        scope: scope,
-        word: narrow(named),
-    };
     let x = PortState {
-        name: b,
+        name: Below {
+            scope: b.scope,
+            word: narrow(named),
+        },
         first: first as u32,
         count: (end - first) as u32,
     };

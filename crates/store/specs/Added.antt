@@ -1,9 +1,9 @@
 -- The state with one part anew, as the code leaves it. Assumes nothing.
+use Rattle.store.specs.declared.state.Few.{Few}
+use Rattle.std.specs.Prelude.{Option}
 use Rattle.std.specs.Prelude.{ℕ, ◌+◌, ◌*◌, set}
 use Rattle.store.specs.declared.stored.Stored.{Stored}
-use Rattle.store.specs.declared.stored.Maybe.{Maybe}
 use Rattle.store.specs.declared.stored.Below.{Below}
-use Rattle.store.specs.declared.stored.MaybeBelow.{MaybeBelow}
 use Rattle.store.specs.declared.state.Domain.{Domain}
 use Rattle.store.specs.declared.state.Port.{Port}
 use Rattle.store.specs.declared.state.Switch.{Switch}
@@ -12,15 +12,6 @@ use Rattle.store.specs.declared.state.Retention.{Retention}
 use Rattle.store.specs.declared.state.Shifter.{Shifter}
 use Rattle.store.specs.declared.state.PortState.{PortState}
 use Rattle.store.specs.declared.state.Table.{Table}
-use Rattle.store.specs.declared.state.Domains.{Domains}
-use Rattle.store.specs.declared.state.Nets.{Nets}
-use Rattle.store.specs.declared.state.Ports.{Ports}
-use Rattle.store.specs.declared.state.Switches.{Switches}
-use Rattle.store.specs.declared.state.Isolations.{Isolations}
-use Rattle.store.specs.declared.state.Retentions.{Retentions}
-use Rattle.store.specs.declared.state.Shifters.{Shifters}
-use Rattle.store.specs.declared.state.PortStates.{PortStates}
-use Rattle.store.specs.declared.state.Tables.{Tables}
 use Rattle.store.specs.declared.state.Head.{Head}
 use Rattle.store.specs.declared.state.Variables.{Variables}
 use Rattle.store.specs.declared.state.State.{State}
@@ -28,31 +19,31 @@ use Rattle.store.specs.declared.state.State.{State}
 abbrev pub with_head : State → Head → State
 with_head s x = record { head = x; count = s.count; fill = s.fill; domains = s.domains; nets = s.nets; ports = s.ports; switches = s.switches; isolations = s.isolations; retentions = s.retentions; shifters = s.shifters; portstates = s.portstates; tables = s.tables; variables = s.variables }
 
-abbrev pub with_domains : State → Domains → State
+abbrev pub with_domains : State → Few Domain → State
 with_domains s x = record { head = s.head; count = s.count; fill = s.fill; domains = x; nets = s.nets; ports = s.ports; switches = s.switches; isolations = s.isolations; retentions = s.retentions; shifters = s.shifters; portstates = s.portstates; tables = s.tables; variables = s.variables }
 
-abbrev pub with_nets : State → Nets → State
+abbrev pub with_nets : State → Few Below → State
 with_nets s x = record { head = s.head; count = s.count; fill = s.fill; domains = s.domains; nets = x; ports = s.ports; switches = s.switches; isolations = s.isolations; retentions = s.retentions; shifters = s.shifters; portstates = s.portstates; tables = s.tables; variables = s.variables }
 
-abbrev pub with_ports : State → Ports → State
+abbrev pub with_ports : State → Few Port → State
 with_ports s x = record { head = s.head; count = s.count; fill = s.fill; domains = s.domains; nets = s.nets; ports = x; switches = s.switches; isolations = s.isolations; retentions = s.retentions; shifters = s.shifters; portstates = s.portstates; tables = s.tables; variables = s.variables }
 
-abbrev pub with_switches : State → Switches → State
+abbrev pub with_switches : State → Few Switch → State
 with_switches s x = record { head = s.head; count = s.count; fill = s.fill; domains = s.domains; nets = s.nets; ports = s.ports; switches = x; isolations = s.isolations; retentions = s.retentions; shifters = s.shifters; portstates = s.portstates; tables = s.tables; variables = s.variables }
 
-abbrev pub with_isolations : State → Isolations → State
+abbrev pub with_isolations : State → Few Isolation → State
 with_isolations s x = record { head = s.head; count = s.count; fill = s.fill; domains = s.domains; nets = s.nets; ports = s.ports; switches = s.switches; isolations = x; retentions = s.retentions; shifters = s.shifters; portstates = s.portstates; tables = s.tables; variables = s.variables }
 
-abbrev pub with_retentions : State → Retentions → State
+abbrev pub with_retentions : State → Few Retention → State
 with_retentions s x = record { head = s.head; count = s.count; fill = s.fill; domains = s.domains; nets = s.nets; ports = s.ports; switches = s.switches; isolations = s.isolations; retentions = x; shifters = s.shifters; portstates = s.portstates; tables = s.tables; variables = s.variables }
 
-abbrev pub with_shifters : State → Shifters → State
+abbrev pub with_shifters : State → Few Shifter → State
 with_shifters s x = record { head = s.head; count = s.count; fill = s.fill; domains = s.domains; nets = s.nets; ports = s.ports; switches = s.switches; isolations = s.isolations; retentions = s.retentions; shifters = x; portstates = s.portstates; tables = s.tables; variables = s.variables }
 
-abbrev pub with_portstates : State → PortStates → State
+abbrev pub with_portstates : State → Few PortState → State
 with_portstates s x = record { head = s.head; count = s.count; fill = s.fill; domains = s.domains; nets = s.nets; ports = s.ports; switches = s.switches; isolations = s.isolations; retentions = s.retentions; shifters = s.shifters; portstates = x; tables = s.tables; variables = s.variables }
 
-abbrev pub with_tables : State → Tables → State
+abbrev pub with_tables : State → Few Table → State
 with_tables s x = record { head = s.head; count = s.count; fill = s.fill; domains = s.domains; nets = s.nets; ports = s.ports; switches = s.switches; isolations = s.isolations; retentions = s.retentions; shifters = s.shifters; portstates = s.portstates; tables = x; variables = s.variables }
 
 abbrev pub with_variables : State → Variables → State
@@ -97,7 +88,7 @@ variable_added s a b =
 
 -- ---- a record changed
 
-abbrev pub supplied_by : Domain → MaybeBelow → MaybeBelow → Domain
+abbrev pub supplied_by : Domain → Option Below → Option Below → Domain
 supplied_by d p g = record { name = d.name; elements = d.elements; whole = d.whole; power = p; ground_net = g; scope = d.scope }
 
 abbrev pub domain_set : State → ℕ → Domain → State
@@ -109,7 +100,7 @@ isolation_set s i x = with_isolations s (record { n = s.isolations.n; all = set 
 abbrev pub scope_set : State → Stored → State
 scope_set s x = with_head s (record { scope = x; top = s.head.top })
 
-abbrev pub top_set : State → Maybe → State
+abbrev pub top_set : State → Option Stored → State
 top_set s x = with_head s (record { scope = s.head.scope; top = x })
 
 -- ---- a row more is counted, and a warning more

@@ -1,6 +1,5 @@
 -- Laws: which of the reading limits of records a change can pass. Assumes nothing.
-use Rattle.std.specs.Prelude.{◌≡◌, refl, Bool, true, false, ◌&&◌, List, leb, length}
-use Rattle.std.proofs.Math.Option.{Option}
+use Rattle.std.specs.Prelude.{◌≡◌, refl, Bool, true, false, ◌&&◌, List, leb, length, Option}
 use Rattle.text.specs.Ascii.{Bytes}
 use Rattle.tcl.specs.Substitution.{Variable}
 use Rattle.model.specs.Limits.{most_records, most_sets, most_warnings, most_scope}

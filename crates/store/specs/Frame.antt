@@ -1,11 +1,11 @@
 -- What is written behind n leaves the view of every state whose strings end by n as it was: said once, over the whole state. Assumes nothing.
-use Prim.Native.Nat.{ℕ, zero, suc, ◌+◌, ◌-◌, ◌*◌, ◌≤◌, ◌<◌, max}
+use Rattle.std.specs.Prelude.{Option, None}
+use Prim.Native.Nat.{ℕ, zero, suc, ◌+◌, ◌*◌, ◌≤◌, ◌<◌, max}
 use native.Mathlib.Omega.{arith}
 use Rattle.std.proofs.Common.{zero-add, add-zero, ap}
-use Rattle.std.specs.Prelude.{◌≡◌, Bool, cond, List, [], ◌∷◌, ◌++◌, map, eqb, leb, take, drop}
+use Rattle.std.specs.Prelude.{◌≡◌, Bool, cond, List, [], ◌∷◌, ◌++◌, map, eqb, leb, take, drop, Some}
 use Rattle.std.proofs.Math.Path.{refl}
 use Rattle.std.proofs.Math.Bool.{true, false}
-use Rattle.std.proofs.Math.Option.{some}
 use borrow.Author.Tests.{eqb-true}
 use Rattle.text.specs.Ascii.{Bytes}
 use Rattle.spans.specs.Span.{pair_at, pairs}
@@ -17,11 +17,7 @@ use Rattle.store.specs.View.{Store, domain_of, port_of, words_at, switch_of, iso
 use Rattle.store.specs.Order.{Within, none_left, one_more, end_of, of_maybe, of_below, of_maybe_below, of_domain, of_port, of_switch, of_isolation, of_retention, of_shifter, of_port_state, of_table, of_row, of_span, Bounded}
 use Rattle.store.specs.Tables.{map_same, flat_same, numbered_same}
 use Rattle.store.specs.declared.stored.Stored.{Stored}
-use Rattle.store.specs.declared.stored.Maybe.{Maybe}
-use Rattle.store.specs.declared.stored.Maybe.TheVariants.{Not, Given}
 use Rattle.store.specs.declared.stored.Below.{Below}
-use Rattle.store.specs.declared.stored.MaybeBelow.{MaybeBelow}
-use Rattle.store.specs.declared.stored.MaybeBelow.TheVariants.{Not as Not-below, Given as Given-below}
 use Rattle.store.specs.declared.row.Row.{Row}
 use Rattle.store.specs.declared.state.Domain.{Domain}
 use Rattle.store.specs.declared.state.Port.{Port}
@@ -73,9 +69,9 @@ module _ (n : ℕ) (mem mem' : Bytes) (e : take n mem' ≡ take n mem) where
   pub string_same : (s : Stored) → end_of s ≤ n → string mem' s ≡ string mem s
   string_same s h = bytes_same n mem mem' (span_of s) h e
 
-  pub maybe_same : (m : Maybe) → of_maybe end_of m ≤ n → maybe_of mem' m ≡ maybe_of mem m
-  maybe_same Not h = refl
-  maybe_same (Given s) h = ap some (string_same s h)
+  pub maybe_same : (m : Option Stored) → of_maybe end_of m ≤ n → maybe_of mem' m ≡ maybe_of mem m
+  maybe_same None h = refl
+  maybe_same (Some s) h = ap Some (string_same s h)
 
   pub below_same : (b : Below) → of_below end_of b ≤ n → below_of mem' b ≡ below_of mem b
   below_same b h =
@@ -83,9 +79,9 @@ module _ (n : ℕ) (mem mem' : Bytes) (e : take n mem' ≡ take n mem) where
       let q : end_of b.word ≤ n = omega arith in
       rw (string_same b.scope p, string_same b.word q)
 
-  pub maybe_below_same : (m : MaybeBelow) → of_maybe_below end_of m ≤ n → maybe_below_of mem' m ≡ maybe_below_of mem m
-  maybe_below_same Not-below h = refl
-  maybe_below_same (Given-below b) h = ap some (below_same b h)
+  pub maybe_below_same : (m : Option Below) → of_maybe_below end_of m ≤ n → maybe_below_of mem' m ≡ maybe_below_of mem m
+  maybe_below_same None h = refl
+  maybe_below_same (Some b) h = ap Some (below_same b h)
 
   domain_same : (d : Domain) → of_domain end_of d ≤ n → domain_of mem' d ≡ domain_of mem d
   unfolding domain_of

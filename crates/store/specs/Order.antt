@@ -1,16 +1,13 @@
 -- The state is in order: its arrays have their size, the counts are within them, what it says of the store is so, and every stored string is within a
 -- bound by a measure (where it ends, say). Assumes nothing.
+use Rattle.std.specs.Prelude.{Option, Some, None}
 use Rattle.std.specs.Prelude.{ℕ, ◌+◌, ◌*◌, ◌≤◌, max, ◌≡◌, cond, List, [], ◌∷◌, eqb, length, take}
 use Rattle.spans.specs.declared.span.Span.{Span}
 use Rattle.spans.specs.Span.{pairs}
 use Rattle.store.specs.Strings.{stored_of}
 use Rattle.store.specs.View.{Store, warnings_in}
 use Rattle.store.specs.declared.stored.Stored.{Stored}
-use Rattle.store.specs.declared.stored.Maybe.{Maybe}
-use Rattle.store.specs.declared.stored.Maybe.TheVariants.{Not, Given}
 use Rattle.store.specs.declared.stored.Below.{Below}
-use Rattle.store.specs.declared.stored.MaybeBelow.{MaybeBelow}
-use Rattle.store.specs.declared.stored.MaybeBelow.TheVariants.{Not as Not-below, Given as Given-below}
 use Rattle.store.specs.declared.row.Row.{Row}
 use Rattle.store.specs.declared.state.Domain.{Domain}
 use Rattle.store.specs.declared.state.Port.{Port}
@@ -33,16 +30,16 @@ end_of s = s.at + s.len
 
 -- the greatest measure of the strings of a record
 module _ (e : Stored → ℕ) where
-  abbrev pub of_maybe : Maybe → ℕ
-  of_maybe Not = 0
-  of_maybe (Given s) = e s
+  abbrev pub of_maybe : Option Stored → ℕ
+  of_maybe None = 0
+  of_maybe (Some s) = e s
 
   abbrev pub of_below : Below → ℕ
   of_below b = max (e b.scope) (e b.word)
 
-  abbrev pub of_maybe_below : MaybeBelow → ℕ
-  of_maybe_below Not-below = 0
-  of_maybe_below (Given-below b) = of_below b
+  abbrev pub of_maybe_below : Option Below → ℕ
+  of_maybe_below None = 0
+  of_maybe_below (Some b) = of_below b
 
   abbrev pub of_domain : Domain → ℕ
   of_domain d = max (e d.name) (max (e d.elements) (max (of_maybe_below d.power) (max (of_maybe_below d.ground_net) (e d.scope))))

@@ -1,4 +1,5 @@
 -- The state before the first command: it stands for no records, and is in order. Assumes nothing.
+use Rattle.std.specs.Prelude.{None}
 use Rattle.std.specs.Prelude.{ℕ, ◌≤◌, ◌≡◌, length}
 use Rattle.std.proofs.Common.{arith}
 use mathlib.Core.List.{[], flat_map}
@@ -10,14 +11,13 @@ use Rattle.store.specs.Strings.{no_string}
 use Rattle.store.specs.View.{Store, numbered, warnings_in, model_of}
 use Rattle.store.specs.Order.{none_left, Shaped, Bounded}
 use Rattle.store.specs.declared.stored.Stored.{Stored}
-use Rattle.store.specs.declared.stored.Maybe.TheVariants.{Not}
 use Rattle.store.specs.declared.state.State.{State}
 
 abbrev pub no_store : Store
 no_store = record { rows = []; words = [] }
 
 pub record Fresh (s : State) : Type 0 where
-  pub head : s.head ≡ record { scope = no_string; top = Not }
+  pub head : s.head ≡ record { scope = no_string; top = None }
   pub count : s.count ≡ record { commands = 0; substituted = 0; scopes = 0; entries = 0 }
   pub fill : s.fill ≡ record { end = 0; log = 0; rows = 0; words = 0; warnings = 0 }
   pub domains : s.domains.n ≡ 0

@@ -1,5 +1,6 @@
 -- Laws: what a record more, a record changed, a row more do to the view and to the order of a state. Assumes nothing.
-use Rattle.std.specs.Prelude.{ℕ, ◌+◌, ◌-◌, ◌≤◌, ◌<◌, ◌≡◌, [], ◌∷◌, ◌++◌, length, set}
+use Rattle.std.specs.Prelude.{Option}
+use Rattle.std.specs.Prelude.{ℕ, ◌≤◌, ◌<◌, ◌≡◌, [], ◌∷◌, ◌++◌, length, set}
 use Rattle.std.proofs.Common.{arith}
 use Rattle.std.proofs.Math.Path.{refl, ap}
 use Rattle.text.specs.Ascii.{Bytes}
@@ -10,7 +11,6 @@ use Rattle.store.specs.Order.{of_maybe, of_below, of_domain, of_port, of_switch,
 use Rattle.store.specs.Added.{domain_added, net_added, port_added, switch_added, isolation_added, retention_added, shifter_added, portstate_added, table_added, domain_set, isolation_set, top_set, scope_set}
 use Rattle.store.specs.Tables.{table_push, table_set, numbered_push, within_push, within_update, within_le, sized_push, sized_set}
 use Rattle.store.specs.declared.stored.Stored.{Stored}
-use Rattle.store.specs.declared.stored.Maybe.{Maybe}
 use Rattle.store.specs.declared.stored.Below.{Below}
 use Rattle.store.specs.declared.state.Domain.{Domain}
 use Rattle.store.specs.declared.state.Port.{Port}
@@ -68,7 +68,7 @@ module _ (mem : Bytes) (st : Store) (s : State) (log : Bytes) where
   unfolding model_of
   isolation_set_view i x h = ap (with_isolationsʳ (model_of mem st s log)) (table_set (isolation_of mem) s.isolations.all s.isolations.n i x h)
 
-  pub top_view : (x : Maybe) → model_of mem st (top_set s x) log ≡ with_design_top (model_of mem st s log) (maybe_of mem x)
+  pub top_view : (x : Option Stored) → model_of mem st (top_set s x) log ≡ with_design_top (model_of mem st s log) (maybe_of mem x)
   unfolding model_of
   top_view x = refl
 
@@ -107,7 +107,7 @@ module _ (st : Store) (s : State) (v : Shaped st s) where
   pub isolation_set_shaped : (i : ℕ) (x : Isolation) → Shaped st (isolation_set s i x)
   isolation_set_shaped i x = record { scope = v.scope; domains = v.domains; nets = v.nets; ports = v.ports; switches = v.switches; isolations = sized_set i x v.isolations; retentions = v.retentions; shifters = v.shifters; portstates = v.portstates; tables = v.tables; long = v.long; variables = v.variables; switch_words = v.switch_words; port_words = v.port_words; row_tables = v.row_tables; rows = v.rows; words = v.words; warnings = v.warnings; warned = v.warned }
 
-  pub top_shaped : (x : Maybe) → Shaped st (top_set s x)
+  pub top_shaped : (x : Option Stored) → Shaped st (top_set s x)
   top_shaped x = record { scope = v.scope; domains = v.domains; nets = v.nets; ports = v.ports; switches = v.switches; isolations = v.isolations; retentions = v.retentions; shifters = v.shifters; portstates = v.portstates; tables = v.tables; long = v.long; variables = v.variables; switch_words = v.switch_words; port_words = v.port_words; row_tables = v.row_tables; rows = v.rows; words = v.words; warnings = v.warnings; warned = v.warned }
 
   pub scope_shaped : (x : Stored) → x.len ≤ 512 → Shaped st (scope_set s x)
@@ -147,7 +147,7 @@ module _ (e : Stored → ℕ) (n : ℕ) (st : Store) (s : State) (v : Bounded e 
   pub isolation_set_bounded : (i : ℕ) (x : Isolation) → i < s.isolations.n → of_isolation e x ≤ n → Bounded e n st (isolation_set s i x)
   isolation_set_bounded i x h q = record { scope = v.scope; top = v.top; domains = v.domains; nets = v.nets; ports = v.ports; switches = v.switches; isolations = within_update (of_isolation e) s.isolations.all s.isolations.n i x v.isolations h q; retentions = v.retentions; shifters = v.shifters; portstates = v.portstates; tables = v.tables; variables = v.variables; rows = v.rows; words = v.words }
 
-  pub top_bounded : (x : Maybe) → of_maybe e x ≤ n → Bounded e n st (top_set s x)
+  pub top_bounded : (x : Option Stored) → of_maybe e x ≤ n → Bounded e n st (top_set s x)
   top_bounded x q = record { scope = v.scope; top = q; domains = v.domains; nets = v.nets; ports = v.ports; switches = v.switches; isolations = v.isolations; retentions = v.retentions; shifters = v.shifters; portstates = v.portstates; tables = v.tables; variables = v.variables; rows = v.rows; words = v.words }
 
   pub scope_bounded : (x : Stored) → e x ≤ n → Bounded e n st (scope_set s x)

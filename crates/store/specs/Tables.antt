@@ -1,5 +1,5 @@
 -- Laws of tables, once for every table and every view of its records: a table is an array of which the first n elements count. Assumes nothing.
-use Rattle.std.specs.Prelude.{ℕ, zero, suc, ◌+◌, ◌-◌, ◌≤◌, ◌<◌, ◌≡◌, refl, length, get_or, set, take}
+use Rattle.std.specs.Prelude.{ℕ, zero, suc, ◌+◌, ◌≤◌, ◌<◌, ◌≡◌, refl, length, get_or, set, take}
 use Rattle.std.proofs.Common.{le_trans, le_of_suc-le-suc, not-suc-le-zero, add-one, arith, ap, ◌∙◌, length-set, take-suc-set, length-take-le, get_or-take}
 use mathlib.Core.List.{List, [], ◌∷◌, ◌++◌, map, flat_map, append_assoc, map-append}
 use Rattle.std.proofs.lemmas.List.{length-map}

@@ -1,5 +1,5 @@
 -- Laws: a variable more; and every state in order is within the limits of records. Assumes nothing.
-use Prim.Native.Nat.{ℕ, zero, suc, ◌+◌, ◌-◌, ◌*◌, ◌≤◌, ◌<◌}
+use Prim.Native.Nat.{ℕ, zero, suc, ◌+◌, ◌*◌, ◌≤◌, ◌<◌}
 use Rattle.std.proofs.Common.{arith, zero-add, add-one, sym, ◌∙◌, inl, length-set, length-take, length-append, get_or-set_same, length-take-le, le-leb}
 use Rattle.std.specs.Prelude.{◌≡◌, true, List, [], ◌∷◌, ◌++◌, leb, length, get_or, set, take, drop}
 use Rattle.std.proofs.Math.Path.{refl, ap}

@@ -1,7 +1,6 @@
 -- How the state and the store stand for the records. Assumes nothing.
 use Rattle.std.specs.Prelude.{ℕ, ◌+◌, cond, ◌&&◌, eqb, leb, take, drop}
 use mathlib.Core.List.{List, [], ◌∷◌, ◌++◌, map, flat_map}
-use Rattle.std.proofs.Math.Option.{some}
 use Rattle.text.specs.Ascii.{Bytes, ascii}
 use Rattle.out.specs.Fill.{format1}
 use Rattle.tcl.specs.Lists.{list}

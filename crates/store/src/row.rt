@@ -32,6 +32,7 @@ pub fn put_row(nums: &mut [u32], k: usize, r: Row)
 }
 
 // Row k.
+#[tactic(auto, unfolding(crate::specs::Rows::row_at))]
 pub fn row_at(nums: &[u32], k: usize) -> Row
     requires { k < 1024 }
     ensures { result ≡ row_at nums.now k }

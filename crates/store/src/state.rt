@@ -3,31 +3,31 @@
 ghost use Rattle.std.specs.Prelude.{◌≡◌};
 ghost use Rattle.store.specs.Added.{supplied_by};
 
-use super::stored::{Below, Maybe, MaybeBelow, Stored};
+use super::stored::{Below, Stored};
 
 // A power domain. `elements` is the unread value; `whole`: the scope itself is an element too.
-#[derive(Clone, Copy)]
+#[derive(Clone, Copy, Default)]
 pub struct Domain {
     pub name: Stored,
     pub elements: Stored,
     pub whole: bool,
-    pub power: MaybeBelow,
-    pub ground_net: MaybeBelow,
+    pub power: Option<Below>,
+    pub ground_net: Option<Below>,
     pub scope: Stored,
 }
 
 // A supply port; without a direction it is `in`.
-#[derive(Clone, Copy)]
+#[derive(Clone, Copy, Default)]
 pub struct Port {
     pub name: Below,
-    pub direction: Maybe,
+    pub direction: Option<Stored>,
 }
 
 // A switch. The values of its ports are unread; its states are words of the store: `ons` of them from `first` on, then `offs`.
-#[derive(Clone, Copy)]
+#[derive(Clone, Copy, Default)]
 pub struct Switch {
     pub name: Stored,
-    pub domain: Maybe,
+    pub domain: Option<Stored>,
     pub scope: Stored,
     pub input: Stored,
     pub output: Stored,
@@ -38,21 +38,21 @@ pub struct Switch {
 }
 
 // An isolation strategy; without a clamp value it is `0`, without a sense `high`.
-#[derive(Clone, Copy)]
+#[derive(Clone, Copy, Default)]
 pub struct Isolation {
     pub name: Stored,
     pub domain: Stored,
-    pub applies: Maybe,
+    pub applies: Option<Stored>,
     pub scope: Stored,
     pub elements: Stored,
-    pub clamp: Maybe,
-    pub signal: Maybe,
-    pub sense: Maybe,
-    pub power: Maybe,
-    pub ground_net: Maybe,
+    pub clamp: Option<Stored>,
+    pub signal: Option<Stored>,
+    pub sense: Option<Stored>,
+    pub power: Option<Stored>,
+    pub ground_net: Option<Stored>,
 }
 
-#[derive(Clone, Copy)]
+#[derive(Clone, Copy, Default)]
 pub struct Retention {
     pub name: Stored,
     pub domain: Stored,
@@ -60,14 +60,14 @@ pub struct Retention {
     pub elements: Stored,
 }
 
-#[derive(Clone, Copy)]
+#[derive(Clone, Copy, Default)]
 pub struct Shifter {
     pub name: Stored,
     pub domain: Stored,
 }
 
 // A port state: `count` words of the store from `first` on.
-#[derive(Clone, Copy)]
+#[derive(Clone, Copy, Default)]
 pub struct PortState {
     pub name: Below,
     pub first: u32,
@@ -75,21 +75,21 @@ pub struct PortState {
 }
 
 // A table; its states are rows of the store.
-#[derive(Clone, Copy)]
+#[derive(Clone, Copy, Default)]
 pub struct Table {
     pub name: Stored,
     pub scope: Stored,
     pub supplies: Stored,
 }
 
-#[derive(Clone, Copy)]
+#[derive(Clone, Copy, Default)]
 pub struct Head {
     pub scope: Stored,
-    pub top: Maybe,
+    pub top: Option<Stored>,
 }
 
 // What counts towards the reading limits.
-#[derive(Clone, Copy)]
+#[derive(Clone, Copy, Default)]
 pub struct Count {
     pub commands: usize,
     pub substituted: usize,
@@ -98,7 +98,7 @@ pub struct Count {
 }
 
 // Where the area ends, the place in the log, how many rows and words there are in the store, and how many of the rows are warnings.
-#[derive(Clone, Copy)]
+#[derive(Clone, Copy, Default)]
 pub struct Fill {
     pub end: usize,
     pub log: usize,
@@ -107,97 +107,44 @@ pub struct Fill {
     pub warnings: usize,
 }
 
-#[derive(Clone, Copy)]
-pub struct Domains {
+// At most 32 records, in the order in which they were made.
+#[derive(Clone, Copy, Default)]
+pub struct Few<T> {
     pub n: usize,
-    pub all: [Domain; 32],
-}
-
-#[derive(Clone, Copy)]
-pub struct Nets {
-    pub n: usize,
-    pub all: [Below; 32],
-}
-
-#[derive(Clone, Copy)]
-pub struct Ports {
-    pub n: usize,
-    pub all: [Port; 32],
-}
-
-#[derive(Clone, Copy)]
-pub struct Switches {
-    pub n: usize,
-    pub all: [Switch; 32],
-}
-
-#[derive(Clone, Copy)]
-pub struct Isolations {
-    pub n: usize,
-    pub all: [Isolation; 32],
-}
-
-#[derive(Clone, Copy)]
-pub struct Retentions {
-    pub n: usize,
-    pub all: [Retention; 32],
-}
-
-#[derive(Clone, Copy)]
-pub struct Shifters {
-    pub n: usize,
-    pub all: [Shifter; 32],
-}
-
-#[derive(Clone, Copy)]
-pub struct PortStates {
-    pub n: usize,
-    pub all: [PortState; 32],
-}
-
-#[derive(Clone, Copy)]
-pub struct Tables {
-    pub n: usize,
-    pub all: [Table; 32],
+    pub all: [T; 32],
 }
 
 // The variables: four numbers each.
-#[derive(Clone, Copy)]
+#[derive(Clone, Copy, Default)]
 pub struct Variables {
     pub n: usize,
     pub all: [u32; 256],
 }
 
-#[derive(Clone, Copy)]
+#[derive(Clone, Copy, Default)]
 pub struct State {
     pub head: Head,
     pub count: Count,
     pub fill: Fill,
-    pub domains: Domains,
-    pub nets: Nets,
-    pub ports: Ports,
-    pub switches: Switches,
-    pub isolations: Isolations,
-    pub retentions: Retentions,
-    pub shifters: Shifters,
-    pub portstates: PortStates,
-    pub tables: Tables,
+    pub domains: Few<Domain>,
+    pub nets: Few<Below>,
+    pub ports: Few<Port>,
+    pub switches: Few<Switch>,
+    pub isolations: Few<Isolation>,
+    pub retentions: Few<Retention>,
+    pub shifters: Few<Shifter>,
+    pub portstates: Few<PortState>,
+    pub tables: Few<Table>,
     pub variables: Variables,
 }
 
 // The domain with these supplies.
-pub fn supplied(d: Domain, power: MaybeBelow, ground_net: MaybeBelow) -> Domain
+pub fn supplied(d: Domain, power: Option<Below>, ground_net: Option<Below>) -> Domain
     ensures { result ≡ supplied_by d power ground_net }
 {
-    let name = d.name;
-    let elements = d.elements;
-    let scope = d.scope;
     Domain {
-        name: name,
-        elements: elements,
-        whole: d.whole,
         power: power,
         ground_net: ground_net,
-        scope: scope,
+        ..d
     }
 }

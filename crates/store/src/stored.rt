@@ -3,34 +3,20 @@ ghost use Rattle.std.specs.Prelude.{◌≡◌, ◌+◌, ◌<◌, ◌^◌};
 ghost use Rattle.store.specs.Strings.{span_of, stored_of, no_string, maybe_found, below_found, found_or, found_else};
 ghost use Rattle.args.specs.View.{found_end};
 
-use spans::span::{Found, Span};
+use spans::span::Span;
 
 // A string: where it begins in the files followed by the area, and its length.
-#[derive(Clone, Copy)]
+#[derive(Clone, Copy, Default)]
 pub struct Stored {
     pub at: u32,
     pub len: u32,
 }
 
-// A value that may not have been given.
-#[derive(Clone, Copy)]
-pub enum Maybe {
-    Not,
-    Given(Stored),
-}
-
 // A name below a scope: the scope of the moment and the word.
-#[derive(Clone, Copy)]
+#[derive(Clone, Copy, Default)]
 pub struct Below {
     pub scope: Stored,
     pub word: Stored,
-}
-
-// A name below a scope that may not have been given.
-#[derive(Clone, Copy)]
-pub enum MaybeBelow {
-    Not,
-    Given(Below),
 }
 
 // The empty string.
@@ -62,48 +48,36 @@ pub fn span(s: Stored) -> Span
 }
 
 // What was looked for, stored.
-pub fn as_maybe(f: Found) -> Maybe
+pub fn as_maybe(f: Option<Span>) -> Option<Stored>
     requires { found_end f < 2 ^ 32 }
     ensures { result ≡ maybe_found f }
 {
-    match f {
-        Found::None => Maybe::Not,
-        Found::At(s) => Maybe::Given(narrow(s)),
-    }
+    f.map(narrow)
 }
 
 // The same below a scope.
-pub fn maybe_below(scope: Stored, f: Found) -> MaybeBelow
+pub fn maybe_below(scope: Stored, f: Option<Span>) -> Option<Below>
     requires { found_end f < 2 ^ 32 }
     ensures { result ≡ below_found scope f }
 {
-    match f {
-        Found::None => MaybeBelow::Not,
-        Found::At(s) => MaybeBelow::Given(Below {
-            scope: scope,
-            word: narrow(s),
-        }),
-    }
+    as_maybe(f).map(|word| Below {
+        scope: scope,
+        word: word,
+    })
 }
 
 // What was looked for, empty where it is not there.
-pub fn or_empty(f: Found) -> Stored
+pub fn or_empty(f: Option<Span>) -> Stored
     requires { found_end f < 2 ^ 32 }
     ensures { result ≡ found_or f }
 {
-    match f {
-        Found::None => empty(),
-        Found::At(s) => narrow(s),
-    }
+    as_maybe(f).unwrap_or(empty())
 }
 
 // What is given, or what stood there.
-pub fn given(f: Found, old: Maybe) -> Maybe
+pub fn given(f: Option<Span>, old: Option<Stored>) -> Option<Stored>
     requires { found_end f < 2 ^ 32 }
     ensures { result ≡ found_else f old }
 {
-    match f {
-        Found::None => old,
-        Found::At(s) => Maybe::Given(narrow(s)),
-    }
+    as_maybe(f).or(old)
 }

@@ -16,6 +16,7 @@ pub fn put_word(nums: &mut [u32], k: usize, w: Stored)
 }
 
 // Word k.
+#[tactic(auto, unfolding(crate::specs::Rows::word_at))]
 pub fn word_at(nums: &[u32], k: usize) -> Stored
     requires { k < 4032 }
     ensures { result ≡ word_at nums.now k }

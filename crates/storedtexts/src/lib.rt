@@ -2,41 +2,34 @@
 #![tactic(auto)]
 
 ghost use Rattle.std.specs.Prelude.{◌≡◌, true, [], ◌++◌};
-ghost use Rattle.out.specs.Emit.{◌▸◌, emit};
+ghost use Rattle.out.specs.Text.{Writes};
 ghost use Rattle.out.specs.Fill.{is_template, fill};
 ghost use Rattle.store.specs.Strings.{string};
 
 use clamps::stored;
 use names::put::put_name;
+use out::emit::Text;
 use store::stored::Stored;
 
 // Writes a stored string.
-pub fn put(out: &mut [u8], at: usize, files: &[u8], area: &[u8], s: Stored) -> usize
-    ensures { out.new ▸ result ≡ emit (out.old ▸ at) (string (files.now ++ area.now) s) }
+pub fn put(to: &mut Text, files: &[u8], area: &[u8], s: Stored)
+    ensures { Writes to.old (string (files.now ++ area.now) s) to.new }
 {
-    put_name(out, at, files, area, stored(s))
+    put_name(to, files, area, stored(s))
 }
 
 // Writes the template t with a stored string in its places.
-pub fn fill1(out: &mut [u8], at: usize, t: &[u8], files: &[u8], area: &[u8], s: Stored) -> usize
+pub fn fill1(to: &mut Text, t: &[u8], files: &[u8], area: &[u8], s: Stored)
     requires { is_template 1 t.now ≡ true }
-    ensures { out.new ▸ result ≡ emit (out.old ▸ at) (fill t.now (string (files.now ++ area.now) s) [] [] [] []) }
+    ensures { Writes to.old (fill t.now (string (files.now ++ area.now) s) [] [] [] []) to.new }
 {
-    nametexts::fill1(out, at, t, files, area, stored(s))
+    nametexts::fill1(to, t, files, area, stored(s))
 }
 
 // With two strings.
-pub fn fill2(
-    out: &mut [u8],
-    at: usize,
-    t: &[u8],
-    files: &[u8],
-    area: &[u8],
-    s: Stored,
-    u: Stored,
-) -> usize
+pub fn fill2(to: &mut Text, t: &[u8], files: &[u8], area: &[u8], s: Stored, u: Stored)
     requires { is_template 2 t.now ≡ true }
-    ensures { out.new ▸ result ≡ emit (out.old ▸ at) (fill t.now (string (files.now ++ area.now) s) (string (files.now ++ area.now) u) [] [] []) }
+    ensures { Writes to.old (fill t.now (string (files.now ++ area.now) s) (string (files.now ++ area.now) u) [] [] []) to.new }
 {
-    nametexts::fill2(out, at, t, files, area, stored(s), stored(u))
+    nametexts::fill2(to, t, files, area, stored(s), stored(u))
 }

@@ -1,4 +1,5 @@
 -- A strategy: each law is stated as a need asks it. Assumes nothing.
+use Rattle.std.specs.Prelude.{Option, Some, None}
 use Prim.Native.Nat.{ℕ, ◌+◌}
 use native.Mathlib.Omega.{arith}
 use mathlib.Core.Path.{◌≡◌, refl, sym, ap, ◌∙◌}
@@ -15,8 +16,6 @@ use Rattle.model.specs.Commands.{or_else}
 use Rattle.store.specs.Strings.{string, maybe_of}
 use Rattle.store.specs.View.{isolation_of}
 use Rattle.store.specs.declared.stored.Stored.{Stored}
-use Rattle.store.specs.declared.stored.Maybe.{Maybe}
-use Rattle.store.specs.declared.stored.Maybe.TheVariants.{Not, Given}
 use Rattle.store.specs.declared.state.Isolation.{Isolation}
 use Rattle.texts.specs.Isolation.{isolation_line}
 use Rattle.isolated.specs.Table.{Kept, kept_in}
@@ -32,10 +31,10 @@ use Rattle.remarks.specs.Lines.{strategy_line, Lined}
 use Rattle.strategies.specs.Gains.{line_gain, covered_gain}
 use Rattle.strategies.specs.Values.{given_name, strategy_of}
 
-pub given_not : (m : Maybe) (r : Name) → r ≡ no_name → m ≡ Not → r ≡ given_name m
+pub given_not : (m : Option Stored) (r : Name) → r ≡ no_name → m ≡ None → r ≡ given_name m
 given_not m r e h = rw h e
 
-pub given_some : (m : Maybe) (s : Stored) (r : Name) → r ≡ stored_name s → m ≡ Given s → r ≡ given_name m
+pub given_some : (m : Option Stored) (s : Stored) (r : Name) → r ≡ stored_name s → m ≡ Some s → r ≡ given_name m
 given_some m s r e h = rw h e
 
 pub numbered : (n : ℕ) (x : Isolation) (r : Name) → r ≡ stored_name x.name → ◌≡◌ {A = Strategy} (record { number = n; name = r }) (strategy_of n x)

@@ -1,7 +1,6 @@
 -- What each strategy gains, by the module lines, the domains and the ports that are kept already. Assumes nothing.
-use Rattle.std.specs.Prelude.{ℕ, ◌+◌, Bool, true, false, cond, not}
+use Rattle.std.specs.Prelude.{ℕ, ◌+◌, Bool, true, false, cond, not, Option, None, Some}
 use mathlib.Core.List.{List, [], ◌∷◌, flat_map}
-use Rattle.std.proofs.Math.Option.{Option, none, some}
 use Rattle.text.specs.Ascii.{Bytes}
 use Rattle.text.specs.Compare.{same}
 use Rattle.joblines.specs.Job.{Module}
@@ -31,15 +30,15 @@ domain_gain d m n i sig x [] l =
 domain_gain d m n i sig x (e ∷ es) l = covered_gain n i sig (flat_map (element_aims d m) (e ∷ es)) l
 
 abbrev pub found_gain : List Module → Module → ℕ → Isolation → Bytes → List Kept → Option Domain → Gain
-found_gain d m n i sig l none = remark_gain (unknown_domain i.name i.domain) l
-found_gain d m n i sig l (some x) = domain_gain d m n i sig x i.elements l
+found_gain d m n i sig l None = remark_gain (unknown_domain i.name i.domain) l
+found_gain d m n i sig l (Some x) = domain_gain d m n i sig x i.elements l
 
 abbrev pub named : List Domain → Bytes → Option Domain
 named xs n = first (λ (x : Domain). same x.name n) xs
 
 abbrev pub signal_gain : List Module → Module → List Domain → ℕ → Isolation → List Kept → Option Bytes → Gain
-signal_gain d m xs n i l none = remark_gain (no_signal i.name) l
-signal_gain d m xs n i l (some sig) =
+signal_gain d m xs n i l None = remark_gain (no_signal i.name) l
+signal_gain d m xs n i l (Some sig) =
     cond (is_clamp (lowered i.clamp)) (found_gain d m n i sig l (named xs i.domain)) (remark_gain (clamp_unknown i.name (lowered i.clamp)) l)
 
 unfoldable pub strategy_gain : List Module → Module → List Domain → ℕ → Isolation → List Kept → Gain

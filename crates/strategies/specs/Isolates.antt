@@ -1,10 +1,9 @@
 -- Theorem: what the definitions isolate is what the strategies gain. Assumes nothing.
-use Rattle.std.specs.Prelude.{ℕ, ◌+◌, ◌≡◌, Bool, length, get_or}
+use Rattle.std.specs.Prelude.{ℕ, ◌+◌, ◌≡◌, Bool, length, get_or, Option, None, Some}
 use Rattle.std.proofs.Common.{arith, ◌∙◌, length-append}
 use Rattle.std.proofs.Math.Path.{refl, sym, ap}
 use Rattle.std.proofs.Math.Bool.{true, false, cond, not}
 use mathlib.Core.List.{List, [], ◌∷◌, ◌++◌, flat_map, append_assoc, append-nil}
-use Rattle.std.proofs.Math.Option.{Option, none, some}
 use Rattle.std.proofs.Math.Seq.{get_or-append_seam}
 use Rattle.text.specs.Ascii.{Bytes}
 use Rattle.design.specs.Lists.{those}
@@ -33,14 +32,14 @@ shown_by s i key net =
     }
 
 abbrev pub no_strategy : Isolation
-no_strategy = record { name = []; domain = []; applies_to = none; elements = []; clamp = []; signal = none; sense = []; power = none; ground_net = none }
+no_strategy = record { name = []; domain = []; applies_to = None; elements = []; clamp = []; signal = None; sense = []; power = None; ground_net = None }
 
 abbrev pub isolated_of : Setting → List Isolation → Kept → Isolated
 isolated_of s is x = shown_by s (get_or is x.strategy no_strategy) x.key x.net
 
 -- f shows what strategy n keeps as the definitions do
 pub record Shown (s : Setting) (f : Kept → Isolated) (n : ℕ) (i : Isolation) : Type 0 where
-  pub by : (sig : Bytes) → i.signal ≡ some sig → (t : Target) (w : Bytes) → f (kept n (key_of t) w) ≡ isolated_by s i sig t w
+  pub by : (sig : Bytes) → i.signal ≡ Some sig → (t : Target) (w : Bytes) → f (kept n (key_of t) w) ≡ isolated_by s i sig t w
 
 abbrev pub ShownAll : Setting → (Kept → Isolated) → ℕ → List Isolation → Type 0
 ShownAll s f n [] = Unit {0}
@@ -68,7 +67,7 @@ module _ (s : Setting) (f : Kept → Isolated) where
   reported_is : (t : Bytes) (c : Cover) (g : Gain) → reported (shown f c g) t ≡ shown f c (behind g (line_gain t g.rows))
   reported_is t c g = rw (append-nil g.remarks, append_assoc c.report g.report t)
 
-  module _ (n : ℕ) (i : Isolation) (sh : Shown s f n i) (sig : Bytes) (e : i.signal ≡ some sig) where
+  module _ (n : ℕ) (i : Isolation) (sh : Shown s f n i) (sig : Bytes) (e : i.signal ≡ Some sig) where
     covered_is : (ts : List Target) (c : Cover) (l : List Kept) → Shows f c l → covered s i sig ts c ≡ shown f c (covered_gain n i sig (target_aims s ts) l)
     unfolding covered_gain
     covered_is ts c l h =
@@ -86,21 +85,21 @@ module _ (s : Setting) (f : Kept → Isolated) where
         covered_is (flat_map (element_targets s) (y ∷ es)) c l h ∙ ap (λ (ps : List Aim). shown f c (covered_gain n i sig ps l)) (flat_aims s (element_targets s) (element_aims s.design s.base) (element_aims_lem s) (y ∷ es))
 
     with_domain_is : (c : Cover) (l : List Kept) → Shows f c l → (o : Option Domain) → with_domain s i sig c o ≡ shown f c (found_gain s.design s.base n i sig l o)
-    with_domain_is c l h none = remarked_is (unknown_domain i.name i.domain) c l h
-    with_domain_is c l h (some x) = in_domain_is x c l h i.elements
+    with_domain_is c l h None = remarked_is (unknown_domain i.name i.domain) c l h
+    with_domain_is c l h (Some x) = in_domain_is x c l h i.elements
 
   strategy_is : (n : ℕ) (i : Isolation) → Shown s f n i → (c : Cover) (l : List Kept) → Shows f c l → with_signal s i c i.signal ≡ shown f c (strategy_gain s.design s.base s.records.domains n i l)
   unfolding strategy_gain
   strategy_is n i sh c l h = go i.signal refl
     where
-      known : (sig : Bytes) → i.signal ≡ some sig → (b : Bool) → cond b (with_domain s i sig c (domain_named s.records i.domain)) (remarked c (clamp_unknown i.name (lowered i.clamp)))
+      known : (sig : Bytes) → i.signal ≡ Some sig → (b : Bool) → cond b (with_domain s i sig c (domain_named s.records i.domain)) (remarked c (clamp_unknown i.name (lowered i.clamp)))
           ≡ shown f c (cond b (found_gain s.design s.base n i sig l (named s.records.domains i.domain)) (remark_gain (clamp_unknown i.name (lowered i.clamp)) l))
       known sig e true = with_domain_is n i sh sig e c l h (domain_named s.records i.domain)
       known sig e false = remarked_is (clamp_unknown i.name (lowered i.clamp)) c l h
 
       go : (o : Option Bytes) → i.signal ≡ o → with_signal s i c o ≡ shown f c (signal_gain s.design s.base s.records.domains n i l o)
-      go none e = remarked_is (no_signal i.name) c l h
-      go (some sig) e = known sig e (is_clamp (lowered i.clamp))
+      go None e = remarked_is (no_signal i.name) c l h
+      go (Some sig) e = known sig e (is_clamp (lowered i.clamp))
 
   -- ---- a round
 

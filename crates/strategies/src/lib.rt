@@ -23,15 +23,15 @@ use names::name::Name;
 use refs::no_name;
 use remarks::line;
 use store::state::Isolation;
-use store::stored::Maybe;
+use store::stored::Stored;
 
 // What is given, as a name.
-pub fn given(m: Maybe) -> Name
+pub fn given(m: Option<Stored>) -> Name
     ensures { result ≡ given_name m }
 {
     match m {
-        Maybe::Not => no_name(),
-        Maybe::Given(s) => stored(s),
+        None => no_name(),
+        Some(s) => stored(s),
     }
 }
 

@@ -1,18 +1,16 @@
 -- A name looked up: laws as the needs ask them. Assumes nothing.
+use Rattle.std.specs.Prelude.{None}
 use Prim.Native.Nat.{◌*◌, ◌+◌, ◌-◌, ◌<◌, ◌≤◌, suc, zero, ℕ}
 use mathlib.Core.List.{List, [], ◌++◌, ◌∷◌}
 use mathlib.Core.Path.{◌∙◌, ◌≡◌, refl, ap, sym}
 use mathlib.Core.Bool.{Bool, ◌||◌, cond, false, true}
-use mathlib.Core.Option.{Option, some}
+use Rattle.std.specs.Prelude.{Option, Some}
 use native.Mathlib.Omega.{arith}
 use lib.ListN.{get_or-eq_default, drop, get_or, length, take}
 use lib.Dec.{eqb, leb}
 use borrow.Author.Tests.{eq-eqb, leb-false, leb-true, ne_eqb}
 use borrow.Author.Rules.{rules}
 use Rattle.spans.specs.declared.span.Span.{Span}
-use Rattle.spans.specs.declared.span.Got.{Got}
-use Rattle.spans.specs.declared.span.Got.TheVariants.{Yes, No}
-use Rattle.spans.specs.declared.span.Found.TheVariants.{At, None}
 use Rattle.substitution.proofs.Runs.{written_end, written_step}
 use Rattle.substitution.specs.Stored.{name_at, value_at, variable_at, variables}
 use Rattle.text.specs.Sames.{no_true, same_turned}
@@ -60,11 +58,11 @@ nothing q body i (suc left) h =
     let g : length body ≤ i = leb-true (length body) i (rw (ne_eqb (suc left) 0 z) at h) in
     rw (written_end q body i g)
 
-module _ (q : Bool) (body mem : List ℕ) (t : Bool) (i left : ℕ) (x : Span) (inv : Named q body mem t i left x) (p : Got) (e : bytes mem x ≡ got_of mem p) where
-  pub named_end : p ≡ No → eqb left 0 || leb (length body) i ≡ t
+module _ (q : Bool) (body mem : List ℕ) (t : Bool) (i left : ℕ) (x : Span) (inv : Named q body mem t i left x) (p : Option (ℕ × Span)) (e : bytes mem x ≡ got_of mem p) where
+  pub named_end : p ≡ None → eqb left 0 || leb (length body) i ≡ t
   named_end h = sym (over_is q body i left) ∙ rw (e, h) at inv.keeps
 
-  module _ (b : ℕ) (u : Span) (h : p ≡ Yes b u) where
+  module _ (b : ℕ) (u : Span) (h : p ≡ Some (b, u)) where
     pub named_short : eqb left 0 || leb (length body) i ≡ true → false ≡ t
     unfolding same
     named_short g = rw (e, h, nothing q body i left g) at inv.keeps
@@ -110,12 +108,12 @@ pub ruleset plains = (rules, plain_is)
 
 -- ---- the last one of this name
 
-lookup_last : (vs : List Variable) (v : Variable) (n : List ℕ) → lookup (vs ++ (v ∷ [])) n ≡ cond (same n v.name) (some v.value) (lookup vs n)
+lookup_last : (vs : List Variable) (v : Variable) (n : List ℕ) → lookup (vs ++ (v ∷ [])) n ≡ cond (same n v.name) (Some v.value) (lookup vs n)
 unfolding lookup
 lookup_last [] v n = refl
 lookup_last (u ∷ vs) v n = rw (lookup_last vs v n) (go (same n v.name))
   where
-    go : (t : Bool) → last_or (cond t (some v.value) (lookup vs n)) (same n u.name) u.value ≡ cond t (some v.value) (last_or (lookup vs n) (same n u.name) u.value)
+    go : (t : Bool) → last_or (cond t (Some v.value) (lookup vs n)) (same n u.name) u.value ≡ cond t (Some v.value) (last_or (lookup vs n) (same n u.name) u.value)
     go true = refl
     go false = refl
 
@@ -129,13 +127,13 @@ module _ (mem vars name : List ℕ) (t : Option (List ℕ)) (k : ℕ) (inv : Loo
   looks_none h = let z : k ≡ 0 = omega arith in rw z at inv.keeps
 
   module _ (h : 0 < k) (s : Span) (e : s ≡ name_at vars (k - 1)) (f : Bool) (g : f ≡ same name (bytes mem s)) where
-    step : lookup (variables mem vars k) name ≡ cond f (some (bytes mem (value_at vars (k - 1)))) (lookup (variables mem vars (k - 1)) name)
+    step : lookup (variables mem vars k) name ≡ cond f (Some (bytes mem (value_at vars (k - 1)))) (lookup (variables mem vars (k - 1)) name)
     unfolding variables
     step =
         let q : k ≡ suc (k - 1) = omega arith in
         ap (λ (n : ℕ). lookup (variables mem vars n) name) q ∙ lookup_last (variables mem vars (k - 1)) (variable_at mem vars (k - 1)) name ∙ rw (← e, ← g)
 
-    pub looks_hit : (w : Span) → w ≡ value_at vars (k - 1) → f ≡ true → found_of mem (At w) ≡ t
+    pub looks_hit : (w : Span) → w ≡ value_at vars (k - 1) → f ≡ true → found_of mem (Some w) ≡ t
     looks_hit w x y = rw x (sym (step ∙ rw y) ∙ inv.keeps)
 
     pub looks_miss : f ≡ false → Looks mem vars name t (k - 1)

@@ -3,3 +3,4 @@ pub mod Piece
 pub mod Stored
 pub mod Put
 pub mod Puts
+pub mod Room

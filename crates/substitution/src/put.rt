@@ -12,14 +12,11 @@ use super::piece::{Piece, next_piece};
 use super::variable::lookup;
 use super::written::dropped;
 use spans::area::append_span;
-use spans::span::{Found, Span, size};
+use spans::span::{Span, size};
 
-// What a write to the area answers: where it ended, or that it would have passed the limit.
-#[derive(Clone, Copy)]
-pub enum Put {
-    Done(usize),
-    Full,
-}
+// A limit of document 01 on reading is passed.
+#[derive(Clone, Copy, Debug, PartialEq, Eq)]
+pub struct Full;
 
 // Writes n bytes of a written word from `at` on, and returns where they end.
 fn copy(body: &[u8], at: usize, n: usize, quoted: bool, area: &mut [u8], o: usize) -> usize
@@ -27,17 +24,12 @@ fn copy(body: &[u8], at: usize, n: usize, quoted: bool, area: &mut [u8], o: usiz
     ensures { Wrote area.old area.new o (take n (written quoted (drop at body.now))) result }
 {
     let mut i = at;
-    let mut left = n;
-    let mut w = o;
-    while 0 < left {
+    for k in 0..n {
         let e = dropped(body, i, quoted);
-        let k = i + e;
-        area[w] = body[k];
-        w += 1;
+        area[o + k] = body[i + e];
         i = i + 1 + e;
-        left -= 1;
     }
-    w
+    o + n
 }
 
 // The same up to a limit.
@@ -49,26 +41,33 @@ fn put_written(
     area: &mut [u8],
     o: usize,
     limit: usize,
-) -> Put
+) -> Result<usize, Full>
     requires { (n ≤ length (written quoted (drop at body.now))) × ((o ≤ limit) × (limit ≤ length area.old)) }
     ensures { Puts area.old area.new o limit (take n (written quoted (drop at body.now))) result }
 {
     if limit - o < n {
-        return Put::Full;
+        return Err(Full);
     }
-    Put::Done(copy(body, at, n, quoted, area, o))
+    Ok(copy(body, at, n, quoted, area, o))
 }
 
 // Writes a value that lies in the files or before m in the area.
-fn put_value(files: &[u8], area: &mut [u8], m: usize, s: Span, o: usize, limit: usize) -> Put
+fn put_value(
+    files: &[u8],
+    area: &mut [u8],
+    m: usize,
+    s: Span,
+    o: usize,
+    limit: usize,
+) -> Result<usize, Full>
     requires { (m ≤ o) × ((o ≤ limit) × (limit ≤ length area.old)) }
     ensures { Puts area.old area.new o limit (bytes (files.now ++ take m area.old) s) result }
 {
     let n = size(files, &area[..m], s);
     if limit - o < n {
-        return Put::Full;
+        return Err(Full);
     }
-    Put::Done(append_span(files, area, m, s, o))
+    Ok(append_span(files, area, m, s, o))
 }
 
 // Writes what stands for the piece p of a written word at i: the value of its name, or the piece as written.
@@ -84,13 +83,13 @@ fn put_piece(
     m: usize,
     o: usize,
     limit: usize,
-) -> Put
+) -> Result<usize, Full>
     requires { IsPiece quoted body.now (i + 1) (written quoted (drop i body.now)) p × ((m ≤ o) × ((o ≤ limit) × (limit ≤ length area.old))) }
     ensures { Puts area.old area.new o limit (image (variables (files.now ++ take m area.old) vars.now n) (written quoted (drop i body.now))) result }
 {
     match lookup(files, &area[..m], vars, n, body, p.from, p.name, quoted) {
-        Found::None => put_written(body, i, p.size, quoted, area, o, limit),
-        Found::At(s) => put_value(files, area, m, s, o, limit),
+        None => put_written(body, i, p.size, quoted, area, o, limit),
+        Some(s) => put_value(files, area, m, s, o, limit),
     }
 }
 
@@ -105,21 +104,17 @@ pub fn substitute(
     m: usize,
     at: usize,
     limit: usize,
-) -> Put
+) -> Result<usize, Full>
     requires { (m ≤ at) × ((at ≤ limit) × (limit ≤ length area.old)) }
     ensures { Puts area.old area.new at limit (Substitution·substitute (variables (files.now ++ take m area.old) vars.now n) (written quoted body.now)) result }
 {
     let mut i = 0;
     let mut o = at;
+    // Counted by hand: the place moves on by a whole piece, so an iterator is no plainer.
     while i < body.len() {
         let p = next_piece(body, i, quoted);
-        match put_piece(files, vars, n, body, quoted, i, p, area, m, o, limit) {
-            Put::Full => return Put::Full,
-            Put::Done(e) => {
-                o = e;
-                i = p.end;
-            }
-        }
+        o = put_piece(files, vars, n, body, quoted, i, p, area, m, o, limit)?;
+        i = p.end;
     }
-    Put::Done(o)
+    Ok(o)
 }

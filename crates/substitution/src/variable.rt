@@ -7,7 +7,7 @@ ghost use Rattle.substitution.specs.Written.{written};
 ghost use Rattle.substitution.specs.Stored.{name_at, value_at, variables};
 
 use super::written::dropped;
-use spans::span::{Found, Got, Span, first, is, pair};
+use spans::span::{Span, first, is, pair};
 use text::part::part;
 
 // The name of variable k.
@@ -45,25 +45,20 @@ fn is_written(
     let mut i = at;
     let mut left = size;
     let mut x = s;
-    loop {
-        let over = (left == 0) | (body.len() <= i);
-        match first(files, known, x) {
-            Got::No => return over,
-            Got::Yes(b, u) => {
-                if over {
-                    return false;
-                }
-                let e = dropped(body, i, quoted);
-                let k = i + e;
-                if body[k] != b {
-                    return false;
-                }
-                i = i + 1 + e;
-                left -= 1;
-                x = u;
-            }
+    while let Some((b, u)) = first(files, known, x) {
+        if (left == 0) | (body.len() <= i) {
+            return false;
         }
+        let e = dropped(body, i, quoted);
+        let k = i + e;
+        if body[k] != b {
+            return false;
+        }
+        i = i + 1 + e;
+        left -= 1;
+        x = u;
     }
+    (left == 0) | (body.len() <= i)
 }
 
 // Whether `size` bytes of a written word from `at` on are the string s.
@@ -94,17 +89,15 @@ fn last<'a>(
     at: usize,
     size: usize,
     quoted: bool,
-) -> Found
+) -> Option<Span>
     ensures { found_of (files.now ++ known.now) result ≡ Substitution·lookup (variables (files.now ++ known.now) vars.now n) (take size (written quoted (drop at body.now))) }
 {
-    let mut k = n;
-    while 0 < k {
-        if is_name(files, known, name_of(vars, k - 1), body, at, size, quoted) {
-            return Found::At(value_of(vars, k - 1));
+    for k in (0..n).rev() {
+        if is_name(files, known, name_of(vars, k), body, at, size, quoted) {
+            return Some(value_of(vars, k));
         }
-        k -= 1;
     }
-    Found::None
+    None
 }
 
 // The value of a name: none of an unknown or empty one.
@@ -117,11 +110,11 @@ pub fn lookup<'a>(
     at: usize,
     size: usize,
     quoted: bool,
-) -> Found
+) -> Option<Span>
     ensures { found_of (files.now ++ known.now) result ≡ Substitution·known (variables (files.now ++ known.now) vars.now n) (take size (written quoted (drop at body.now))) }
 {
     if (size == 0) | (body.len() <= at) {
-        return Found::None;
+        return None;
     }
     last(files, known, vars, n, body, at, size, quoted)
 }

@@ -53,6 +53,7 @@ pub fn name_run(body: &[u8], at: usize, quoted: bool) -> Run
 {
     let mut i = at;
     let mut n = 0;
+    // Counted by hand: the place moves on past a dropped byte too, so an iterator is no plainer.
     while i < body.len() {
         let e = dropped(body, i, quoted);
         let k = i + e;

@@ -1,4 +1,5 @@
 -- The net of a port, row by row: laws as the needs ask them. Assumes nothing.
+use Rattle.std.specs.Prelude.{Option, Some, None}
 use Prim.Native.Nat.{ℕ, zero, suc, ◌+◌, ◌-◌, ◌≤◌, ◌<◌, ◌^◌, max}
 use native.Mathlib.Omega.{arith}
 use native.Mathlib.Numerals.{add-one}
@@ -21,7 +22,6 @@ use Rattle.entries.specs.Together.{list_is}
 use Rattle.entries.specs.View.{Finds}
 use Rattle.entries.specs.Loops.{entries_none, entries_first}
 use Rattle.entries.specs.declared.item.Item.{Item}
-use Rattle.entries.specs.declared.item.Item.TheVariants.{Entry, None}
 use Rattle.names.specs.Scoped.{scoped}
 use Rattle.names.specs.Name.{name_of, name_end, Makes}
 use Rattle.names.specs.declared.name.Name.{Name}
@@ -60,28 +60,28 @@ any_cons : {A : Type 0} (t : A → Bool) (x : A) (xs : List A) → any t (x ∷ 
 unfolding any
 any_cons t x xs = refl
 
-module _ (mem : Bytes) (scope : Span) (p : Name) (text : Bytes) (w : Bool) (at : ℕ) (first : Bool) (inv : Tests mem scope p text w at first) (r : Item) (f : Finds text (entries_left first (drop at text)) r) where
+module _ (mem : Bytes) (scope : Span) (p : Name) (text : Bytes) (w : Bool) (at : ℕ) (first : Bool) (inv : Tests mem scope p text w at first) (r : Option Item) (f : Finds text (entries_left first (drop at text)) r) where
   pub tests_none : r ≡ None → false ≡ w
   tests_none h = sym (any_none (is_below mem scope p)) ∙ (rw (entries_none text (entries_left first (drop at text)) r f h) at inv.keeps)
 
-  module _ (v : Span) (reads : Reads mem v text) (s : Span) (q : Bool) (e : ℕ) (h : r ≡ Entry s q e) where
-    pub tests_inside : v.at + s.at < 2 ^ 64
-    tests_inside = inside_fits mem v text reads.is (entries_left first (drop at text)) r f s q e h reads.small
+  module _ (v : Span) (reads : Reads mem v text) (i : Item) (h : r ≡ Some i) where
+    pub tests_inside : v.at + i.entry.at < 2 ^ 64
+    tests_inside = inside_fits mem v text reads.is (entries_left first (drop at text)) r f i.entry i.quoted i.next h reads.small
 
-    module _ (u : Span) (eu : u ≡ (v.at + s.at) ⋯ s.len) (form : ℕ) (ef : form ≡ form_of q) (x : Name) (m : Makes mem scope u form x) (t : Bool) (et : t ≡ same (name_of mem x) (name_of mem p)) where
-      left_is : any (is_below mem scope p) (entries_left first (drop at text)) ≡ t || any (is_below mem scope p) (entries_left false (drop e text))
+    module _ (u : Span) (eu : u ≡ (v.at + i.entry.at) ⋯ i.entry.len) (form : ℕ) (ef : form ≡ form_of i.quoted) (x : Name) (m : Makes mem scope u form x) (t : Bool) (et : t ≡ same (name_of mem x) (name_of mem p)) where
+      left_is : any (is_below mem scope p) (entries_left first (drop at text)) ≡ t || any (is_below mem scope p) (entries_left false (drop i.next text))
       left_is =
-          let y : Bytes = entry_bytes q (bytes text s) in
-          let k : name_of mem x ≡ scoped (bytes mem scope) y = m.is ∙ rw eu (ap (scoped (bytes mem scope)) (inside_is mem v text reads.is (entries_left first (drop at text)) r f s q e h form ef)) in
-          ap (any (is_below mem scope p)) (entries_first text (entries_left first (drop at text)) r f s q e h)
-          ∙ any_cons (is_below mem scope p) y (entries_left false (drop e text))
-          ∙ ap (λ (b : Bool). b || any (is_below mem scope p) (entries_left false (drop e text))) (sym (et ∙ ap (λ (z : Bytes). same z (name_of mem p)) k))
+          let y : Bytes = entry_bytes i.quoted (bytes text i.entry) in
+          let k : name_of mem x ≡ scoped (bytes mem scope) y = m.is ∙ rw eu (ap (scoped (bytes mem scope)) (inside_is mem v text reads.is (entries_left first (drop at text)) r f i.entry i.quoted i.next h form ef)) in
+          ap (any (is_below mem scope p)) (entries_first text (entries_left first (drop at text)) r f i.entry i.quoted i.next h)
+          ∙ any_cons (is_below mem scope p) y (entries_left false (drop i.next text))
+          ∙ ap (λ (b : Bool). b || any (is_below mem scope p) (entries_left false (drop i.next text))) (sym (et ∙ ap (λ (z : Bytes). same z (name_of mem p)) k))
 
       pub tests_yes : t ≡ true → true ≡ w
       tests_yes g = let z : true ≡ any (is_below mem scope p) (entries_left first (drop at text)) = sym (left_is ∙ rw g) in z ∙ inv.keeps
 
-      pub tests_no : t ≡ false → Tests mem scope p text w e false
-      tests_no g = record { keeps = let z : any (is_below mem scope p) (entries_left false (drop e text)) ≡ any (is_below mem scope p) (entries_left first (drop at text)) = sym (left_is ∙ rw g) in z ∙ inv.keeps }
+      pub tests_no : t ≡ false → Tests mem scope p text w i.next false
+      tests_no g = record { keeps = let z : any (is_below mem scope p) (entries_left false (drop i.next text)) ≡ any (is_below mem scope p) (entries_left first (drop at text)) = sym (left_is ∙ rw g) in z ∙ inv.keeps }
 
 module _ (files area : Bytes) (v : Span) (w : Whole (length files) v) (text : Bytes) (e : Held (length files) v → text ≡ bytes (files ++ area) v) where
   pub whole_reads : Reads (files ++ area) v text

@@ -1,4 +1,6 @@
 -- A table of nets that grows by what is new: laws as the needs ask them. Assumes nothing.
+use Rattle.store.specs.declared.state.Few.{Few}
+use Rattle.std.specs.Prelude.{Option, Some, None}
 use Prim.Native.Nat.{ℕ, suc, ◌+◌, ◌-◌, ◌*◌, ◌≤◌, ◌<◌, ◌^◌, max}
 use native.Mathlib.Omega.{arith}
 use mathlib.Core.Path.{◌≡◌, refl, sym, ap, ◌∙◌}
@@ -14,8 +16,6 @@ use Rattle.spans.specs.declared.span.Span.{Span}
 use Rattle.tcl.specs.Lists.{list}
 use Rattle.names.specs.Name.{name_of, step_of}
 use Rattle.names.specs.declared.name.Name.{Name}
-use Rattle.names.specs.declared.name.Step.{Step}
-use Rattle.names.specs.declared.name.Step.TheVariants.{Byte, End}
 use Rattle.nametable.specs.Table.{row_name, row_put, names_from, table_names, Stores, put_names, names_next, names_none}
 use Rattle.listnames.specs.Lists.{nth_below, Whole, Known, whole_by}
 use Rattle.design.specs.Lists.{those, is_in, add_new, add_all}
@@ -29,9 +29,6 @@ use Rattle.store.specs.declared.stored.Below.{Below}
 use Rattle.store.specs.declared.row.Row.{Row}
 use Rattle.store.specs.declared.state.Port.{Port}
 use Rattle.store.specs.declared.state.Switch.{Switch}
-use Rattle.store.specs.declared.state.Nets.{Nets}
-use Rattle.store.specs.declared.state.Ports.{Ports}
-use Rattle.store.specs.declared.state.Switches.{Switches}
 use Rattle.store.specs.declared.state.State.{State}
 use Rattle.made.specs.Made.{reach_of}
 use Rattle.setting.specs.Orders.{Orders, holds_few, holds_long, holds_at, holds_next, holds_end, nets_hold, ports_hold, switches_hold}
@@ -90,12 +87,12 @@ module _ (mem : Bytes) (table : List ℕ) (n : ℕ) (x : Name) (a : Adds mem tab
     unfolding add_new
     added_new table' e g = record { are = let z : add_new (table_names mem table n) (name_of mem x) ≡ table_names mem table n ++ (name_of mem x ∷ []) = rw (← et, g) in rw e (put_names mem table n x a.room ∙ sym z); count = omega arith; long = rw e (simp length-set) }
 
-  module _ (p : Step) (e : name_of mem x ≡ step_of mem p) where
-    pub named_none : p ≡ End → Names mem (add_all (table_names mem table n) (those has_name (name_of mem x ∷ []))) (n + 1) table table n
+  module _ (p : Option (ℕ × Name)) (e : name_of mem x ≡ step_of mem p) where
+    pub named_none : p ≡ None → Names mem (add_all (table_names mem table n) (those has_name (name_of mem x ∷ []))) (n + 1) table table n
     unfolding those same add_all
     named_none h = record { are = sym (rw (e, h)); count = omega arith; long = refl }
 
-    pub named_some : (b : ℕ) (u : Name) (table' : List ℕ) (r : ℕ) → Names mem (add_new (table_names mem table n) (name_of mem x)) (n + 1) table table' r → p ≡ Byte b u → Names mem (add_all (table_names mem table n) (those has_name (name_of mem x ∷ []))) (n + 1) table table' r
+    pub named_some : (b : ℕ) (u : Name) (table' : List ℕ) (r : ℕ) → Names mem (add_new (table_names mem table n) (name_of mem x)) (n + 1) table table' r → p ≡ Some (b, u) → Names mem (add_all (table_names mem table n) (those has_name (name_of mem x ∷ []))) (n + 1) table table' r
     named_some b u table' r g h = record { are = g.are ∙ one_name (table_names mem table n) (name_of mem x) b (name_of mem u) (e ∙ rw h); count = g.count; long = g.long }
 
 -- ---- a stored name ends where it reaches
@@ -105,14 +102,14 @@ below_ends long bound b h = omega (arith, reach_end long (span_of b.scope), reac
 
 -- ---- the created nets
 
-pub record Created (mem : Bytes) (t : Nets) (table₀ table : List ℕ) (i : ℕ) : Type 0 where
+pub record Created (mem : Bytes) (t : Few Below) (table₀ table : List ℕ) (i : ℕ) : Type 0 where
   pub are : table_names mem table i ++ map (below_of mem) (drop i (take t.n t.all)) ≡ map (below_of mem) (take t.n t.all)
   pub long : length table ≡ length table₀
 
-pub created_start : (mem : Bytes) (t : Nets) (table : List ℕ) → Created mem t table table 0
+pub created_start : (mem : Bytes) (t : Few Below) (table : List ℕ) → Created mem t table table 0
 created_start mem t table = record { are = rw (names_none mem table 0); long = refl }
 
-module _ (files area : Bytes) (t : Nets) (table₀ : List ℕ) (c : Creates files area t table₀) where
+module _ (files area : Bytes) (t : Few Below) (table₀ : List ℕ) (c : Creates files area t table₀) where
   created_few : t.n ≤ 32
   created_few = holds_few (of_below (reach_of (length files))) (length (files ++ area)) t.n t.all c.nets
 
@@ -199,13 +196,13 @@ module _ (files area : Bytes) (nums : List ℕ) (m : ℕ) (p : Port) (table : Li
       pub port_added : (table' : List ℕ) (r : ℕ) → Names (files ++ area) (add_new (table_names (files ++ area) table k) (name_of (files ++ area) y)) (k + 1) table table' r → Names (files ++ area) (add_new (table_names (files ++ area) table k) (port_net (files ++ area) (flat_map (connections_of (files ++ area)) (rows_in nums m)) p)) (k + 1) table table' r
       port_added table' r a = let e : name_of (files ++ area) y ≡ port_net (files ++ area) (flat_map (connections_of (files ++ area)) (rows_in nums m)) p = ky.is ∙ rw kx.is in rw e at a
 
-pub record Ported (mem : Bytes) (rows : List Row) (t : Ports) (table₀ : List ℕ) (n : ℕ) (table : List ℕ) (k i : ℕ) : Type 0 where
+pub record Ported (mem : Bytes) (rows : List Row) (t : Few Port) (table₀ : List ℕ) (n : ℕ) (table : List ℕ) (k i : ℕ) : Type 0 where
   pub grows : Grows mem table₀ n (ports_nets mem rows t) (map (port_net mem (flat_map (connections_of mem) rows)) (drop i (take t.n t.all))) i table k
 
-pub ported_start : (mem : Bytes) (rows : List Row) (t : Ports) (table : List ℕ) (n : ℕ) → Ported mem rows t table n table n 0
+pub ported_start : (mem : Bytes) (rows : List Row) (t : Few Port) (table : List ℕ) (n : ℕ) → Ported mem rows t table n table n 0
 ported_start mem rows t table n = record { grows = grows_start mem table n (ports_nets mem rows t) }
 
-module _ (files area : Bytes) (nums : List ℕ) (m : ℕ) (t : Ports) (table₀ : List ℕ) (n : ℕ) (c : OfPorts files area nums m t table₀ n) where
+module _ (files area : Bytes) (nums : List ℕ) (m : ℕ) (t : Few Port) (table₀ : List ℕ) (n : ℕ) (c : OfPorts files area nums m t table₀ n) where
   ports_few : t.n ≤ 32
   ports_few = holds_few (of_port (reach_of (length files))) (length (files ++ area)) t.n t.all c.ports
 
@@ -303,13 +300,13 @@ module _ (files area : Bytes) (w : Switch) (table : List ℕ) (k : ℕ) (c : OfS
           long = nb.long ∙ na.long;
         }
 
-pub record Switched (mem : Bytes) (t : Switches) (table₀ : List ℕ) (n : ℕ) (table : List ℕ) (k i : ℕ) : Type 0 where
+pub record Switched (mem : Bytes) (t : Few Switch) (table₀ : List ℕ) (n : ℕ) (table : List ℕ) (k i : ℕ) : Type 0 where
   pub grows : Grows mem table₀ n (switches_nets mem t) (those has_name (flat_map (both_nets mem) (drop i (take t.n t.all)))) (2 * i) table k
 
-pub switched_start : (mem : Bytes) (t : Switches) (table : List ℕ) (n : ℕ) → Switched mem t table n table n 0
+pub switched_start : (mem : Bytes) (t : Few Switch) (table : List ℕ) (n : ℕ) → Switched mem t table n table n 0
 switched_start mem t table n = record { grows = grows_start mem table n (switches_nets mem t) }
 
-module _ (files area : Bytes) (t : Switches) (table₀ : List ℕ) (n : ℕ) (c : OfSwitches files area t table₀ n) where
+module _ (files area : Bytes) (t : Few Switch) (table₀ : List ℕ) (n : ℕ) (c : OfSwitches files area t table₀ n) where
   switches_few : t.n ≤ 32
   switches_few = holds_few (of_switch (reach_of (length files))) (length (files ++ area)) t.n t.all c.switches
 

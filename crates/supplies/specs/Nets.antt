@@ -1,4 +1,6 @@
 -- The supply nets of the stored records, and what is asked of these. Assumes nothing.
+use Rattle.store.specs.declared.state.Few.{Few}
+use Rattle.store.specs.declared.stored.Below.{Below}
 use Rattle.std.specs.Prelude.{ℕ, ◌+◌, ◌*◌, ◌≤◌, ◌<◌, ◌^◌, ◌≡◌, Bool, not, length, take}
 use mathlib.Core.List.{List, [], ◌∷◌, ◌++◌, map, flat_map}
 use Rattle.text.specs.Ascii.{Bytes}
@@ -23,9 +25,6 @@ use Rattle.store.specs.declared.stored.Stored.{Stored}
 use Rattle.store.specs.declared.row.Row.{Row}
 use Rattle.store.specs.declared.state.Port.{Port}
 use Rattle.store.specs.declared.state.Switch.{Switch}
-use Rattle.store.specs.declared.state.Nets.{Nets}
-use Rattle.store.specs.declared.state.Ports.{Ports}
-use Rattle.store.specs.declared.state.Switches.{Switches}
 use Rattle.made.specs.Made.{reach_of}
 use Rattle.setting.specs.Orders.{Holds}
 
@@ -48,14 +47,14 @@ both_nets mem x = supply_net mem x.scope x.input ∷ supply_net mem x.scope x.ou
 abbrev pub has_name : Bytes → Bool
 has_name n = not (same n [])
 
-abbrev pub ports_nets : Bytes → List Row → Ports → List Bytes
+abbrev pub ports_nets : Bytes → List Row → Few Port → List Bytes
 ports_nets mem rows ports = map (port_net mem (flat_map (connections_of mem) rows)) (take ports.n ports.all)
 
-abbrev pub switches_nets : Bytes → Switches → List Bytes
+abbrev pub switches_nets : Bytes → Few Switch → List Bytes
 switches_nets mem switches = those has_name (flat_map (both_nets mem) (take switches.n switches.all))
 
 -- created nets, nets of ports, nets of switches; each one time
-abbrev pub nets_of : Bytes → List Row → Nets → Ports → Switches → List Bytes
+abbrev pub nets_of : Bytes → List Row → Few Below → Few Port → Few Switch → List Bytes
 nets_of mem rows nets ports switches = add_all (map (below_of mem) (take nets.n nets.all)) (ports_nets mem rows ports ++ switches_nets mem switches)
 
 -- ---- what is asked
@@ -85,12 +84,12 @@ pub record Adds (mem : Bytes) (table : List ℕ) (n : ℕ) (x : Name) : Type 0 w
   pub few : n ≤ 128
   pub room : 5 * n + 5 ≤ length table
 
-pub record Creates (files area : Bytes) (t : Nets) (table : List ℕ) : Type 0 where
+pub record Creates (files area : Bytes) (t : Few Below) (table : List ℕ) : Type 0 where
   pub small : length (files ++ area) < 2 ^ 32
   pub nets : Holds (of_below (reach_of (length files))) (length (files ++ area)) t.n t.all
   pub room : 640 ≤ length table
 
-pub record OfPorts (files area : Bytes) (nums : List ℕ) (m : ℕ) (t : Ports) (table : List ℕ) (n : ℕ) : Type 0 where
+pub record OfPorts (files area : Bytes) (nums : List ℕ) (m : ℕ) (t : Few Port) (table : List ℕ) (n : ℕ) : Type 0 where
   pub small : length (files ++ area) < 2 ^ 32
   pub few : m ≤ 1024
   pub strings : Within (of_row (reach_of (length files))) (length (files ++ area)) (rows_in nums m)
@@ -122,7 +121,7 @@ pub record OfSwitch (files area : Bytes) (w : Switch) (table : List ℕ) (k : �
   pub count : k ≤ 127
   pub room : 5 * k + 10 ≤ length table
 
-pub record OfSwitches (files area : Bytes) (t : Switches) (table : List ℕ) (n : ℕ) : Type 0 where
+pub record OfSwitches (files area : Bytes) (t : Few Switch) (table : List ℕ) (n : ℕ) : Type 0 where
   pub small : length (files ++ area) < 2 ^ 32
   pub switches : Holds (of_switch (reach_of (length files))) (length (files ++ area)) t.n t.all
   pub rows : n ≤ 64

@@ -16,24 +16,22 @@ ghost use Rattle.store.specs.Rows.{rows_in, store_of};
 ghost use Rattle.setting.specs.Orders.{Orders};
 ghost use Rattle.supplies.specs.Nets.{is_below, has_name, port_net, both_nets, ports_nets, switches_nets, Reads, Connects, Rowed, Adds, Creates, OfPort, OfPorts, OfSupply, OfSwitch, OfSwitches, Names};
 
-use entries::item::{Item, next_entry};
+use entries::item::next_entry;
 use listnames::{form, inside, nth_below};
 use lists::value;
 use names::compare::same_names;
-use names::name::{Name, Step, scoped};
+use names::name::{Name, scoped};
 use nametable::{put_row, row};
 use spans::span::Span;
 use store::row::{Row, row_at};
-use store::state::{Nets, Port, Ports, State, Switch, Switches};
+use store::state::{Few, Port, State, Switch};
 use store::stored::{Below, span};
 
 // A stored name below its scope.
 pub fn name_of(files: &[u8], area: &[u8], b: Below) -> Name
     ensures { Known (files.now ++ area.now) (below_of (files.now ++ area.now) b) (of_below end_of b) result }
 {
-    let scope = b.scope;
-    let word = b.word;
-    scoped(files, area, span(scope), span(word), 0)
+    scoped(files, area, span(b.scope), span(b.word), 0)
 }
 
 // Whether a name is one of the entries of the text of a value, each below a scope.
@@ -50,19 +48,15 @@ fn has_entry<'a>(
 {
     let mut at = 0;
     let mut first = true;
-    loop {
-        match next_entry(text, at, first) {
-            Item::None => return false,
-            Item::Entry(s, q, e) => {
-                let x = scoped(files, area, scope, inside(v, s), form(q));
-                if same_names(files, area, x, p) {
-                    return true;
-                }
-                at = e;
-                first = false;
-            }
+    while let Some(i) = next_entry(text, at, first) {
+        let x = scoped(files, area, scope, inside(v, i.entry), form(i.quoted));
+        if same_names(files, area, x, p) {
+            return true;
         }
+        at = i.next;
+        first = false;
     }
+    false
 }
 
 // Whether a name is one of the entries of a value, each below a scope.
@@ -82,12 +76,9 @@ fn connected<'a>(files: &'a [u8], area: &'a [u8], r: Row, p: Name, net: Name) ->
     if r.kind != 1 {
         return net;
     }
-    let scope = r.scope;
-    let named = r.name;
-    let value = r.value;
-    let s = span(scope);
-    if is_entry(files, area, s, span(value), p) {
-        return scoped(files, area, s, span(named), 0);
+    let s = span(r.scope);
+    if is_entry(files, area, s, span(r.value), p) {
+        return scoped(files, area, s, span(r.name), 0);
     }
     net
 }
@@ -98,10 +89,8 @@ fn net_of<'a>(files: &'a [u8], area: &'a [u8], nums: &[u32], rows: usize, p: Nam
     ensures { Known (files.now ++ area.now) (net_of (flat_map (connections_of (files.now ++ area.now)) (rows_in nums.now rows)) (name_of (files.now ++ area.now) p) (name_of (files.now ++ area.now) p)) (length (files.now ++ area.now)) result }
 {
     let mut net = p;
-    let mut k = 0;
-    while k < rows {
+    for k in 0..rows {
         net = connected(files, area, row_at(nums, k), p, net);
-        k += 1;
     }
     net
 }
@@ -111,12 +100,10 @@ fn is_listed<'a>(files: &'a [u8], area: &'a [u8], table: &[u32], n: usize, x: Na
     requires { n ≤ 65536 }
     ensures { result ≡ is_in (name_of (files.now ++ area.now) x) (table_names (files.now ++ area.now) table.now n) }
 {
-    let mut k = 0;
-    while k < n {
+    for k in 0..n {
         if same_names(files, area, x, row(table, k)) {
             return true;
         }
-        k += 1;
     }
     false
 }
@@ -139,24 +126,20 @@ fn add_named<'a>(files: &'a [u8], area: &'a [u8], table: &mut [u32], n: usize, x
     ensures { Names (files.now ++ area.now) (add_all (table_names (files.now ++ area.now) table.old n) (those has_name (name_of (files.now ++ area.now) x ∷ []))) (n + 1) table.old table.new result }
 {
     match names::name::next(files, area, x) {
-        Step::End => n,
-        Step::Byte(_, _) => add(files, area, table, n, x),
+        None => n,
+        Some((_, _)) => add(files, area, table, n, x),
     }
 }
 
 // The created nets.
-fn created(files: &[u8], area: &[u8], t: Nets, table: &mut [u32]) -> usize
+fn created(files: &[u8], area: &[u8], t: Few<Below>, table: &mut [u32]) -> usize
     requires { Creates files.now area.now t table.old }
     ensures { Names (files.now ++ area.now) (map (below_of (files.now ++ area.now)) (take t.n t.all)) 32 table.old table.new result }
 {
-    let n = t.n;
-    let mut i = 0;
-    while i < n {
-        let b = t.all[i];
-        put_row(table, i, name_of(files, area, b));
-        i += 1;
+    for i in 0..t.n {
+        put_row(table, i, name_of(files, area, t.all[i]));
     }
-    n
+    t.n
 }
 
 // The net of a port behind the first k, where it is new.
@@ -172,8 +155,7 @@ fn add_port<'a>(
     requires { OfPort files.now area.now nums.now rows p table.old k }
     ensures { Names (files.now ++ area.now) (add_new (table_names (files.now ++ area.now) table.old k) (port_net (files.now ++ area.now) (flat_map (connections_of (files.now ++ area.now)) (rows_in nums.now rows)) p)) (k + 1) table.old table.new result }
 {
-    let named = p.name;
-    let x = net_of(files, area, nums, rows, name_of(files, area, named));
+    let x = net_of(files, area, nums, rows, name_of(files, area, p.name));
     add(files, area, table, k, x)
 }
 
@@ -183,20 +165,16 @@ fn of_ports<'a>(
     area: &'a [u8],
     nums: &[u32],
     rows: usize,
-    t: Ports,
+    t: Few<Port>,
     table: &mut [u32],
     n: usize,
 ) -> usize
     requires { OfPorts files.now area.now nums.now rows t table.old n }
     ensures { Names (files.now ++ area.now) (add_all (table_names (files.now ++ area.now) table.old n) (ports_nets (files.now ++ area.now) (rows_in nums.now rows) t)) (n + 32) table.old table.new result }
 {
-    let m = t.n;
     let mut k = n;
-    let mut i = 0;
-    while i < m {
-        let p = t.all[i];
-        k = add_port(files, area, nums, rows, p, table, k);
-        i += 1;
+    for i in 0..t.n {
+        k = add_port(files, area, nums, rows, t.all[i], table, k);
     }
     k
 }
@@ -222,32 +200,25 @@ fn add_switch<'a>(files: &'a [u8], area: &'a [u8], w: Switch, table: &mut [u32],
     requires { OfSwitch files.now area.now w table.old k }
     ensures { Names (files.now ++ area.now) (add_all (table_names (files.now ++ area.now) table.old k) (those has_name (both_nets (files.now ++ area.now) w))) (k + 2) table.old table.new result }
 {
-    let scope = w.scope;
-    let input = w.input;
-    let output = w.output;
-    let s = span(scope);
-    let a = add_supply(files, area, s, span(input), table, k);
-    add_supply(files, area, s, span(output), table, a)
+    let s = span(w.scope);
+    let a = add_supply(files, area, s, span(w.input), table, k);
+    add_supply(files, area, s, span(w.output), table, a)
 }
 
 // The nets of switches behind the first n.
 fn of_switches<'a>(
     files: &'a [u8],
     area: &'a [u8],
-    t: Switches,
+    t: Few<Switch>,
     table: &mut [u32],
     n: usize,
 ) -> usize
     requires { OfSwitches files.now area.now t table.old n }
     ensures { Names (files.now ++ area.now) (add_all (table_names (files.now ++ area.now) table.old n) (switches_nets (files.now ++ area.now) t)) (n + 64) table.old table.new result }
 {
-    let m = t.n;
     let mut k = n;
-    let mut i = 0;
-    while i < m {
-        let w = t.all[i];
-        k = add_switch(files, area, w, table, k);
-        i += 1;
+    for i in 0..t.n {
+        k = add_switch(files, area, t.all[i], table, k);
     }
     k
 }

@@ -1,4 +1,5 @@
 -- The glue of switches: laws as the needs ask them. Assumes nothing.
+use Rattle.store.specs.declared.state.Few.{Few}
 use Prim.Native.Nat.{ℕ, suc, ◌+◌, ◌-◌, ◌*◌, ◌≤◌, ◌<◌, ◌^◌}
 use native.Mathlib.Omega.{arith}
 use mathlib.Core.Path.{◌≡◌, refl, sym, ap, ap₂, ◌∙◌}
@@ -29,7 +30,6 @@ use Rattle.store.specs.View.{switch_of}
 use Rattle.store.specs.Order.{Sized}
 use Rattle.store.specs.declared.stored.Stored.{Stored}
 use Rattle.store.specs.declared.state.Switch.{Switch}
-use Rattle.store.specs.declared.state.Switches.{Switches}
 use Rattle.setting.specs.Orders.{sized_next, sized_end}
 use Rattle.conditions.specs.Controls.{scope_setting, controls_few}
 use Rattle.switches.specs.Words.{ons_from, switch_in, ons_are}
@@ -181,7 +181,7 @@ module _ {A B : Type 0} (g : B → Bytes) (h : A → B) (all : List A) (n : ℕ)
   pub eaches_done : n ≤ i → o ≡ w
   eaches_done l = sym (each_none g o) ∙ (rw (sized_end n all s i l) at inv.keeps)
 
-module _ (files area nums : List ℕ) (t : Switches) (a : OfSwitches files area nums t) (i : ℕ) where
+module _ (files area nums : List ℕ) (t : Few Switch) (a : OfSwitches files area nums t) (i : ℕ) where
   pub glues_one : (d : Switch) → i < t.n → OfSwitch files area nums (get_or t.all i d)
   glues_one d h = a.each i h d
 

@@ -1,4 +1,5 @@
 -- The report lines of switches: laws as the needs ask them. Assumes nothing.
+use Rattle.store.specs.declared.state.Few.{Few}
 use Prim.Native.Nat.{ℕ, ◌+◌, ◌-◌, ◌≤◌, ◌<◌, ◌^◌}
 use native.Mathlib.Omega.{arith}
 use mathlib.Core.Path.{◌≡◌, refl, sym}
@@ -20,7 +21,6 @@ use Rattle.texts.specs.Switches.{controlled, switch_line}
 use Rattle.store.specs.Strings.{string}
 use Rattle.store.specs.View.{switch_of}
 use Rattle.store.specs.declared.state.Switch.{Switch}
-use Rattle.store.specs.declared.state.Switches.{Switches}
 use Rattle.switches.specs.Texts.{ArgIs, control_at, pair_text}
 use Rattle.switches.specs.Asked.{OfNames, OfAll, Controlled}
 use Rattle.switches.proofs.Glue.{controls_next, controls_end, Eaches, eaches_next, eaches_done}
@@ -91,7 +91,7 @@ module _ (job mem : Bytes) (scope : List Bytes) (top : Bytes) (w : Switch) (tabl
 
 -- ---- all lines
 
-module _ (files area : List ℕ) (t : Switches) (a : OfAll files area t) (i : ℕ) where
+module _ (files area : List ℕ) (t : Few Switch) (a : OfAll files area t) (i : ℕ) where
   pub lines_one : (d : Switch) → i < t.n → OfNames files area (get_or t.all i d)
   lines_one d h = a.each i h d
 

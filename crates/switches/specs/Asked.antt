@@ -1,4 +1,5 @@
 -- What is asked of stored switches: their strings lie within the memory, their words in the store, and their control ports are few. Assumes nothing.
+use Rattle.store.specs.declared.state.Few.{Few}
 use Rattle.std.specs.Prelude.{ℕ, zero, suc, ◌+◌, ◌*◌, ◌≤◌, ◌<◌, ◌^◌, ◌≡◌, ◌⊎◌, List, [], ◌∷◌, ◌++◌, map, length, take, get_or}
 use Rattle.std.proofs.Common.{arith, eq-or-lt_of_le, ap, ◌∙◌, ⊎_elim, get_or-take, length-take-le}
 use Rattle.text.specs.Ascii.{Bytes}
@@ -16,10 +17,9 @@ use Rattle.store.specs.Rows.{word_at, words_in, store_of}
 use Rattle.store.specs.Tables.{within_get}
 use Rattle.store.specs.declared.stored.Stored.{Stored}
 use Rattle.store.specs.declared.state.Switch.{Switch}
-use Rattle.store.specs.declared.state.Switches.{Switches}
 use Rattle.store.specs.declared.state.State.{State}
 use Rattle.made.specs.Made.{reach_of}
-use Rattle.readfacts.specs.Few.{Few}
+use Rattle.readfacts.specs.Few.{Few as IsFew}
 use Rattle.setting.specs.Orders.{Orders, holds_at, holds_long, switches_hold}
 
 -- n on-states from word k on; `count` rows of a table have control ports and signals
@@ -40,12 +40,12 @@ pub record OfSwitch (files area nums : List ℕ) (w : Switch) : Type 0 where
   pub count : switch_words w ≤ 4032
   pub words : (j : ℕ) → j < switch_words w → reach_of (length files) (word_at nums j) ≤ length (files ++ area)
 
-pub record OfSwitches (files area nums : List ℕ) (t : Switches) : Type 0 where
+pub record OfSwitches (files area nums : List ℕ) (t : Few Switch) : Type 0 where
   pub sized : Sized 32 t.n t.all
   pub each : (i : ℕ) → i < t.n → (d : Switch) → OfSwitch files area nums (get_or t.all i d)
 
 -- of all, without their states
-pub record OfAll (files area : List ℕ) (t : Switches) : Type 0 where
+pub record OfAll (files area : List ℕ) (t : Few Switch) : Type 0 where
   pub sized : Sized 32 t.n t.all
   pub each : (i : ℕ) → i < t.n → (d : Switch) → OfNames files area (get_or t.all i d)
 
@@ -101,7 +101,7 @@ few_at mem ws [] i d b h = absurd (omega arith)
 few_at mem ws (w ∷ l) zero d (one_more p b) h = omega (arith, p, controls_all (length (list (string mem w.controls))) (list (string mem w.controls)) (omega arith))
 few_at mem ws (w ∷ l) (suc i) d (one_more p b) h = few_at mem ws l i d b (omega arith)
 
-few_model : (mem : Bytes) (st : Store) (s : State) → Few 1024 (model_of mem st s []) → Within (λ (w : Switchʳ). length w.controls) 32 (map (switch_of mem st.words) (take s.switches.n s.switches.all))
+few_model : (mem : Bytes) (st : Store) (s : State) → IsFew 1024 (model_of mem st s []) → Within (λ (w : Switchʳ). length w.controls) 32 (map (switch_of mem st.words) (take s.switches.n s.switches.all))
 unfolding model_of
 few_model mem st s f = f.switches
 

@@ -1,6 +1,6 @@
 // When a switch is on, written: one of its on-states.
 ghost use Rattle.std.specs.Prelude.{◌≡◌, ◌++◌, map, ◌≤◌, ◌<◌, ◌^◌, length};
-ghost use Rattle.out.specs.Emit.{◌▸◌, emit};
+ghost use Rattle.out.specs.Text.{Writes};
 ghost use Rattle.out.specs.Items.{joined};
 ghost use Rattle.spans.specs.Span.{bytes};
 ghost use Rattle.nametable.specs.Table.{table_names};
@@ -15,16 +15,14 @@ ghost use Rattle.switches.specs.Asked.{Ons};
 
 use conditions::put_condition;
 use listnames::nth;
-use out::emit::put;
-use out::items::unless;
+use out::emit::Text;
 use spans::span::Span;
 use store::stored::span;
 use store::word::word_at;
 
 // An on-state: its condition in parentheses.
 fn put_one<'a>(
-    out: &mut [u8],
-    at: usize,
+    to: &mut Text,
     job: &[u8],
     files: &'a [u8],
     area: &'a [u8],
@@ -33,20 +31,19 @@ fn put_one<'a>(
     controls: &[u32],
     count: usize,
     v: Span,
-) -> usize
+)
     requires { (length (files.now ++ area.now) < 2 ^ 32) × ((count ≤ 65536) × Whole (length files.now) v) }
-    ensures { out.new ▸ result ≡ emit (out.old ▸ at) (on_text (scope_setting (parts over.now from)) (controls_of (table_names (files.now ++ area.now) controls.now count)) (on_of (bytes (files.now ++ area.now) v))) }
+    ensures { Writes to.old (on_text (scope_setting (parts over.now from)) (controls_of (table_names (files.now ++ area.now) controls.now count)) (on_of (bytes (files.now ++ area.now) v))) to.new }
 {
     let e = nth(files, area, v, 2);
-    let o = put(out, at, b"(");
-    let p = put_condition(out, o, job, files, area, over, from, controls, count, e);
-    put(out, p, b")")
+    to.put(b"(");
+    put_condition(to, job, files, area, over, from, controls, count, e);
+    to.put(b")")
 }
 
 // On-states with a text between them: n from word `first` on.
 fn put_ons<'a>(
-    out: &mut [u8],
-    at: usize,
+    to: &mut Text,
     job: &[u8],
     files: &'a [u8],
     area: &'a [u8],
@@ -58,36 +55,20 @@ fn put_ons<'a>(
     first: usize,
     n: usize,
     sep: &[u8],
-) -> usize
+)
     requires { Ons files.now area.now nums.now first n count }
-    ensures { out.new ▸ result ≡ emit (out.old ▸ at) (joined sep.now (map (on_text (scope_setting (parts over.now from)) (controls_of (table_names (files.now ++ area.now) controls.now count))) (ons_from (files.now ++ area.now) nums.now first n))) }
+    ensures { Writes to.old (joined sep.now (map (on_text (scope_setting (parts over.now from)) (controls_of (table_names (files.now ++ area.now) controls.now count))) (ons_from (files.now ++ area.now) nums.now first n))) to.new }
 {
-    let mut o = at;
-    let mut k = 0;
-    while k < n {
+    for k in 0..n {
         let v = word_at(nums, first + k);
-        o = unless(out, o, k, sep);
-        o = put_one(
-            out,
-            o,
-            job,
-            files,
-            area,
-            over,
-            from,
-            controls,
-            count,
-            span(v),
-        );
-        k += 1;
+        to.unless(k, sep);
+        put_one(to, job, files, area, over, from, controls, count, span(v));
     }
-    o
 }
 
 // When a switch is on: its on-states are n from word `first` on.
 pub fn put_on<'a>(
-    out: &mut [u8],
-    at: usize,
+    to: &mut Text,
     job: &[u8],
     files: &'a [u8],
     area: &'a [u8],
@@ -98,14 +79,14 @@ pub fn put_on<'a>(
     count: usize,
     first: usize,
     n: usize,
-) -> usize
+)
     requires { Ons files.now area.now nums.now first n count }
-    ensures { out.new ▸ result ≡ emit (out.old ▸ at) (ons_text (scope_setting (parts over.now from)) (controls_of (table_names (files.now ++ area.now) controls.now count)) (ons_from (files.now ++ area.now) nums.now first n)) }
+    ensures { Writes to.old (ons_text (scope_setting (parts over.now from)) (controls_of (table_names (files.now ++ area.now) controls.now count)) (ons_from (files.now ++ area.now) nums.now first n)) to.new }
 {
     if n == 0 {
-        return put(out, at, b"1'b0");
+        return to.put(b"1'b0");
     }
     put_ons(
-        out, at, job, files, area, nums, over, from, controls, count, first, n, b" || ",
+        to, job, files, area, nums, over, from, controls, count, first, n, b" || ",
     )
 }

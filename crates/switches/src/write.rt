@@ -1,6 +1,6 @@
 // The glue and the report line of a switch.
 ghost use Rattle.std.specs.Prelude.{◌≡◌, [], ◌++◌, map, ◌+◌, ◌≤◌, ◌<◌, length, take};
-ghost use Rattle.out.specs.Emit.{◌▸◌, emit};
+ghost use Rattle.out.specs.Text.{Writes};
 ghost use Rattle.out.specs.Items.{each, joined};
 ghost use Rattle.tcl.specs.Lists.{list};
 ghost use Rattle.nametable.specs.Table.{table_names};
@@ -23,9 +23,8 @@ use format::fill::{fill3, fill4};
 use listnames::{entries, nth_below};
 use names::put::put_name;
 use nametable::row;
-use out::emit::put;
-use out::items::unless;
-use store::state::{Switch, Switches};
+use out::emit::Text;
+use store::state::{Few, Switch};
 use store::stored::{Stored, span};
 
 // A stored string as an argument.
@@ -45,8 +44,7 @@ fn net_arg<'a>(files: &'a [u8], area: &'a [u8], scope: Stored, v: Stored) -> Arg
 
 // The net of a switch's output.
 fn put_state<'a>(
-    out: &mut [u8],
-    at: usize,
+    to: &mut Text,
     job: &[u8],
     files: &'a [u8],
     area: &'a [u8],
@@ -61,14 +59,13 @@ fn put_state<'a>(
     a: Arg,
     b: Arg,
     d: Arg,
-) -> usize
+)
     requires { Ons files.now area.now nums.now first n count }
-    ensures { out.new ▸ result ≡ emit (out.old ▸ at) (state_text (arg_of job.now (files.now ++ area.now) (parts over.now from) top.now a) (arg_of job.now (files.now ++ area.now) (parts over.now from) top.now b) (ons_text (scope_setting (parts over.now from)) (controls_of (table_names (files.now ++ area.now) controls.now count)) (ons_from (files.now ++ area.now) nums.now first n)) (arg_of job.now (files.now ++ area.now) (parts over.now from) top.now d)) }
+    ensures { Writes to.old (state_text (arg_of job.now (files.now ++ area.now) (parts over.now from) top.now a) (arg_of job.now (files.now ++ area.now) (parts over.now from) top.now b) (ons_text (scope_setting (parts over.now from)) (controls_of (table_names (files.now ++ area.now) controls.now count)) (ons_from (files.now ++ area.now) nums.now first n)) (arg_of job.now (files.now ++ area.now) (parts over.now from) top.now d)) to.new }
 {
     let z = fixed(0);
-    let o = fill4(
-        out,
-        at,
+    fill4(
+        to,
         b"  assign upf__{b} = (",
         job,
         files,
@@ -81,12 +78,11 @@ fn put_state<'a>(
         z,
         d,
     );
-    let p = put_on(
-        out, o, job, files, area, nums, over, from, controls, count, first, n,
+    put_on(
+        to, job, files, area, nums, over, from, controls, count, first, n,
     );
-    let q = fill4(
-        out,
-        p,
+    fill4(
+        to,
         b") ? upf__{a} : ((",
         job,
         files,
@@ -99,12 +95,11 @@ fn put_state<'a>(
         z,
         d,
     );
-    let r = put_on(
-        out, q, job, files, area, nums, over, from, controls, count, first, n,
+    put_on(
+        to, job, files, area, nums, over, from, controls, count, first, n,
     );
-    let s = fill4(
-        out,
-        r,
+    fill4(
+        to,
         b") === 1'b0 ? 1'b0 : 1'bx);\n  always @* upf__{b}_v = (",
         job,
         files,
@@ -117,12 +112,11 @@ fn put_state<'a>(
         z,
         d,
     );
-    let t = put_on(
-        out, s, job, files, area, nums, over, from, controls, count, first, n,
+    put_on(
+        to, job, files, area, nums, over, from, controls, count, first, n,
     );
     fill4(
-        out,
-        t,
+        to,
         b") ? upf__{a}_v : 0.0;\n  logic [1:0] upf_swst__{d} = 2'd3;\n",
         job,
         files,
@@ -139,8 +133,7 @@ fn put_state<'a>(
 
 // The process of a control port.
 fn put_control<'a>(
-    out: &mut [u8],
-    at: usize,
+    to: &mut Text,
     job: &[u8],
     files: &'a [u8],
     area: &'a [u8],
@@ -155,14 +148,13 @@ fn put_control<'a>(
     a: Arg,
     c: Arg,
     d: Arg,
-) -> usize
+)
     requires { Ons files.now area.now nums.now first n count }
-    ensures { out.new ▸ result ≡ emit (out.old ▸ at) (signal_text (arg_of job.now (files.now ++ area.now) (parts over.now from) top.now a) (ons_text (scope_setting (parts over.now from)) (controls_of (table_names (files.now ++ area.now) controls.now count)) (ons_from (files.now ++ area.now) nums.now first n)) (arg_of job.now (files.now ++ area.now) (parts over.now from) top.now c) (arg_of job.now (files.now ++ area.now) (parts over.now from) top.now d)) }
+    ensures { Writes to.old (signal_text (arg_of job.now (files.now ++ area.now) (parts over.now from) top.now a) (ons_text (scope_setting (parts over.now from)) (controls_of (table_names (files.now ++ area.now) controls.now count)) (ons_from (files.now ++ area.now) nums.now first n)) (arg_of job.now (files.now ++ area.now) (parts over.now from) top.now c) (arg_of job.now (files.now ++ area.now) (parts over.now from) top.now d)) to.new }
 {
     let z = fixed(0);
-    let o = fill4(
-        out,
-        at,
+    fill4(
+        to,
         b"  always @({0}) begin\n    if ((",
         job,
         files,
@@ -175,12 +167,11 @@ fn put_control<'a>(
         c,
         d,
     );
-    let p = put_on(
-        out, o, job, files, area, nums, over, from, controls, count, first, n,
+    put_on(
+        to, job, files, area, nums, over, from, controls, count, first, n,
     );
-    let q = fill4(
-        out,
-        p,
+    fill4(
+        to,
         b") === 1'b1) begin if (upf_swst__{c} != 2'd1) $display(\"[UPF] Time: %0t, Power switch '{2}': control '{3}' = %b, state FULL_ON\", $time, {0}); upf_swst__{c} = 2'd1; end\n    else if ((",
         job,
         files,
@@ -193,12 +184,11 @@ fn put_control<'a>(
         c,
         d,
     );
-    let r = put_on(
-        out, q, job, files, area, nums, over, from, controls, count, first, n,
+    put_on(
+        to, job, files, area, nums, over, from, controls, count, first, n,
     );
     fill4(
-        out,
-        r,
+        to,
         b") === 1'b0) begin if (upf_swst__{c} != 2'd0) $display(\"[UPF] Time: %0t, Power switch '{2}': control '{3}' = %b, state OFF\", $time, {0}); upf_swst__{c} = 2'd0; end\n    else begin if (upf_swst__{c} != 2'd2) $display(\"[UPF] Time: %0t, Power switch '{2}': control '{3}' = %b, state UNDETERMINED\", $time, {0}); upf_swst__{c} = 2'd2; end\n  end\n",
         job,
         files,
@@ -215,8 +205,7 @@ fn put_control<'a>(
 
 // The process of the control port in row i.
 fn control_at<'a>(
-    out: &mut [u8],
-    at: usize,
+    to: &mut Text,
     job: &[u8],
     files: &'a [u8],
     area: &'a [u8],
@@ -230,15 +219,14 @@ fn control_at<'a>(
     n: usize,
     c: Arg,
     i: usize,
-) -> usize
+)
     requires { Ons files.now area.now nums.now first n count × (i ≤ 65535) }
-    ensures { out.new ▸ result ≡ emit (out.old ▸ at) (control_text (parts over.now from) (ons_text (scope_setting (parts over.now from)) (controls_of (table_names (files.now ++ area.now) controls.now count)) (ons_from (files.now ++ area.now) nums.now first n)) (arg_of job.now (files.now ++ area.now) (parts over.now from) top.now c) (control_at (files.now ++ area.now) controls.now i)) }
+    ensures { Writes to.old (control_text (parts over.now from) (ons_text (scope_setting (parts over.now from)) (controls_of (table_names (files.now ++ area.now) controls.now count)) (ons_from (files.now ++ area.now) nums.now first n)) (arg_of job.now (files.now ++ area.now) (parts over.now from) top.now c) (control_at (files.now ++ area.now) controls.now i)) to.new }
 {
     let port = row(controls, i);
     let signal = row(controls, i + 1);
     put_control(
-        out,
-        at,
+        to,
         job,
         files,
         area,
@@ -258,8 +246,7 @@ fn control_at<'a>(
 
 // The processes of all control ports.
 fn put_controls<'a>(
-    out: &mut [u8],
-    at: usize,
+    to: &mut Text,
     job: &[u8],
     files: &'a [u8],
     area: &'a [u8],
@@ -272,25 +259,22 @@ fn put_controls<'a>(
     first: usize,
     n: usize,
     c: Arg,
-) -> usize
+)
     requires { Ons files.now area.now nums.now first n count }
-    ensures { out.new ▸ result ≡ emit (out.old ▸ at) (each (control_text (parts over.now from) (ons_text (scope_setting (parts over.now from)) (controls_of (table_names (files.now ++ area.now) controls.now count)) (ons_from (files.now ++ area.now) nums.now first n)) (arg_of job.now (files.now ++ area.now) (parts over.now from) top.now c)) (controls_of (table_names (files.now ++ area.now) controls.now count))) }
+    ensures { Writes to.old (each (control_text (parts over.now from) (ons_text (scope_setting (parts over.now from)) (controls_of (table_names (files.now ++ area.now) controls.now count)) (ons_from (files.now ++ area.now) nums.now first n)) (arg_of job.now (files.now ++ area.now) (parts over.now from) top.now c)) (controls_of (table_names (files.now ++ area.now) controls.now count))) to.new }
 {
-    let mut o = at;
     let mut i = 0;
     while i + 1 < count {
-        o = control_at(
-            out, o, job, files, area, nums, over, from, top, controls, count, first, n, c, i,
+        control_at(
+            to, job, files, area, nums, over, from, top, controls, count, first, n, c, i,
         );
         i += 2;
     }
-    o
 }
 
 // The glue of a switch whose control ports are in a table.
 fn glue_text<'a>(
-    out: &mut [u8],
-    at: usize,
+    to: &mut Text,
     job: &[u8],
     files: &'a [u8],
     area: &'a [u8],
@@ -301,9 +285,9 @@ fn glue_text<'a>(
     controls: &[u32],
     count: usize,
     w: Switch,
-) -> usize
+)
     requires { OfSwitch files.now area.now nums.now w × Controlled (files.now ++ area.now) w controls.now count }
-    ensures { out.new ▸ result ≡ emit (out.old ▸ at) (switch_glue (scope_setting (parts over.now from)) (switch_in (files.now ++ area.now) nums.now w)) }
+    ensures { Writes to.old (switch_glue (scope_setting (parts over.now from)) (switch_in (files.now ++ area.now) nums.now w)) to.new }
 {
     let scope = w.scope;
     let input = w.input;
@@ -314,18 +298,17 @@ fn glue_text<'a>(
     let a = net_arg(files, area, scope, input);
     let b = net_arg(files, area, scope, output);
     let d = string_arg(files, area, named);
-    let o = put_state(
-        out, at, job, files, area, nums, over, from, top, controls, count, first, n, a, b, d,
+    put_state(
+        to, job, files, area, nums, over, from, top, controls, count, first, n, a, b, d,
     );
     put_controls(
-        out, o, job, files, area, nums, over, from, top, controls, count, first, n, d,
+        to, job, files, area, nums, over, from, top, controls, count, first, n, d,
     )
 }
 
 // The glue of a switch.
 fn switch_glue<'a>(
-    out: &mut [u8],
-    at: usize,
+    to: &mut Text,
     job: &[u8],
     files: &'a [u8],
     area: &'a [u8],
@@ -334,22 +317,21 @@ fn switch_glue<'a>(
     from: usize,
     top: &[u8],
     w: Switch,
-) -> usize
+)
     requires { OfSwitch files.now area.now nums.now w }
-    ensures { out.new ▸ result ≡ emit (out.old ▸ at) (switch_glue (scope_setting (parts over.now from)) (switch_in (files.now ++ area.now) nums.now w)) }
+    ensures { Writes to.old (switch_glue (scope_setting (parts over.now from)) (switch_in (files.now ++ area.now) nums.now w)) to.new }
 {
     let mut controls: [u32; 325] = [0; 325];
     let value = w.controls;
     let count = entries(files, area, span(value), &mut controls, 0);
     glue_text(
-        out, at, job, files, area, nums, over, from, top, &controls, count, w,
+        to, job, files, area, nums, over, from, top, &controls, count, w,
     )
 }
 
 // The glue of all switches.
 pub fn switches_glue<'a>(
-    out: &mut [u8],
-    at: usize,
+    to: &mut Text,
     job: &[u8],
     files: &'a [u8],
     area: &'a [u8],
@@ -357,68 +339,53 @@ pub fn switches_glue<'a>(
     over: &[u8],
     from: usize,
     top: &[u8],
-    t: Switches,
-) -> usize
+    t: Few<Switch>,
+)
     requires { OfSwitches files.now area.now nums.now t }
-    ensures { out.new ▸ result ≡ emit (out.old ▸ at) (each (switch_glue (scope_setting (parts over.now from))) (map (switch_in (files.now ++ area.now) nums.now) (take t.n t.all))) }
+    ensures { Writes to.old (each (switch_glue (scope_setting (parts over.now from))) (map (switch_in (files.now ++ area.now) nums.now) (take t.n t.all))) to.new }
 {
     let m = t.n;
-    let mut o = at;
-    let mut i = 0;
-    while i < m {
+    for i in 0..m {
         let w = t.all[i];
-        o = switch_glue(out, o, job, files, area, nums, over, from, top, w);
-        i += 1;
+        switch_glue(to, job, files, area, nums, over, from, top, w);
     }
-    o
 }
 
 // The control port in row i with its signal.
-fn pair_at(
-    out: &mut [u8],
-    at: usize,
-    files: &[u8],
-    area: &[u8],
-    controls: &[u32],
-    i: usize,
-) -> usize
+fn pair_at(to: &mut Text, files: &[u8], area: &[u8], controls: &[u32], i: usize)
     requires { i ≤ 65535 }
-    ensures { out.new ▸ result ≡ emit (out.old ▸ at) (pair_text (control_at (files.now ++ area.now) controls.now i)) }
+    ensures { Writes to.old (pair_text (control_at (files.now ++ area.now) controls.now i)) to.new }
 {
     let port = row(controls, i);
     let signal = row(controls, i + 1);
-    let o = put_name(out, at, files, area, port);
-    let p = put(out, o, b"=");
-    put_name(out, p, files, area, signal)
+    put_name(to, files, area, port);
+    to.put(b"=");
+    put_name(to, files, area, signal)
 }
 
 // The control ports of a switch with their signals, a text between them.
 fn put_controlled(
-    out: &mut [u8],
-    at: usize,
+    to: &mut Text,
     files: &[u8],
     area: &[u8],
     controls: &[u32],
     count: usize,
     sep: &[u8],
-) -> usize
+)
     requires { count ≤ 65536 }
-    ensures { out.new ▸ result ≡ emit (out.old ▸ at) (joined sep.now (map pair_text (controls_of (table_names (files.now ++ area.now) controls.now count)))) }
+    ensures { Writes to.old (joined sep.now (map pair_text (controls_of (table_names (files.now ++ area.now) controls.now count)))) to.new }
 {
-    let mut o = at;
     let mut i = 0;
     while i + 1 < count {
-        o = unless(out, o, i, sep);
-        o = pair_at(out, o, files, area, controls, i);
+        to.unless(i, sep);
+        pair_at(to, files, area, controls, i);
         i += 2;
     }
-    o
 }
 
 // The report line of a switch whose control ports are in a table.
 fn line_text<'a>(
-    out: &mut [u8],
-    at: usize,
+    to: &mut Text,
     job: &[u8],
     files: &'a [u8],
     area: &'a [u8],
@@ -428,9 +395,9 @@ fn line_text<'a>(
     controls: &[u32],
     count: usize,
     w: Switch,
-) -> usize
+)
     requires { OfNames files.now area.now w × Controlled (files.now ++ area.now) w controls.now count }
-    ensures { out.new ▸ result ≡ emit (out.old ▸ at) (switch_line (switch_of (files.now ++ area.now) [] w)) }
+    ensures { Writes to.old (switch_line (switch_of (files.now ++ area.now) [] w)) to.new }
 {
     let scope = w.scope;
     let input = w.input;
@@ -439,9 +406,8 @@ fn line_text<'a>(
     let a = string_arg(files, area, named);
     let b = net_arg(files, area, scope, input);
     let c = net_arg(files, area, scope, output);
-    let o = fill3(
-        out,
-        at,
+    fill3(
+        to,
         b"power switch {0}: {1} -> {2} controlled by ",
         job,
         files,
@@ -453,14 +419,13 @@ fn line_text<'a>(
         b,
         c,
     );
-    let p = put_controlled(out, o, files, area, controls, count, b",");
-    put(out, p, b"\n")
+    put_controlled(to, files, area, controls, count, b",");
+    to.put(b"\n")
 }
 
 // The report line of a switch.
 fn switch_line<'a>(
-    out: &mut [u8],
-    at: usize,
+    to: &mut Text,
     job: &[u8],
     files: &'a [u8],
     area: &'a [u8],
@@ -468,40 +433,33 @@ fn switch_line<'a>(
     from: usize,
     top: &[u8],
     w: Switch,
-) -> usize
+)
     requires { OfNames files.now area.now w }
-    ensures { out.new ▸ result ≡ emit (out.old ▸ at) (switch_line (switch_of (files.now ++ area.now) [] w)) }
+    ensures { Writes to.old (switch_line (switch_of (files.now ++ area.now) [] w)) to.new }
 {
     let mut controls: [u32; 325] = [0; 325];
     let value = w.controls;
     let count = entries(files, area, span(value), &mut controls, 0);
-    line_text(
-        out, at, job, files, area, over, from, top, &controls, count, w,
-    )
+    line_text(to, job, files, area, over, from, top, &controls, count, w)
 }
 
 // The report lines of all switches.
 pub fn switch_lines<'a>(
-    out: &mut [u8],
-    at: usize,
+    to: &mut Text,
     job: &[u8],
     files: &'a [u8],
     area: &'a [u8],
     over: &[u8],
     from: usize,
     top: &[u8],
-    t: Switches,
-) -> usize
+    t: Few<Switch>,
+)
     requires { OfAll files.now area.now t }
-    ensures { out.new ▸ result ≡ emit (out.old ▸ at) (each switch_line (map (switch_of (files.now ++ area.now) []) (take t.n t.all))) }
+    ensures { Writes to.old (each switch_line (map (switch_of (files.now ++ area.now) []) (take t.n t.all))) to.new }
 {
     let m = t.n;
-    let mut o = at;
-    let mut i = 0;
-    while i < m {
+    for i in 0..m {
         let w = t.all[i];
-        o = switch_line(out, o, job, files, area, over, from, top, w);
-        i += 1;
+        switch_line(to, job, files, area, over, from, top, w);
     }
-    o
 }

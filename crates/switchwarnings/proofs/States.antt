@@ -1,4 +1,5 @@
 -- The warnings about on-states, switch by switch: laws as the needs ask them. Assumes nothing.
+use Rattle.store.specs.declared.state.Few.{Few}
 use Prim.Native.Nat.{ℕ, suc, ◌+◌, ◌-◌, ◌*◌, ◌≤◌, ◌<◌, ◌^◌}
 use native.Mathlib.Omega.{arith}
 use mathlib.Core.Path.{◌≡◌, refl, sym, ap, ap₂, ◌∙◌}
@@ -32,7 +33,6 @@ use Rattle.store.specs.View.{on_of, switch_of}
 use Rattle.store.specs.Rows.{word_at}
 use Rattle.store.specs.declared.stored.Stored.{Stored}
 use Rattle.store.specs.declared.state.Switch.{Switch}
-use Rattle.store.specs.declared.state.Switches.{Switches}
 use Rattle.setting.specs.Orders.{sized_next, sized_end}
 use Rattle.switches.specs.Words.{ons_from, switch_in, ons_are, ons_cons, ons_none}
 use Rattle.switches.specs.Texts.{Told, on_remarks, remarks}
@@ -195,15 +195,15 @@ module _ (s : Setting) (mem : Bytes) (nums : List ℕ) (w : Switch) (table : Lis
 abbrev of_switch : Setting → Switchʳ → List Bytes
 of_switch s w = flat_map (on_warnings s w) w.on_states
 
-pub record AllTold (s : Setting) (mem : Bytes) (nums : List ℕ) (t : Switches) (o₀ : Out) (n₀ : ℕ) (o : Out) (m i : ℕ) : Type 0 where
+pub record AllTold (s : Setting) (mem : Bytes) (nums : List ℕ) (t : Few Switch) (o₀ : Out) (n₀ : ℕ) (o : Out) (m i : ℕ) : Type 0 where
   pub remarked : Remarks (λ (w : Switchʳ). flat_map (on_warnings s w) w.on_states) (map (switch_in mem nums) (take t.n t.all)) (map (switch_in mem nums) (drop i (take t.n t.all))) o₀ n₀ o m
   pub few : m ≤ n₀ + i * 2 ^ 48
   pub low : n₀ ≤ 2 ^ 58
 
-pub all_start : (s : Setting) (mem : Bytes) (nums : List ℕ) (t : Switches) (o : Out) (m : ℕ) → m ≤ 2 ^ 58 → AllTold s mem nums t o m o m 0
+pub all_start : (s : Setting) (mem : Bytes) (nums : List ℕ) (t : Few Switch) (o : Out) (m : ℕ) → m ≤ 2 ^ 58 → AllTold s mem nums t o m o m 0
 all_start s mem nums t o m h = record { remarked = record { text = refl; count = refl }; few = omega arith; low = h }
 
-module _ (files area nums : List ℕ) (t : Switches) (a : OfSwitches files area nums t) (s : Setting) (o₀ : Out) (n₀ : ℕ) (o : Out) (m i : ℕ) (inv : AllTold s (files ++ area) nums t o₀ n₀ o m i) where
+module _ (files area nums : List ℕ) (t : Few Switch) (a : OfSwitches files area nums t) (s : Setting) (o₀ : Out) (n₀ : ℕ) (o : Out) (m i : ℕ) (inv : AllTold s (files ++ area) nums t o₀ n₀ o m i) where
   pub all_one : (d : Switch) → i < t.n → OfSwitch files area nums (get_or t.all i d)
   all_one d h = a.each i h d
 

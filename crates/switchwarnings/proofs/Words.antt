@@ -1,10 +1,11 @@
 -- The warnings about a condition: laws as the needs ask them. Assumes nothing.
+use Rattle.std.specs.Prelude.{Option}
 use Prim.Native.Nat.{ℕ, ◌+◌, ◌≤◌, ◌<◌, ◌^◌}
 use native.Mathlib.Omega.{arith}
 use mathlib.Core.Path.{◌≡◌, refl, sym, ap, ◌∙◌}
 use mathlib.Core.Bool.{Bool, true, false}
 use mathlib.Core.List.{List, [], ◌∷◌, ◌++◌}
-use mathlib.Core.Option.{none, some}
+use Rattle.std.specs.Prelude.{None, Some}
 use lib.ListN.{length, take, drop, length-append}
 use borrow.Author.Tests.{eq-eqb, ne_eqb}
 use Rattle.text.specs.Ascii.{Bytes, ascii}
@@ -16,8 +17,6 @@ use Rattle.out.specs.Items.{each, each_none}
 use Rattle.tcl.specs.Substitution.{no_variable}
 use Rattle.names.specs.Name.{name_of, step_of}
 use Rattle.names.specs.declared.name.Name.{Name}
-use Rattle.names.specs.declared.name.Step.{Step}
-use Rattle.names.specs.declared.name.Step.TheVariants.{Byte, End}
 use Rattle.nametable.specs.Table.{row_name, table_names}
 use Rattle.paths.specs.Sizes.{name_short}
 use Rattle.refs.specs.Text.{text_of, front_ref}
@@ -70,22 +69,22 @@ module _ (job mem : Bytes) (scope : List Bytes) (table : List ℕ) (count k : �
   port_is : text_of job mem w ≡ take k (name_of mem x)
   port_is = rw ew (front_is job mem x k)
 
-  signal_seen : signal_of (scope_setting scope) (controls_of (table_names mem table count)) (take k (name_of mem x)) none ≡ hier_of (scope_setting scope) (signal_at mem table r)
-  signal_seen = ap (λ (p : Bytes). signal_of (scope_setting scope) (controls_of (table_names mem table count)) p none) (sym port_is) ∙ seen_signal scope mem table count (text_of job mem w) r seen
+  signal_seen : signal_of (scope_setting scope) (controls_of (table_names mem table count)) (take k (name_of mem x)) None ≡ hier_of (scope_setting scope) (signal_at mem table r)
+  signal_seen = ap (λ (p : Bytes). signal_of (scope_setting scope) (controls_of (table_names mem table count)) p None) (sym port_is) ∙ seen_signal scope mem table count (text_of job mem w) r seen
 
-  pub warn_known : (r ≡ 0 → ⊥) → Told 1 o n (unless_known (signal_of (scope_setting scope) (controls_of (table_names mem table count)) (take k (name_of mem x)) none) (take k (name_of mem x))) o n
+  pub warn_known : (r ≡ 0 → ⊥) → Told 1 o n (unless_known (signal_of (scope_setting scope) (controls_of (table_names mem table count)) (take k (name_of mem x)) None) (take k (name_of mem x))) o n
   warn_known h =
-      let z : signal_of (scope_setting scope) (controls_of (table_names mem table count)) (take k (name_of mem x)) none ≡ some (element_path scope (name_of mem (row_name table r))) = signal_seen ∙ rw (ne_eqb r 0 h) in
+      let z : signal_of (scope_setting scope) (controls_of (table_names mem table count)) (take k (name_of mem x)) None ≡ Some (element_path scope (name_of mem (row_name table r))) = signal_seen ∙ rw (ne_eqb r 0 h) in
       rw z (told_none 1 o n)
 
   module _ (h : r ≡ 0) (t : Bool) (et : t ≡ all is_digit (take k (name_of mem x))) where
-    no_signal_lem : signal_of (scope_setting scope) (controls_of (table_names mem table count)) (take k (name_of mem x)) none ≡ none
+    no_signal_lem : signal_of (scope_setting scope) (controls_of (table_names mem table count)) (take k (name_of mem x)) None ≡ None
     no_signal_lem = signal_seen ∙ rw (eq-eqb r 0 h)
 
-    pub warn_number : t ≡ true → Told 1 o n (unless_known (signal_of (scope_setting scope) (controls_of (table_names mem table count)) (take k (name_of mem x)) none) (take k (name_of mem x))) o n
+    pub warn_number : t ≡ true → Told 1 o n (unless_known (signal_of (scope_setting scope) (controls_of (table_names mem table count)) (take k (name_of mem x)) None) (take k (name_of mem x))) o n
     warn_number d = rw (no_signal_lem, ← et, d) (told_none 1 o n)
 
-    pub warn_unknown : (top : Bytes) (o' : Out) (a : Arg) → o' ≡ emit o (fill (ascii "warning: power switch state uses unknown control port '{0}'\n") (arg_of job mem scope top a) [] [] [] []) → a ≡ wrapped_arg 0 w → t ≡ false → Told 1 o n (unless_known (signal_of (scope_setting scope) (controls_of (table_names mem table count)) (take k (name_of mem x)) none) (take k (name_of mem x))) o' (n + 1)
+    pub warn_unknown : (top : Bytes) (o' : Out) (a : Arg) → o' ≡ emit o (fill (ascii "warning: power switch state uses unknown control port '{0}'\n") (arg_of job mem scope top a) [] [] [] []) → a ≡ wrapped_arg 0 w → t ≡ false → Told 1 o n (unless_known (signal_of (scope_setting scope) (controls_of (table_names mem table count)) (take k (name_of mem x)) None) (take k (name_of mem x))) o' (n + 1)
     warn_unknown top o' a e ea d =
         let z : arg_of job mem scope top a ≡ take k (name_of mem x) = rw ea (plain_arg job mem scope top w ∙ port_is) in
         rw (no_signal_lem, ← et, d) (told_one o o' n (format1 "power switch state uses unknown control port '{0}'" (take k (name_of mem x))) (e ∙ ap (λ (y : Bytes). emit o (fill (ascii "warning: power switch state uses unknown control port '{0}'\n") y [] [] [] [])) z ∙ word_pieces o (take k (name_of mem x))))
@@ -104,14 +103,14 @@ module _ (s : Setting) (cs : List Control) (mem : Bytes) (e : Name) (o₀ : Out)
   pub warns_low : n₀ ≤ 2 ^ 61 → n ≤ 2 ^ 62
   warns_low h = omega (arith, inv.count, inv.most)
 
-  module _ (p : Step) (g : name_of mem x ≡ step_of mem p) where
-    pub warns_end : p ≡ End → Told (2 ^ 34) o₀ n₀ (unknowns s cs 0 (name_of mem e)) o n
+  module _ (p : Option (ℕ × Name)) (g : name_of mem x ≡ step_of mem p) where
+    pub warns_end : p ≡ None → Told (2 ^ 34) o₀ n₀ (unknowns s cs 0 (name_of mem e)) o n
     warns_end h =
         let z : unknowns s cs 0 (name_of mem x) ≡ [] = ap (unknowns s cs 0) (g ∙ rw h) ∙ unknowns_none s cs 0 [] in
         let c : n + 0 ≡ n₀ + length (unknowns s cs 0 (name_of mem e)) = rw z at inv.count in
         record { text = sym (each_none warning_line o) ∙ (rw z at inv.text); count = omega (arith, c); few = omega (arith, c, inv.most) }
 
-    module _ (b : ℕ) (u : Name) (h : p ≡ Byte b u) (t : Bool) (et : t ≡ is_variable b) where
+    module _ (b : ℕ) (u : Name) (h : p ≡ Some (b, u)) (t : Bool) (et : t ≡ is_variable b) where
       at_byte : name_of mem x ≡ b ∷ name_of mem u
       at_byte = g ∙ rw h
 
@@ -127,9 +126,9 @@ module _ (s : Setting) (cs : List Control) (mem : Bytes) (e : Name) (o₀ : Out)
         pub warns_less : length (name_of mem y) < length (name_of mem x)
         warns_less = rw (ey, at_byte) (word_shorter s cs b (name_of mem u) (sym et ∙ d) k size_is)
 
-        pub warns_over : (o' : Out) (n' : ℕ) → Told 1 o n (unless_known (signal_of s cs (take k (name_of mem x)) none) (take k (name_of mem x))) o' n' → Warns s cs mem e o₀ n₀ o' n' y
+        pub warns_over : (o' : Out) (n' : ℕ) → Told 1 o n (unless_known (signal_of s cs (take k (name_of mem x)) None) (take k (name_of mem x))) o' n' → Warns s cs mem e o₀ n₀ o' n' y
         warns_over o' n' w =
-            let v = unless_known (signal_of s cs (take k (name_of mem x)) none) (take k (name_of mem x)) in
+            let v = unless_known (signal_of s cs (take k (name_of mem x)) None) (take k (name_of mem x)) in
             let l = unknowns s cs 0 (name_of mem y) in
             let z : unknowns s cs 0 (name_of mem x) ≡ v ++ l = rw (ey, at_byte) (unknowns_word s cs b (name_of mem u) (sym et ∙ d) k size_is) in
             let c : n + length (v ++ l) ≡ n₀ + length (unknowns s cs 0 (name_of mem e)) = rw z at inv.count in

@@ -2,10 +2,10 @@
 #![tactic(auto)]
 
 ghost use mathlib.Core.List.{[], ◌∷◌, ◌++◌, map, flat_map};
-ghost use Rattle.std.proofs.Math.Option.{none};
-ghost use Rattle.std.specs.Prelude.{◌≤◌, ◌<◌, ◌^◌, length, take};
-ghost use Rattle.out.specs.Emit.{◌▸◌};
-ghost use Rattle.out.specs.Fill.{format3};
+ghost use Rattle.std.specs.Prelude.{None, true, ◌≡◌, ◌≤◌, ◌<◌, ◌^◌, length, take};
+ghost use Rattle.out.specs.Emit.{◌▸◌, emit};
+ghost use Rattle.out.specs.Fill.{format3, fill, is_template};
+ghost use Rattle.format.specs.Args.{arg_of};
 ghost use Rattle.spans.specs.Span.{bytes};
 ghost use Rattle.tcl.specs.Lists.{list};
 ghost use Rattle.names.specs.Name.{name_of};
@@ -23,14 +23,15 @@ ghost use Rattle.switchwarnings.specs.Asked.{Reads};
 
 use clamps::stored;
 use conditions::{behind, control, is_number, word_size};
-use format::arg::{name, wrapped};
+use format::arg::{Arg, name, wrapped};
 use format::fill::{fill1, fill3};
 use listnames::{entries, nth};
 use names::compare::same_names;
-use names::name::{Name, Step, next};
+use names::name::{Name, next};
+use out::emit::Text;
 use refs::front;
 use spans::span::Span;
-use store::state::{Switch, Switches};
+use store::state::{Few, Switch};
 use store::stored::{Stored, span};
 use store::word::word_at;
 use text::class::is_variable;
@@ -41,6 +42,50 @@ use text::part::wide;
 pub struct Warned {
     pub at: usize,
     pub count: usize,
+}
+
+// Writes the template t with an argument in its places into out behind `at`.
+fn put1(
+    out: &mut [u8],
+    at: usize,
+    t: &[u8],
+    job: &[u8],
+    files: &[u8],
+    area: &[u8],
+    over: &[u8],
+    from: usize,
+    top: &[u8],
+    a: Arg,
+) -> usize
+    requires { is_template 1 t.now ≡ true }
+    ensures { out.new ▸ result ≡ emit (out.old ▸ at) (fill t.now (arg_of job.now (files.now ++ area.now) (parts over.now from) top.now a) [] [] [] []) }
+{
+    let mut to = Text::over(out, at);
+    fill1(&mut to, t, job, files, area, over, from, top, a);
+    to.end()
+}
+
+// Writes the template t with three arguments in its places into out behind `at`.
+fn put3(
+    out: &mut [u8],
+    at: usize,
+    t: &[u8],
+    job: &[u8],
+    files: &[u8],
+    area: &[u8],
+    over: &[u8],
+    from: usize,
+    top: &[u8],
+    a: Arg,
+    b: Arg,
+    c: Arg,
+) -> usize
+    requires { is_template 3 t.now ≡ true }
+    ensures { out.new ▸ result ≡ emit (out.old ▸ at) (fill t.now (arg_of job.now (files.now ++ area.now) (parts over.now from) top.now a) (arg_of job.now (files.now ++ area.now) (parts over.now from) top.now b) (arg_of job.now (files.now ++ area.now) (parts over.now from) top.now c) [] []) }
+{
+    let mut to = Text::over(out, at);
+    fill3(&mut to, t, job, files, area, over, from, top, a, b, c);
+    to.end()
 }
 
 // The warning about a word of k bytes, where there is one.
@@ -59,7 +104,7 @@ fn word_warning<'a>(
     k: usize,
 ) -> Warned
     requires { (count ≤ 65536) × (at.count ≤ 2 ^ 62) }
-    ensures { Told (1) (out.old ▸ at.at) at.count (unless_known (signal_of (scope_setting (parts over.now from)) (controls_of (table_names (files.now ++ area.now) controls.now count)) (take k (name_of (files.now ++ area.now) x)) none) (take k (name_of (files.now ++ area.now) x))) (out.new ▸ result.at) result.count }
+    ensures { Told (1) (out.old ▸ at.at) at.count (unless_known (signal_of (scope_setting (parts over.now from)) (controls_of (table_names (files.now ++ area.now) controls.now count)) (take k (name_of (files.now ++ area.now) x)) None) (take k (name_of (files.now ++ area.now) x))) (out.new ▸ result.at) result.count }
 {
     let w = front(x, k);
     let r = control(job, files, area, controls, count, w);
@@ -69,7 +114,7 @@ fn word_warning<'a>(
     if is_number(files, area, x, k) {
         return at;
     }
-    let p = fill1(
+    let p = put1(
         out,
         at.at,
         b"warning: power switch state uses unknown control port '{0}'\n",
@@ -106,22 +151,18 @@ fn condition_warnings<'a>(
 {
     let mut o = at;
     let mut x = e;
-    loop {
-        match next(files, area, x) {
-            Step::End => return o,
-            Step::Byte(b, u) => {
-                if is_variable(b) {
-                    let k = word_size(files, area, x);
-                    o = word_warning(
-                        out, o, job, files, area, over, from, top, controls, count, x, k,
-                    );
-                    x = behind(files, area, x, k);
-                    continue;
-                }
-                x = u;
-            }
+    while let Some((b, u)) = next(files, area, x) {
+        if is_variable(b) {
+            let k = word_size(files, area, x);
+            o = word_warning(
+                out, o, job, files, area, over, from, top, controls, count, x, k,
+            );
+            x = behind(files, area, x, k);
+            continue;
         }
+        x = u;
     }
+    o
 }
 
 // The warning about another port than the input's.
@@ -141,7 +182,7 @@ fn port_warning(
     requires { at.count ≤ 2 ^ 62 }
     ensures { Told (1) (out.old ▸ at.at) at.count (format3 "power switch '{0}': on_state uses input port '{1}' (expected '{2}')" (string (files.now ++ area.now) named) (name_of (files.now ++ area.now) port) (name_of (files.now ++ area.now) expected) ∷ []) (out.new ▸ result.at) result.count }
 {
-    let p = fill3(
+    let p = put3(
         out,
         at.at,
         b"warning: power switch '{0}': on_state uses input port '{1}' (expected '{2}')\n",
@@ -218,8 +259,7 @@ fn ons_warnings<'a>(
     let first = wide(w.first);
     let n = wide(w.ons);
     let mut o = at;
-    let mut k = 0;
-    while k < n {
+    for k in 0..n {
         let v = word_at(nums, first + k);
         o = state_warnings(
             out,
@@ -235,7 +275,6 @@ fn ons_warnings<'a>(
             w,
             span(v),
         );
-        k += 1;
     }
     o
 }
@@ -275,18 +314,14 @@ pub fn switch_warnings<'a>(
     over: &[u8],
     from: usize,
     top: &[u8],
-    t: Switches,
+    t: Few<Switch>,
 ) -> Warned
     requires { OfSwitches files.now area.now nums.now t × (at.count ≤ 2 ^ 58) }
     ensures { Told (2 ^ 54) (out.old ▸ at.at) at.count (remarks (scope_setting (parts over.now from)) (map (switch_in (files.now ++ area.now) nums.now) (take t.n t.all))) (out.new ▸ result.at) result.count }
 {
-    let m = t.n;
     let mut o = at;
-    let mut i = 0;
-    while i < m {
-        let w = t.all[i];
-        o = of_switch(out, o, job, files, area, nums, over, from, top, w);
-        i += 1;
+    for i in 0..t.n {
+        o = of_switch(out, o, job, files, area, nums, over, from, top, t.all[i]);
     }
     o
 }

@@ -1,14 +1,14 @@
 -- add_pst_state: the first table of a name, and what the command does. Assumes nothing.
-use Rattle.std.specs.Prelude.{ℕ, zero, suc, ◌+◌, ◌≤◌, ◌<◌, ◌≡◌, Bool, List, [], ◌∷◌, ◌++◌, length, get_or, set, take}
+use Rattle.store.specs.declared.state.Few.{Few}
+use Rattle.std.specs.Prelude.{Option}
+use Rattle.std.specs.Prelude.{ℕ, zero, suc, ◌+◌, ◌≤◌, ◌<◌, ◌≡◌, Bool, List, [], ◌∷◌, ◌++◌, length, get_or, set, take, None, Some}
 use Rattle.std.proofs.Common.{arith, ◌∙◌, length-take-le}
 use Rattle.std.proofs.Math.Nat.{zero-add}
 use Rattle.std.proofs.Math.Path.{refl, sym, ap}
-use Rattle.std.proofs.Math.Option.{none, some}
 use Rattle.text.specs.Ascii.{Bytes, ascii}
 use Rattle.text.specs.Compare.{same}
 use Rattle.spans.specs.Reach.{reach, none_reach}
 use Rattle.spans.specs.declared.span.Span.{Span}
-use Rattle.spans.specs.declared.span.Found.{Found}
 use Rattle.tcl.specs.Arguments.{option_of, name_of}
 use Rattle.args.specs.View.{words_from, Reads, Finds}
 use Rattle.model.specs.Records.{Model, Table as Tableʳ, with_tables}
@@ -23,7 +23,6 @@ use Rattle.store.specs.Rowed.{rowed, state_view, row_shaped, row_bounded}
 use Rattle.store.specs.declared.stored.Stored.{Stored}
 use Rattle.store.specs.declared.row.Row.{Row}
 use Rattle.store.specs.declared.state.Table.{Table}
-use Rattle.store.specs.declared.state.Tables.{Tables}
 use Rattle.store.specs.declared.state.State.{State}
 use Rattle.made.specs.declared.Made.{Made}
 use Rattle.made.specs.declared.Brief.{Brief}
@@ -74,7 +73,7 @@ module _ (long : ℕ) (mem : Bytes) (words : List ℕ) (n : ℕ) (st : Store) (l
   count = numbered_length (table_of mem st.rows) 0 kept ∙ kept_long
 
   -- the code finds the table that is meant
-  module _ (o : Found) (x : Stored) (a : Finds mem words n (option_of (ascii "-pst") ws) o) (e : x ≡ found_or o) where
+  module _ (o : Option Span) (x : Stored) (a : Finds mem words n (option_of (ascii "-pst") ws) o) (e : x ≡ found_or o) where
     name_is : string mem x ≡ table_named ws
     name_is = rw e (or_found mem words n (option_of (ascii "-pst") ws) o a)
 
@@ -86,7 +85,7 @@ module _ (long : ℕ) (mem : Bytes) (words : List ℕ) (n : ℕ) (st : Store) (l
       told_none : s.tables.n ≤ i → table_state_command now ws ≡ warned now (text_of 6 (string mem x))
       unfolding table_state_command text_of
       told_none h =
-          let q : on_first (named ws) (with_state ws) now.tables ≡ none = first_miss (named ws) (with_state ws) now.tables (omega (arith, count, first_is)) in
+          let q : on_first (named ws) (with_state ws) now.tables ≡ None = first_miss (named ws) (with_state ws) now.tables (omega (arith, count, first_is)) in
           rw (q, name_is)
 
       pub state_warned : (m : Made) → s.tables.n ≤ i → m ≡ warned_made s 6 x → Did long mem st log s m (table_state_command now ws)
@@ -95,7 +94,7 @@ module _ (long : ℕ) (mem : Bytes) (words : List ℕ) (n : ℕ) (st : Store) (l
           (did_warn long mem st log s v.shaped v.bounded 6 x (omega arith) (omega arith)
           (rw e (omega (arith, found_by_lem mem words n (reach long) (none_reach long) (option_of (ascii "-pst") ws) o a, v.line))))
 
-      module _ (z : Table) (h : i < s.tables.n) (r : Span) (g : Found) (b : Reads mem words n (name_of ws) r) (q : Finds mem words n (option_of (ascii "-state") ws) g) where
+      module _ (z : Table) (h : i < s.tables.n) (r : Span) (g : Option Span) (b : Reads mem words n (name_of ws) r) (q : Finds mem words n (option_of (ascii "-state") ws) g) where
         abbrev row : Row
         row = record { kind = 2; scope = record { at = i; len = 0 }; name = stored_of r; value = found_or g }
 
@@ -107,7 +106,7 @@ module _ (long : ℕ) (mem : Bytes) (words : List ℕ) (n : ℕ) (st : Store) (l
         unfolding table_state_command
         told_some =
             let k : first_at (named ws) now.tables ≡ i = first_is ∙ sym f in
-            let p : on_first (named ws) (with_state ws) now.tables ≡ some (set now.tables (first_at (named ws) now.tables) (with_state ws (get_or now.tables (first_at (named ws) now.tables) (table_of mem st.rows i z)))) = first_hit (named ws) (with_state ws) now.tables (table_of mem st.rows i z) (omega (arith, count, k)) in
+            let p : on_first (named ws) (with_state ws) now.tables ≡ Some (set now.tables (first_at (named ws) now.tables) (with_state ws (get_or now.tables (first_at (named ws) now.tables) (table_of mem st.rows i z)))) = first_hit (named ws) (with_state ws) now.tables (table_of mem st.rows i z) (omega (arith, count, k)) in
             rw (p, k, at_is)
 
         row_view : model_of mem (rowed st row) (row_counted s) log ≡ table_state_command now ws
@@ -126,7 +125,7 @@ module _ (long : ℕ) (mem : Bytes) (words : List ℕ) (n : ℕ) (st : Store) (l
             (record { kind = omega arith; at = omega (arith, v.shaped.tables.count); len = omega arith }))
 
 -- ---- its deed
-module _ (files area : Bytes) (words : List ℕ) (n : ℕ) (b : Brief) (t : Tables) (o : Found) (x : Stored) (i : ℕ) where
+module _ (files area : Bytes) (words : List ℕ) (n : ℕ) (b : Brief) (t : Few Table) (o : Option Span) (x : Stored) (i : ℕ) where
   abbrev all_words : List Bytes
   all_words = words_from (files ++ area) words n 1
 
@@ -139,7 +138,7 @@ module _ (files area : Bytes) (words : List ℕ) (n : ℕ) (b : Brief) (t : Tabl
       let h' : s.tables.n ≤ i = rw k.1 h in
       record { fits = tt; did = λ st log v. state_warned (length files) (files ++ area) words n st log s v o x a e i f' (warned_made s 6 x) h' refl }
 
-  pub states_more : (r : Span) (g : Found) (y w : Stored) → Finds (files ++ area) words n (option_of (ascii "-pst") all_words) o → x ≡ found_or o → i ≡ first_at (is_named (files ++ area) x) (take t.n t.all) → i < t.n → Reads (files ++ area) words n (name_of all_words) r → Finds (files ++ area) words n (option_of (ascii "-state") all_words) g → y ≡ stored_of r → w ≡ found_or g → Does files area words n (λ (s : State). (brief_of s ≡ b) × (s.tables ≡ t)) (deed.Row (record { kind = 2; scope = record { at = i; len = 0 }; name = y; value = w })) does
+  pub states_more : (r : Span) (g : Option Span) (y w : Stored) → Finds (files ++ area) words n (option_of (ascii "-pst") all_words) o → x ≡ found_or o → i ≡ first_at (is_named (files ++ area) x) (take t.n t.all) → i < t.n → Reads (files ++ area) words n (name_of all_words) r → Finds (files ++ area) words n (option_of (ascii "-state") all_words) g → y ≡ stored_of r → w ≡ found_or g → Does files area words n (λ (s : State). (brief_of s ≡ b) × (s.tables ≡ t)) (deed.Row (record { kind = 2; scope = record { at = i; len = 0 }; name = y; value = w })) does
   states_more r g y w a e f h p q ey ew s k =
       let f' : i ≡ first_at (is_named (files ++ area) x) (take s.tables.n s.tables.all) = rw k.1 f in
       let h' : i < s.tables.n = rw k.1 h in

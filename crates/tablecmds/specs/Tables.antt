@@ -1,4 +1,5 @@
 -- create_pst: what its words come to, and what it does. Assumes nothing.
+use Rattle.std.specs.Prelude.{Option, Some, None}
 use Rattle.std.specs.Prelude.{ℕ, ◌+◌, ◌≤◌, ◌<◌, max, ◌≡◌, Bool, eqb, length, take}
 use Rattle.std.proofs.Common.{arith, sym, ap, ◌∙◌}
 use Rattle.std.proofs.Math.Path.{refl}
@@ -10,7 +11,6 @@ use Rattle.text.specs.Ascii.{Bytes, ascii}
 use Rattle.spans.specs.Span.{◌⋯◌, pairs}
 use Rattle.spans.specs.Reach.{last_of, reach, none_reach}
 use Rattle.spans.specs.declared.span.Span.{Span}
-use Rattle.spans.specs.declared.span.Found.{Found}
 use Rattle.tcl.specs.Arguments.{option_of, name_of}
 use Rattle.args.specs.View.{words_from, Reads, Finds}
 use Rattle.model.specs.Scope.{scoped}
@@ -61,7 +61,7 @@ module _ (mem : Bytes) (n k : ℕ) (h : n ≤ k) where
   none_yet (one_more {x = r} {xs = rows} p b) = rw (row_none r p (eqb r.kind 2) refl, none_yet b)
 
 module _ (mem : Bytes) (words : List ℕ) (n : ℕ) (scope : Stored) where
-  pub table_is : (r : Span) (x : Stored) (f : Found) (y : Stored) → Reads mem words n (name_of (words_from mem words n 1)) r → x ≡ stored_of r → Finds mem words n (option_of (ascii "-supplies") (words_from mem words n 1)) f → y ≡ found_or f → TableIs mem words n scope (record { name = x; scope = scope; supplies = y })
+  pub table_is : (r : Span) (x : Stored) (f : Option Span) (y : Stored) → Reads mem words n (name_of (words_from mem words n 1)) r → x ≡ stored_of r → Finds mem words n (option_of (ascii "-supplies") (words_from mem words n 1)) f → y ≡ found_or f → TableIs mem words n scope (record { name = x; scope = scope; supplies = y })
   table_is r x f y p e q g =
       rw (e, g)
       (record {

@@ -17,7 +17,7 @@ use args::argument::{name, option};
 use made::{Brief, Deed};
 use spans::span::same_spans;
 use store::row::Row;
-use store::state::{Table, Tables};
+use store::state::{Few, Table};
 use store::stored::{Stored, narrow, or_empty, span};
 
 // The table that the words of a command name.
@@ -42,27 +42,18 @@ pub fn create_pst<'a>(files: &'a [u8], area: &'a [u8], words: &[u32], n: usize, 
     if 32 <= b.tables {
         return Deed::Full;
     }
-    let scope = b.scope;
-    let t = table(files, area, words, n, scope);
-    Deed::Table(t)
+    Deed::Table(table(files, area, words, n, b.scope))
 }
 
 // The first table of the name; the number of tables where there is none.
-fn find_table<'a>(files: &'a [u8], area: &'a [u8], t: Tables, name: Stored) -> usize
+fn find_table<'a>(files: &'a [u8], area: &'a [u8], t: Few<Table>, name: Stored) -> usize
     requires { t.n ≤ 32 }
     ensures { result ≡ first_at (is_named (files.now ++ area.now) name) (take t.n t.all) }
 {
-    let n = t.n;
-    let mut i = 0;
-    while i < n {
-        let x = t.all[i];
-        let named = x.name;
-        if same_spans(files, area, span(named), span(name)) {
-            return i;
-        }
-        i += 1;
-    }
-    n
+    t.all[..t.n]
+        .iter()
+        .position(|x| same_spans(files, area, span(x.name), span(name)))
+        .unwrap_or(t.n)
 }
 
 // A state of the first table of the name, as a row, or a warning.
@@ -72,7 +63,7 @@ pub fn add_pst_state<'a>(
     words: &[u32],
     n: usize,
     b: Brief,
-    t: Tables,
+    t: Few<Table>,
 ) -> Deed
     requires { Line words.now n × (t.n ≤ 32) }
     ensures { Does files.now area.now words.now n (λ (s : State). (brief_of s ≡ b) × (s.tables ≡ t)) result (λ (m : Model). table_state_command m (words_from (files.now ++ area.now) words.now n 1)) }

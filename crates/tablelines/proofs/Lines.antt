@@ -1,4 +1,5 @@
 -- The lines of tables: laws as the needs ask them. Assumes nothing.
+use Rattle.store.specs.declared.state.Few.{Few}
 use Prim.Native.Nat.{ℕ, zero, suc, ◌+◌, ◌-◌, ◌≤◌, ◌<◌}
 use mathlib.Core.Path.{◌≡◌, refl, sym, ap, ◌∙◌}
 use mathlib.Core.List.{List, [], ◌∷◌, ◌++◌, flat_map}
@@ -22,7 +23,6 @@ use Rattle.store.specs.View.{list_below, states_of, table_of, numbered}
 use Rattle.store.specs.Order.{Within, one_more, of_table}
 use Rattle.store.specs.Rows.{rows_in}
 use Rattle.store.specs.declared.state.Table.{Table}
-use Rattle.store.specs.declared.state.Tables.{Tables}
 use Rattle.made.specs.Made.{reach_of}
 use Rattle.readfacts.specs.Few.{most_values}
 use Rattle.setting.specs.Orders.{holds_few, holds_long, holds_at, holds_next, holds_end}
@@ -80,18 +80,18 @@ numbered_none : {A B : Type 0} (f : ℕ → A → B) (k : ℕ) → numbered f k 
 unfolding numbered
 numbered_none f k = refl
 
-pub record Lines (mem : Bytes) (nums : List ℕ) (rows : ℕ) (t : Tables) (w o : Out) (i : ℕ) : Type 0 where
+pub record Lines (mem : Bytes) (nums : List ℕ) (rows : ℕ) (t : Few Table) (w o : Out) (i : ℕ) : Type 0 where
   pub keeps : emit o (each table_line (numbered (table_of mem (rows_in nums rows)) i (drop i (take t.n t.all)))) ≡ w
 
-pub lines_start : (mem : Bytes) (nums : List ℕ) (rows : ℕ) (t : Tables) (o : Out) → Lines mem nums rows t (emit o (each table_line (numbered (table_of mem (rows_in nums rows)) 0 (take t.n t.all)))) o 0
+pub lines_start : (mem : Bytes) (nums : List ℕ) (rows : ℕ) (t : Few Table) (o : Out) → Lines mem nums rows t (emit o (each table_line (numbered (table_of mem (rows_in nums rows)) 0 (take t.n t.all)))) o 0
 lines_start mem nums rows t o = record { keeps = refl }
 
-pub few_tables : (files area : Bytes) (nums : List ℕ) (rows : ℕ) (t : Tables) → OfTables files area nums rows t → t.n ≤ 32
+pub few_tables : (files area : Bytes) (nums : List ℕ) (rows : ℕ) (t : Few Table) → OfTables files area nums rows t → t.n ≤ 32
 few_tables files area nums rows t g = holds_few (of_table (reach_of (length files))) (length (files ++ area)) t.n t.all g.holds
 
 pub ruleset indices = (rules, few_tables)
 
-module _ (files area : Bytes) (nums : List ℕ) (rows : ℕ) (t : Tables) (g : OfTables files area nums rows t) (i : ℕ) where
+module _ (files area : Bytes) (nums : List ℕ) (rows : ℕ) (t : Few Table) (g : OfTables files area nums rows t) (i : ℕ) where
   abbrev mem : Bytes
   mem = files ++ area
 

@@ -1,4 +1,5 @@
 -- The lines of tables by the texts that stand in them, and what is asked of the stored tables and rows. Assumes nothing.
+use Rattle.store.specs.declared.state.Few.{Few}
 use Rattle.std.specs.Prelude.{ℕ, ◌≤◌, ◌<◌, ◌^◌, Bool, ◌&&◌, eqb, length, take}
 use mathlib.Core.List.{List, ◌++◌, map, flat_map}
 use Rattle.text.specs.Ascii.{Bytes, ascii}
@@ -13,7 +14,6 @@ use Rattle.store.specs.Order.{Within, of_row, of_table}
 use Rattle.store.specs.Rows.{rows_in}
 use Rattle.store.specs.declared.row.Row.{Row}
 use Rattle.store.specs.declared.state.Table.{Table}
-use Rattle.store.specs.declared.state.Tables.{Tables}
 use Rattle.made.specs.Made.{reach_of}
 use Rattle.readfacts.specs.Few.{most_values}
 use Rattle.setting.specs.Orders.{Holds}
@@ -52,7 +52,7 @@ pub record OfTable (files area : Bytes) (nums : List ℕ) (rows k : ℕ) (x : Ta
   pub strings : of_table (reach_of (length files)) x ≤ length (files ++ area)
   pub few : length (list_below (files ++ area) x.scope x.supplies) ≤ 64
 
-pub record OfTables (files area : Bytes) (nums : List ℕ) (rows : ℕ) (t : Tables) : Type 0 where
+pub record OfTables (files area : Bytes) (nums : List ℕ) (rows : ℕ) (t : Few Table) : Type 0 where
   pub small : length (files ++ area) < 2 ^ 32
   pub rows_few : rows ≤ 1024
   pub strings : Within (of_row (reach_of (length files))) (length (files ++ area)) (rows_in nums rows)

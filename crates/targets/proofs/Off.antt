@@ -1,9 +1,10 @@
 -- Whether the first part of a text surely is not a name: laws as the needs ask them. Assumes nothing.
+use Rattle.std.specs.Prelude.{Option, Some}
 use Prim.Native.Nat.{ℕ, ◌+◌, ◌<◌, ◌^◌}
 use native.Mathlib.Omega.{arith}
 use mathlib.Core.Path.{◌≡◌, refl, sym, ap, ◌∙◌}
 use mathlib.Core.Bool.{Bool, true, false, cond, not, ◌||◌}
-use mathlib.Core.Option.{none}
+use Rattle.std.specs.Prelude.{None}
 use mathlib.Core.List.{[], ◌∷◌, ◌++◌}
 use lib.Dec.{eqb}
 use lib.ListN.{length, take, drop, get_or}
@@ -15,8 +16,6 @@ use Rattle.text.specs.Lists.{here}
 use Rattle.text.specs.Sames.{both, no_true}
 use Rattle.spans.specs.Span.{bytes, got_of}
 use Rattle.spans.specs.declared.span.Span.{Span}
-use Rattle.spans.specs.declared.span.Got.{Got}
-use Rattle.spans.specs.declared.span.Got.TheVariants.{Yes}
 use Rattle.tcl.specs.Rewrite.{rewrite}
 use Rattle.tcl.specs.Join.{joint_by, joined_by, join}
 use Rattle.tcl.specs.Substitution.{escape, unescape}
@@ -66,9 +65,9 @@ module _ (mem : Bytes) (s : Span) (w : Bytes) (x : Span) (i : ℕ) (inv : Goes m
   pub goes_fits : i + 1 < 2 ^ 64
   goes_fits = omega (arith, inv.short)
 
-  module _ (p : Got) (e : bytes mem x ≡ got_of mem p) (b : ℕ) (u : Span) (g : p ≡ Yes b u) (plain : eqb b (byte "\\") || eqb b (byte "/") ≡ false) where
+  module _ (b : ℕ) (u : Span) (e : bytes mem x ≡ got_of mem (Some (b, u))) (plain : eqb b (byte "\\") || eqb b (byte "/") ≡ false) where
     left_is : (f : ℕ) → entry_of f (bytes mem x) ≡ b ∷ entry_of f (bytes mem u)
-    left_is f = ap (λ (l : Bytes). entry_of f l) (e ∙ rw g) ∙ entry_plain f b (bytes mem u) (neither (eqb b (byte "\\")) (eqb b (byte "/")) plain).0
+    left_is f = ap (λ (l : Bytes). entry_of f l) e ∙ entry_plain f b (bytes mem u) (neither (eqb b (byte "\\")) (eqb b (byte "/")) plain).0
 
     no_slash : b ≡ byte "/" → ⊥
     no_slash = eqb-false b (byte "/") (neither (eqb b (byte "\\")) (eqb b (byte "/")) plain).1
@@ -106,7 +105,7 @@ text_by mem x w o r e h d =
 
 pub ruleset texts = (rules, text_not, text_by)
 
-pub off_other : (job mem : Bytes) (x : Ref) (w : Bytes) (r : Bool) → TextOff mem x w r → r ≡ true → none ≡ behind w (parts (text_of job mem x))
+pub off_other : (job mem : Bytes) (x : Ref) (w : Bytes) (r : Bool) → TextOff mem x w r → r ≡ true → None ≡ behind w (parts (text_of job mem x))
 off_other job mem x w r o h = o.is h job
 
 pub ruleset offs = (rules, off_other)

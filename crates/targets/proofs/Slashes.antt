@@ -1,4 +1,5 @@
 -- The last slash of a name, byte by byte: laws as the needs ask them. Assumes nothing.
+use Rattle.std.specs.Prelude.{Option, Some, None}
 use Prim.Native.Nat.{ℕ, suc, ◌+◌, ◌≤◌, ◌<◌, ◌^◌}
 use native.Mathlib.Omega.{arith}
 use mathlib.Core.Path.{◌≡◌, refl, sym, ap, ◌∙◌}
@@ -15,8 +16,6 @@ use Rattle.text.specs.Scan.{any, is, onto, split_at}
 use Rattle.names.specs.Name.{name_of, step_of}
 use Rattle.names.specs.Parts.{parts}
 use Rattle.names.specs.declared.name.Name.{Name}
-use Rattle.names.specs.declared.name.Step.{Step}
-use Rattle.names.specs.declared.name.Step.TheVariants.{Byte, End}
 use Rattle.paths.specs.Sizes.{name_short}
 use Rattle.texts.specs.Isolation.{last_part}
 use Rattle.targets.specs.Seen.{SlashSeen}
@@ -101,7 +100,7 @@ scan_start files area e h =
       none = λ z. refl;
     }
 
-module _ (files area : Bytes) (e : Name) (s : Slash) (x : Name) (n : ℕ) (inv : Scans files area e s x n) (p : Step) (q : name_of (files ++ area) x ≡ step_of (files ++ area) p) where
+module _ (files area : Bytes) (e : Name) (s : Slash) (x : Name) (n : ℕ) (inv : Scans files area e s x n) where
   abbrev whole_name : Bytes
   whole_name = name_of (files ++ area) e
 
@@ -112,11 +111,11 @@ module _ (files area : Bytes) (e : Name) (s : Slash) (x : Name) (n : ℕ) (inv :
   all_is : take s.upto whole_name ++ (inv.mid ++ name_of (files ++ area) x) ≡ whole_name
   all_is = rw (← inv.rest_is) inv.whole
 
-  pub scan_end : p ≡ End → SlashSeen (files ++ area) e s
-  scan_end h = by s.found refl
+  pub scan_end : name_of (files ++ area) x ≡ step_of (files ++ area) None → SlashSeen (files ++ area) e s
+  scan_end q = by s.found refl
     where
       left : name_of (files ++ area) s.rest ≡ inv.mid
-      left = inv.rest_is ∙ rw (q, h, append-nil)
+      left = inv.rest_is ∙ rw (q, append-nil)
 
       by : (b : Bool) → s.found ≡ b → SlashSeen (files ++ area) e s
       by true g =
@@ -127,9 +126,9 @@ module _ (files area : Bytes) (e : Name) (s : Slash) (x : Name) (n : ℕ) (inv :
           let w : whole_name ≡ inv.mid = sym inv.whole ∙ rw (inv.none g, left) in
           record { found_is = g ∙ sym (rw w inv.clean); whole = inv.whole; inside = inv.inside; last = left ∙ sym (rw (w, no_slash inv.mid inv.clean)); slash = inv.slash }
 
-  module _ (b : ℕ) (u : Name) (h : p ≡ Byte b u) where
+  module _ (b : ℕ) (u : Name) (q : name_of (files ++ area) x ≡ step_of (files ++ area) (Some (b, u))) where
     next_is : name_of (files ++ area) x ≡ b ∷ name_of (files ++ area) u
-    next_is = q ∙ rw h
+    next_is = q
 
     size : length whole_name ≡ n + suc (length (name_of (files ++ area) u))
     size =

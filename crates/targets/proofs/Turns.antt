@@ -1,10 +1,11 @@
 -- An instance by the parts of a text, turn by turn: the answer is that of what is left. Assumes nothing.
+use Rattle.std.specs.Prelude.{Option}
 use Prim.Native.Nat.{ℕ, zero, suc, ◌+◌, ◌-◌, ◌*◌, ◌≤◌, ◌<◌, ◌^◌}
 use native.Mathlib.Omega.{arith}
 use mathlib.Core.Path.{◌≡◌, refl, sym, ap, ◌∙◌}
 use mathlib.Core.Bool.{Bool, true, false, cond}
 use mathlib.Core.List.{List, [], ◌∷◌, ◌++◌, append_assoc, append-nil}
-use mathlib.Core.Option.{none, some}
+use Rattle.std.specs.Prelude.{None, Some}
 use lib.Dec.{eqb}
 use lib.ListN.{length, take, set, length-append}
 use lib.Seq.{take_at, length-take-le}
@@ -23,14 +24,11 @@ use Rattle.design.specs.Lists.{first, on_some}
 use Rattle.design.specs.Lookup.{module_named, instance_named}
 use Rattle.lines.specs.Cursors.{spanned, inst_is, InstSeen, Stepped}
 use Rattle.lines.specs.declared.InstAt.{InstAt}
-use Rattle.lines.specs.declared.InstAt.TheVariants as inst
 use Rattle.lookup.specs.Rows.{modules, row_is, ModuleSeen, insts_from, insts_end}
 use Rattle.memo.specs.Known.{slots, Begins, Leads, Known, Recalls, Asked, asked_row, asked_slot, asked_fits, recalls_row, recalls_asks, recalls_room, begins_row, begins_first, begins_here, leads_here, known_put}
 use Rattle.names.specs.Parts.{parts, first_part, others, behind, part_same, part_other, parts_some}
 use Rattle.refs.specs.Text.{text_of, step_of}
 use Rattle.refs.specs.declared.Ref.{Ref}
-use Rattle.refs.specs.declared.Step.{Step}
-use Rattle.refs.specs.declared.Step.TheVariants as step
 use Rattle.texts.specs.Isolation.{front_parts, below_parent}
 use Rattle.targets.specs.Instance.{instance_at}
 use Rattle.targets.specs.Textual.{textual, textual_is}
@@ -43,8 +41,8 @@ use Rattle.targets.specs.declared.Place.{Place}
 
 -- ---- the slot of the first part
 
-pub slot_less : (job mem : Bytes) (x : Ref) (r : Step) → text_of job mem x ≡ step_of job mem r → (b : ℕ) (u : Ref) → r ≡ step.Byte b u → length (text_of job mem u) < length (text_of job mem x)
-slot_less job mem x r e b u h = let z : text_of job mem x ≡ b ∷ text_of job mem u = e ∙ rw h in rw z (omega arith)
+pub slot_less : (job mem : Bytes) (x : Ref) (b : ℕ) (u : Ref) → text_of job mem x ≡ step_of job mem (Some (b, u)) → length (text_of job mem u) < length (text_of job mem x)
+slot_less job mem x b u e = rw e (omega arith)
 
 pub ruleset slotted = (rules, slot_less)
 
@@ -54,16 +52,15 @@ pub begin_first : (job : Bytes) (index memo : List ℕ) (k h : ℕ) → Asked jo
 begin_first job index memo k h a t p e = begins_first job index k (first_part (parts t)) p a.row e
 
 -- the part looked for is the first
-first_same : (t w : Bytes) (qs : List Bytes) → some qs ≡ behind w (parts t) → w ≡ first_part (parts t)
+first_same : (t w : Bytes) (qs : List Bytes) → Some qs ≡ behind w (parts t) → w ≡ first_part (parts t)
 first_same t w qs e = sym (ap first_part (part_same t w qs e))
 
 module _ (job : Bytes) (index memo : List ℕ) (k h : ℕ) (asked : Asked job index memo k h) (a : ℕ) (ea : a ≡ num memo (2 * h)) (row : a ≡ k + 1) (p : ℕ) (ep : p ≡ num memo (2 * h + 1))
-    (end : ℕ) (ee : end ≡ insts_end index k) (r : InstAt) (seen : InstSeen job p end r) (d : Dims) (n kind : Span) (next : ℕ) (g : r ≡ inst.Inst d n kind next)
-    (w : Bytes) (ew : w ≡ spanned job n) (mem t : Bytes) (q : Part) (eq : part_is job mem q ≡ behind w (parts t)) where
-  begin_by : (qs : List Bytes) → some qs ≡ behind w (parts t) → Begins job index k (first_part (parts t)) p
+    (end : ℕ) (ee : end ≡ insts_end index k) (i : InstAt) (seen : InstSeen job p end (Some i)) (w : Bytes) (ew : w ≡ spanned job i.name) (mem t : Bytes) (q : Part) (eq : part_is job mem q ≡ behind w (parts t)) where
+  begin_by : (qs : List Bytes) → Some qs ≡ behind w (parts t) → Begins job index k (first_part (parts t)) p
   begin_by qs e =
       let l : Leads job index k p = rw (← ep) at (asked.known.leads h k asked.slot (sym ea ∙ row)) in
-      begins_here job index k p r (rw ee at seen) d n kind next g (first_part (parts t)) (sym ew ∙ first_same t w qs e) asked.row l
+      begins_here job index k p (Some i) (rw ee at seen) i.dims i.name i.kind i.next refl (first_part (parts t)) (sym ew ∙ first_same t w qs e) asked.row l
 
   pub begin_last : q ≡ part.Last → Begins job index k (first_part (parts t)) p
   begin_last f = begin_by [] (rw f at eq)
@@ -76,64 +73,61 @@ pub ruleset lookups = (rules, asked_row, asked_slot, asked_fits, begin_first, be
 -- ---- one instance down by the first part of t
 
 module _ (job : Bytes) (index : List ℕ) (k : ℕ) (mem t : Bytes) (end : ℕ) (ee : end ≡ insts_end index k) where
-  module _ (at : ℕ) (inv : Begins job index k (first_part (parts t)) at) (r : InstAt) (seen : InstSeen job at end r) where
-    pub down_none : r ≡ inst.End → DownSeen job index k mem t down.None
+  module _ (at : ℕ) (inv : Begins job index k (first_part (parts t)) at) where
+    pub down_none : InstSeen job at end None → DownSeen job index k mem t None
     unfolding first
-    down_none g = record { is = inv.keeps ∙ rw (← ee, ← seen.says, g); place = tt }
+    down_none seen = record { is = inv.keeps ∙ rw (← ee, ← seen.says); place = tt }
 
-    module _ (d : Dims) (n kind : Span) (next : ℕ) (g : r ≡ inst.Inst d n kind next) where
-      on : Stepped job at end next
-      on = rw g at seen.goes
+    module _ (i : InstAt) (seen : InstSeen job at end (Some i)) where
+      pub down_less : end - i.next < end - at
+      down_less = omega (arith, seen.goes.further, seen.goes.within)
 
-      pub down_less : end - next < end - at
-      down_less = omega (arith, on.further, on.within)
-
-      module _ (w : Bytes) (ew : w ≡ spanned job n) (q : Part) (eq : part_is job mem q ≡ behind w (parts t)) where
-        here : (qs : List Bytes) → some qs ≡ behind w (parts t) → parts t ≡ w ∷ qs
+      module _ (w : Bytes) (ew : w ≡ spanned job i.name) (q : Part) (eq : part_is job mem q ≡ behind w (parts t)) where
+        here : (qs : List Bytes) → Some qs ≡ behind w (parts t) → parts t ≡ w ∷ qs
         here qs e = part_same t w qs e
 
-        named : (qs : List Bytes) → some qs ≡ behind w (parts t) → spanned job n ≡ first_part (parts t)
+        named : (qs : List Bytes) → Some qs ≡ behind w (parts t) → spanned job i.name ≡ first_part (parts t)
         named qs e = sym ew ∙ first_same t w qs e
 
-        found : (qs : List Bytes) → some qs ≡ behind w (parts t) → instance_named (module_row job index k) (first_part (parts t)) ≡ some (inst_is job end d n kind next)
+        found : (qs : List Bytes) → Some qs ≡ behind w (parts t) → instance_named (module_row job index k) (first_part (parts t)) ≡ Some (inst_is job end i.dims i.name i.kind i.next)
         unfolding first
-        found qs e = inv.keeps ∙ rw (← ee, ← seen.says, g, same_of (spanned job n) (first_part (parts t)) (named qs e))
+        found qs e = inv.keeps ∙ rw (← ee, ← seen.says, same_of (spanned job i.name) (first_part (parts t)) (named qs e))
 
-        leads : (qs : List Bytes) → some qs ≡ behind w (parts t) → Leads job index k at
-        leads qs e = leads_here job index k at r (rw ee at seen) d n kind next g (first_part (parts t)) (named qs e) inv
+        leads : (qs : List Bytes) → Some qs ≡ behind w (parts t) → Leads job index k at
+        leads qs e = leads_here job index k at (Some i) (rw ee at seen) i.dims i.name i.kind i.next refl (first_part (parts t)) (named qs e) inv
 
-        pub down_last : q ≡ part.Last → DownSeen job index k mem t (down.Last at kind next)
+        pub down_last : q ≡ part.Last → DownSeen job index k mem t (Some (down.Last at i.kind i.next))
         down_last h =
-            let e : some [] ≡ behind w (parts t) = rw h at eq in
+            let e : Some [] ≡ behind w (parts t) = rw h at eq in
             let p : parts t ≡ w ∷ [] = here [] e in
-            record { is = (p ∙ ap (λ (x : Bytes). x ∷ []) (sym (ap first_part p)), (inst_is job end d n kind next, (found [] e, (refl, rw ee)))); place = leads [] e }
+            record { is = (p ∙ ap (λ (x : Bytes). x ∷ []) (sym (ap first_part p)), (inst_is job end i.dims i.name i.kind i.next, (found [] e, (refl, rw ee)))); place = leads [] e }
 
-        pub down_more : (x : Ref) (size : ℕ) → size ≡ length w → q ≡ part.More x → DownSeen job index k mem t (down.More at kind size x)
+        pub down_more : (x : Ref) (size : ℕ) → size ≡ length w → q ≡ part.More x → DownSeen job index k mem t (Some (down.More at i.kind size x))
         down_more x size es h =
-            let e : some (parts (text_of job mem x)) ≡ behind w (parts t) = rw h at eq in
+            let e : Some (parts (text_of job mem x)) ≡ behind w (parts t) = rw h at eq in
             let p : parts t ≡ w ∷ parts (text_of job mem x) = here (parts (text_of job mem x)) e in
             record {
-              is = (p ∙ ap (λ (y : Bytes). y ∷ parts (text_of job mem x)) (sym (ap first_part p)), (es ∙ ap length (sym (ap first_part p)), (inst_is job end d n kind next, (found (parts (text_of job mem x)) e, refl))));
+              is = (p ∙ ap (λ (y : Bytes). y ∷ parts (text_of job mem x)) (sym (ap first_part p)), (es ∙ ap length (sym (ap first_part p)), (inst_is job end i.dims i.name i.kind i.next, (found (parts (text_of job mem x)) e, refl))));
               place = leads (parts (text_of job mem x)) e;
             }
 
-        pub down_other : q ≡ part.Other → Begins job index k (first_part (parts t)) next
+        pub down_other : q ≡ part.Other → Begins job index k (first_part (parts t)) i.next
         unfolding first
         down_other h =
             let o : same (first_part (parts t)) w ≡ false = part_other t w (rw h at eq) in
-            let f : same (spanned job n) (first_part (parts t)) ≡ false = same_turned (spanned job n) (first_part (parts t)) ∙ rw (← ew) o in
-            record { row = inv.row; keeps = inv.keeps ∙ rw (← ee, ← seen.says, g, f) }
+            let f : same (spanned job i.name) (first_part (parts t)) ≡ false = same_turned (spanned job i.name) (first_part (parts t)) ∙ rw (← ew) o in
+            record { row = inv.row; keeps = inv.keeps ∙ rw (← ee, ← seen.says, f) }
 
 pub ruleset downs = (rules, begins_row, down_none, down_less, down_last, down_more, down_other)
 
 -- ---- the same with a memo
 
-module _ (job : Bytes) (index memo : List ℕ) (k : ℕ) (r : Recalls job index memo k) (mem t : Bytes) (d : Down) (seen : DownSeen job index k mem t d) where
-  pub step_kept : StepSeen job index k mem t d memo
-  step_kept = record { down = seen; known = r.known }
+module _ (job : Bytes) (index memo : List ℕ) (k : ℕ) (r : Recalls job index memo k) (mem t : Bytes) where
+  pub step_kept : (d : Option Down) → DownSeen job index k mem t d → StepSeen job index k mem t d memo
+  step_kept d seen = record { down = seen; known = r.known }
 
-  pub step_put : (at : ℕ) (kind : Span) (size : ℕ) (x : Ref) → d ≡ down.More at kind size x → (h : ℕ) → h < slots → (memo' : List ℕ) → memo' ≡ set (set memo (2 * h) (k + 1)) (2 * h + 1) at → StepSeen job index k mem t (down.More at kind size x) memo'
-  step_put at kind size x g h few memo' e =
+  pub step_put : (d : Down) → DownSeen job index k mem t (Some d) → (at : ℕ) (kind : Span) (size : ℕ) (x : Ref) → d ≡ down.More at kind size x → (h : ℕ) → h < slots → (memo' : List ℕ) → memo' ≡ set (set memo (2 * h) (k + 1)) (2 * h + 1) at → StepSeen job index k mem t (Some (down.More at kind size x)) memo'
+  step_put d seen at kind size x g h few memo' e =
       let l : Leads job index k at = rw g at seen.place in
       record { down = rw g at seen; known = rw e (known_put job index memo r.known h k at few l) }
 
@@ -162,9 +156,9 @@ first_more t w u e =
     sym (textual_is t) ∙ ap textual e ∙ a ∙ ap (λ (l : Bytes). w ++ byte "/" ∷ l) (textual_is u)
 
 -- what is left is shorter
-pub more_less : (job : Bytes) (index : List ℕ) (m : ℕ) (mem left : Bytes) (r : Down) (memo : List ℕ) → StepSeen job index m mem left r memo → (at : ℕ) (kind : Span) (size : ℕ) (x : Ref) → r ≡ down.More at kind size x → length (text_of job mem x) < length left
-more_less job index m mem left r memo step at kind size x g =
-    let s : DownIs job index m mem left (down.More at kind size x) = rw g at step.down.is in
+pub more_less : (job : Bytes) (index : List ℕ) (m : ℕ) (mem left : Bytes) (d : Down) (memo : List ℕ) → StepSeen job index m mem left (Some d) memo → (at : ℕ) (kind : Span) (size : ℕ) (x : Ref) → d ≡ down.More at kind size x → length (text_of job mem x) < length left
+more_less job index m mem left d memo step at kind size x g =
+    let s : DownIs job index m mem left (Some (down.More at kind size x)) = rw g at step.down.is in
     let a : length left ≡ length (first_part (parts left)) + suc (length (text_of job mem x)) = ap length (first_more left (first_part (parts left)) (text_of job mem x) s.0) ∙ length-append (first_part (parts left)) (byte "/" ∷ text_of job mem x) in
     omega arith
 
@@ -184,7 +178,7 @@ front_more w u n = go (parts u) (parts_some (byte "/") u)
     go [] e = absurd (let z : ◌≡◌ {A = ℕ} 0 1 = ap (λ (l : List Bytes). length l) e in omega arith)
     go (p ∷ qs) e = two p qs
 
-row_is_lem : (job : Bytes) (index : List ℕ) (row : ℕ) → (row ≡ 0 → ⊥) → row_is job index row ≡ some (module_row job index (row - 1))
+row_is_lem : (job : Bytes) (index : List ℕ) (row : ℕ) → (row ≡ 0 → ⊥) → row_is job index row ≡ Some (module_row job index (row - 1))
 unfolding row_is
 row_is_lem job index zero h = absurd (h refl)
 row_is_lem job index (suc k) h = let z : suc k - 1 ≡ k = omega arith in rw z
@@ -211,38 +205,38 @@ module _ (job : Bytes) (index : List ℕ) (count k : ℕ) (whole : Bytes) (m : �
   d = modules job index count
 
   -- nothing is found
-  unseen : instance_at (modules job index count) (module_row job index m) (parts left) ≡ none → PlaceSeen job index count k whole nowhere_place
+  unseen : instance_at (modules job index count) (module_row job index m) (parts left) ≡ None → PlaceSeen job index count k whole nowhere_place
   unseen e = record { is = sym (sym inv.keeps ∙ e); parent_row = omega (arith, inv.row); sub_row = omega (arith, inv.row); inside = omega arith; front = λ z. absurd (no_true z) }
 
   -- one instance down
-  last_is : (w : Bytes) → instance_at (modules job index count) (module_row job index m) (w ∷ []) ≡ on_some (instance_named (module_row job index m) w) none λ i. on_some (module_named (modules job index count) i.type) none λ s. some (record { parent = module_row job index m; conns = i.conns; sub = s })
+  last_is : (w : Bytes) → instance_at (modules job index count) (module_row job index m) (w ∷ []) ≡ on_some (instance_named (module_row job index m) w) None λ i. on_some (module_named (modules job index count) i.type) None λ s. Some (record { parent = module_row job index m; conns = i.conns; sub = s })
   unfolding instance_at
   last_is w = refl
 
-  more_is : (w u : Bytes) → instance_at (modules job index count) (module_row job index m) (w ∷ parts u) ≡ on_some (instance_named (module_row job index m) w) none λ i. on_some (module_named (modules job index count) i.type) none λ m'. instance_at (modules job index count) m' (parts u)
+  more_is : (w u : Bytes) → instance_at (modules job index count) (module_row job index m) (w ∷ parts u) ≡ on_some (instance_named (module_row job index m) w) None λ i. on_some (module_named (modules job index count) i.type) None λ m'. instance_at (modules job index count) m' (parts u)
   unfolding instance_at
   more_is w u = rw (parts_some (byte "/") u)
 
-  first_none : instance_named (module_row job index m) (first_part (parts left)) ≡ none → instance_at (modules job index count) (module_row job index m) (parts left) ≡ none
+  first_none : instance_named (module_row job index m) (first_part (parts left)) ≡ None → instance_at (modules job index count) (module_row job index m) (parts left) ≡ None
   unfolding instance_at
   first_none e = ap (λ (l : List Bytes). instance_at (modules job index count) (module_row job index m) l) (parts_some (byte "/") left) ∙ go (others (parts left))
     where
-      go : (ps : List Bytes) → instance_at (modules job index count) (module_row job index m) (first_part (parts left) ∷ ps) ≡ none
+      go : (ps : List Bytes) → instance_at (modules job index count) (module_row job index m) (first_part (parts left) ∷ ps) ≡ None
       go [] = rw e
       go (p ∷ ps) = rw e
 
-  module _ (mem : Bytes) (r : Down) (memo' : List ℕ) (step : StepSeen job index m mem left r memo') where
-    seen : DownSeen job index m mem left r
+  pub seek_none : (mem : Bytes) (memo' : List ℕ) → StepSeen job index m mem left None memo' → (z : Place) → z ≡ nowhere_place → PlaceSeen job index count k whole z
+  seek_none mem memo' step z q = rw q (unseen (first_none step.down.is))
+
+  module _ (mem : Bytes) (d : Down) (memo' : List ℕ) (step : StepSeen job index m mem left (Some d) memo') where
+    seen : DownSeen job index m mem left (Some d)
     seen = step.down
 
-    pub seek_none : (z : Place) → z ≡ nowhere_place → r ≡ down.None → PlaceSeen job index count k whole z
-    seek_none z q g = rw q (unseen (first_none (rw g at seen.is)))
-
-    module _ (at : ℕ) (kind : Span) (conns : ℕ) (g : r ≡ down.Last at kind conns) (p : Bytes) (ep : p ≡ spanned job kind) (row : ℕ) (rs : ModuleSeen job index count (module_named (modules job index count) p) row) where
-      abbrev at_last : DownIs job index m mem left (down.Last at kind conns)
+    module _ (at : ℕ) (kind : Span) (conns : ℕ) (g : d ≡ down.Last at kind conns) (p : Bytes) (ep : p ≡ spanned job kind) (row : ℕ) (rs : ModuleSeen job index count (module_named (modules job index count) p) row) where
+      abbrev at_last : DownIs job index m mem left (Some (down.Last at kind conns))
       at_last = rw g at seen.is
 
-      whole_last : instance_at (modules job index count) (module_row job index m) (parts left) ≡ on_some (row_is job index row) none λ s. some (record { parent = module_row job index m; conns = conns_in (section job conns (insts_end index m)); sub = s })
+      whole_last : instance_at (modules job index count) (module_row job index m) (parts left) ≡ on_some (row_is job index row) None λ s. Some (record { parent = module_row job index m; conns = conns_in (section job conns (insts_end index m)); sub = s })
       whole_last =
           let l = at_last in
           let i : Inst = l.1.0 in
@@ -263,11 +257,11 @@ module _ (job : Bytes) (index : List ℕ) (count k : ℕ) (whole : Bytes) (m : �
             front = λ e n. inv.front n ∙ ap (λ (l : List Bytes). take upto whole ++ below_parent (front_parts l) n) at_last.0;
           }
 
-    module _ (at : ℕ) (kind : Span) (size : ℕ) (x : Ref) (g : r ≡ down.More at kind size x) (p : Bytes) (ep : p ≡ spanned job kind) (row : ℕ) (rs : ModuleSeen job index count (module_named (modules job index count) p) row) where
-      abbrev at_more : DownIs job index m mem left (down.More at kind size x)
+    module _ (at : ℕ) (kind : Span) (size : ℕ) (x : Ref) (g : d ≡ down.More at kind size x) (p : Bytes) (ep : p ≡ spanned job kind) (row : ℕ) (rs : ModuleSeen job index count (module_named (modules job index count) p) row) where
+      abbrev at_more : DownIs job index m mem left (Some (down.More at kind size x))
       at_more = rw g at seen.is
 
-      whole_more : instance_at (modules job index count) (module_row job index m) (parts left) ≡ on_some (row_is job index row) none λ m'. instance_at (modules job index count) m' (parts (text_of job mem x))
+      whole_more : instance_at (modules job index count) (module_row job index m) (parts left) ≡ on_some (row_is job index row) None λ m'. instance_at (modules job index count) m' (parts (text_of job mem x))
       whole_more =
           let l = at_more in
           ap (λ (y : List Bytes). instance_at (modules job index count) (module_row job index m) y) l.0

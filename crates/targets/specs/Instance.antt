@@ -1,9 +1,8 @@
 -- An instance below a module, by the parts of a text: what isolation asks of it. Assumes nothing.
-use Rattle.std.specs.Prelude.{ℕ, ◌≡◌, length}
+use Rattle.std.specs.Prelude.{ℕ, ◌≡◌, length, Option, None, Some}
 use Rattle.std.proofs.Common.{arith, ap}
 use Rattle.std.proofs.Math.Path.{refl}
 use mathlib.Core.List.{List, [], ◌∷◌, map}
-use Rattle.std.proofs.Math.Option.{Option, none, some}
 use Rattle.text.specs.Ascii.{Bytes, byte}
 use Rattle.joblines.specs.Job.{Conn, Inst, Module}
 use Rattle.design.specs.Lists.{on_some}
@@ -23,9 +22,9 @@ pub record Instance : Type 0 where
 
 -- the last part names it, the parts before lead to its parent
 unfoldable pub instance_at : List Module → Module → List Bytes → Option Instance
-instance_at d m [] = none
-instance_at d m (p ∷ []) = on_some (instance_named m p) none λ i. on_some (module_named d i.type) none λ s. some (record { parent = m; conns = i.conns; sub = s })
-instance_at d m (p ∷ q ∷ ps) = on_some (instance_named m p) none λ i. on_some (module_named d i.type) none λ m'. instance_at d m' (q ∷ ps)
+instance_at d m [] = None
+instance_at d m (p ∷ []) = on_some (instance_named m p) None λ i. on_some (module_named d i.type) None λ s. Some (record { parent = m; conns = i.conns; sub = s })
+instance_at d m (p ∷ q ∷ ps) = on_some (instance_named m p) None λ i. on_some (module_named d i.type) None λ m'. instance_at d m' (q ∷ ps)
 
 abbrev pub found : Module → Inst → Module → Instance
 found m i s = record { parent = m; conns = i.conns; sub = s }
@@ -33,29 +32,29 @@ found m i s = record { parent = m; conns = i.conns; sub = s }
 -- ---- laws: what a target comes to, by its instance
 
 abbrev sub_of : Option Instance → Option Module
-sub_of none = none
-sub_of (some x) = some x.sub
+sub_of None = None
+sub_of (Some x) = Some x.sub
 
 at_sub : (d : List Module) (m : Module) (p : Bytes) (ps : List Bytes) → module_at d m (p ∷ ps) ≡ sub_of (instance_at d m (p ∷ ps))
 unfolding module_at instance_at
 at_sub d m p [] = go (instance_named m p)
   where
-    down : (o : Option Module) (i : Inst) → on_some o none (λ m'. some m') ≡ sub_of (on_some o none λ s. some (found m i s))
-    down none i = refl
-    down (some m') i = refl
+    down : (o : Option Module) (i : Inst) → on_some o None (λ m'. Some m') ≡ sub_of (on_some o None λ s. Some (found m i s))
+    down None i = refl
+    down (Some m') i = refl
 
-    go : (o : Option Inst) → on_some o none (λ i. on_some (module_named d i.type) none λ m'. some m') ≡ sub_of (on_some o none λ i. on_some (module_named d i.type) none λ s. some (found m i s))
-    go none = refl
-    go (some i) = down (module_named d i.type) i
+    go : (o : Option Inst) → on_some o None (λ i. on_some (module_named d i.type) None λ m'. Some m') ≡ sub_of (on_some o None λ i. on_some (module_named d i.type) None λ s. Some (found m i s))
+    go None = refl
+    go (Some i) = down (module_named d i.type) i
 at_sub d m p (q ∷ ps) = go (instance_named m p) (λ m'. at_sub d m' q ps)
   where
-    down : (o : Option Module) → ((m' : Module) → module_at d m' (q ∷ ps) ≡ sub_of (instance_at d m' (q ∷ ps))) → on_some o none (λ m'. module_at d m' (q ∷ ps)) ≡ sub_of (on_some o none λ m'. instance_at d m' (q ∷ ps))
-    down none h = refl
-    down (some m') h = h m'
+    down : (o : Option Module) → ((m' : Module) → module_at d m' (q ∷ ps) ≡ sub_of (instance_at d m' (q ∷ ps))) → on_some o None (λ m'. module_at d m' (q ∷ ps)) ≡ sub_of (on_some o None λ m'. instance_at d m' (q ∷ ps))
+    down None h = refl
+    down (Some m') h = h m'
 
-    go : (o : Option Inst) → ((m' : Module) → module_at d m' (q ∷ ps) ≡ sub_of (instance_at d m' (q ∷ ps))) → on_some o none (λ i. on_some (module_named d i.type) none λ m'. module_at d m' (q ∷ ps)) ≡ sub_of (on_some o none λ i. on_some (module_named d i.type) none λ m'. instance_at d m' (q ∷ ps))
-    go none h = refl
-    go (some i) h = down (module_named d i.type) h
+    go : (o : Option Inst) → ((m' : Module) → module_at d m' (q ∷ ps) ≡ sub_of (instance_at d m' (q ∷ ps))) → on_some o None (λ i. on_some (module_named d i.type) None λ m'. module_at d m' (q ∷ ps)) ≡ sub_of (on_some o None λ i. on_some (module_named d i.type) None λ m'. instance_at d m' (q ∷ ps))
+    go None h = refl
+    go (Some i) h = down (module_named d i.type) h
 
 -- what is made of the parent, the instance and its module is made of the instance that is found
 module _ {A : Type 0} (z : A) (f : List Conn → Module → A) (d : List Module) where
@@ -69,29 +68,29 @@ module _ {A : Type 0} (z : A) (f : List Conn → Module → A) (d : List Module)
   unfolding module_at instance_at
   asked_told m p [] = go (instance_named m p) refl
     where
-      down : (i : Inst) → instance_named m p ≡ some i → (o : Option Module)
-          → on_some (on_some o none λ m'. some m') z (λ sub. on_some (instance_named m p) z λ j. f j.conns sub) ≡ on_some (on_some o none λ s. some (found m i s)) z (λ x. f x.conns x.sub)
-      down i e none = refl
-      down i e (some m') = rw e
+      down : (i : Inst) → instance_named m p ≡ Some i → (o : Option Module)
+          → on_some (on_some o None λ m'. Some m') z (λ sub. on_some (instance_named m p) z λ j. f j.conns sub) ≡ on_some (on_some o None λ s. Some (found m i s)) z (λ x. f x.conns x.sub)
+      down i e None = refl
+      down i e (Some m') = rw e
 
       go : (o : Option Inst) → instance_named m p ≡ o
-          → on_some (on_some o none λ i. on_some (module_named d i.type) none λ m'. some m') z (λ sub. on_some (instance_named m p) z λ j. f j.conns sub)
-          ≡ on_some (on_some o none λ i. on_some (module_named d i.type) none λ s. some (found m i s)) z (λ x. f x.conns x.sub)
-      go none e = refl
-      go (some i) e = down i e (module_named d i.type)
+          → on_some (on_some o None λ i. on_some (module_named d i.type) None λ m'. Some m') z (λ sub. on_some (instance_named m p) z λ j. f j.conns sub)
+          ≡ on_some (on_some o None λ i. on_some (module_named d i.type) None λ s. Some (found m i s)) z (λ x. f x.conns x.sub)
+      go None e = refl
+      go (Some i) e = down i e (module_named d i.type)
   asked_told m p (q ∷ ps) = go (instance_named m p) (λ m'. asked_told m' q ps)
     where
       down : (o : Option Module) → ((m' : Module) → asked m' (q ∷ ps) ≡ told m' (q ∷ ps))
-          → on_some (on_some o none λ m'. module_at d m' (front_parts (q ∷ ps))) z (λ parent. on_some (on_some o none λ m'. module_at d m' (q ∷ ps)) z λ sub. on_some (instance_named parent (last_part (q ∷ ps))) z λ i. f i.conns sub)
-          ≡ on_some (on_some o none λ m'. instance_at d m' (q ∷ ps)) z (λ x. f x.conns x.sub)
-      down none h = refl
-      down (some m') h = h m'
+          → on_some (on_some o None λ m'. module_at d m' (front_parts (q ∷ ps))) z (λ parent. on_some (on_some o None λ m'. module_at d m' (q ∷ ps)) z λ sub. on_some (instance_named parent (last_part (q ∷ ps))) z λ i. f i.conns sub)
+          ≡ on_some (on_some o None λ m'. instance_at d m' (q ∷ ps)) z (λ x. f x.conns x.sub)
+      down None h = refl
+      down (Some m') h = h m'
 
       go : (o : Option Inst) → ((m' : Module) → asked m' (q ∷ ps) ≡ told m' (q ∷ ps))
-          → on_some (on_some o none λ i. on_some (module_named d i.type) none λ m'. module_at d m' (front_parts (q ∷ ps))) z (λ parent. on_some (on_some o none λ i. on_some (module_named d i.type) none λ m'. module_at d m' (q ∷ ps)) z λ sub. on_some (instance_named parent (last_part (q ∷ ps))) z λ i. f i.conns sub)
-          ≡ on_some (on_some o none λ i. on_some (module_named d i.type) none λ m'. instance_at d m' (q ∷ ps)) z (λ x. f x.conns x.sub)
-      go none h = refl
-      go (some i) h = down (module_named d i.type) h
+          → on_some (on_some o None λ i. on_some (module_named d i.type) None λ m'. module_at d m' (front_parts (q ∷ ps))) z (λ parent. on_some (on_some o None λ i. on_some (module_named d i.type) None λ m'. module_at d m' (q ∷ ps)) z λ sub. on_some (instance_named parent (last_part (q ∷ ps))) z λ i. f i.conns sub)
+          ≡ on_some (on_some o None λ i. on_some (module_named d i.type) None λ m'. instance_at d m' (q ∷ ps)) z (λ x. f x.conns x.sub)
+      go None h = refl
+      go (Some i) h = down (module_named d i.type) h
 
 -- what a target comes to
 abbrev pub comes : List Bytes → Bytes → List Conn → Module → Resolved
@@ -115,8 +114,8 @@ pub outputs_is : (s : Setting) (e : Bytes) → outputs_of s e ≡ on_some (insta
 outputs_is s e = go (parts e) (parts_some (byte "/") e)
   where
     on : (o : Option Instance) → on_some (sub_of o) [] (λ m. map (λ p. aimed e p) (output_ports m)) ≡ on_some o [] λ x. map (λ p. aimed e p) (output_ports x.sub)
-    on none = refl
-    on (some x) = refl
+    on None = refl
+    on (Some x) = refl
 
     go : (ps : List Bytes) → ps ≡ first_part ps ∷ others ps
         → (on_some (module_at s.design s.base ps) [] λ m. map (λ (p : Bytes). aimed e p) (output_ports m)) ≡ on_some (instance_at s.design s.base ps) [] λ x. map (λ (p : Bytes). aimed e p) (output_ports x.sub)

@@ -1,6 +1,5 @@
 -- What the answers about instances say. Assumes nothing.
-use Rattle.std.specs.Prelude.{ℕ, ◌+◌, ◌≤◌, ◌<◌, ◌^◌, ◌≡◌, true, false, cond, List, [], ◌∷◌, ◌++◌, length, take}
-use Rattle.std.proofs.Math.Option.{Option, none, some}
+use Rattle.std.specs.Prelude.{ℕ, ◌+◌, ◌≤◌, ◌<◌, ◌^◌, ◌≡◌, true, false, cond, List, [], ◌∷◌, ◌++◌, length, take, Option, None, Some}
 use Rattle.text.specs.Ascii.{Bytes, ascii, byte}
 use Rattle.text.specs.Scan.{any, is}
 use Rattle.joblines.specs.Job.{Inst}
@@ -33,33 +32,33 @@ pub record SlashSeen (mem : Bytes) (e : Name) (r : Slash) : Type 0 where
 
 -- ---- whether the first part is the one looked for: the others then
 abbrev pub part_is : Bytes → Bytes → Part → Option (List Bytes)
-part_is job mem part.Other = none
-part_is job mem part.Last = some []
-part_is job mem (part.More r) = some (parts (text_of job mem r))
+part_is job mem part.Other = None
+part_is job mem part.Last = Some []
+part_is job mem (part.More r) = Some (parts (text_of job mem r))
 
 -- ---- one instance down from module k by the first part of t
-abbrev pub DownIs : Bytes → List ℕ → ℕ → Bytes → Bytes → Down → Type 0
-DownIs job index k mem t down.None = instance_named (module_row job index k) (first_part (parts t)) ≡ none
-DownIs job index k mem t (down.Last at kind conns) =
+abbrev pub DownIs : Bytes → List ℕ → ℕ → Bytes → Bytes → Option Down → Type 0
+DownIs job index k mem t None = instance_named (module_row job index k) (first_part (parts t)) ≡ None
+DownIs job index k mem t (Some (down.Last at kind conns)) =
     (parts t ≡ first_part (parts t) ∷ [])
-    × ((i : Inst) × ((instance_named (module_row job index k) (first_part (parts t)) ≡ some i) × ((i.type ≡ spanned job kind) × (i.conns ≡ conns_in (section job conns (insts_end index k))))))
-DownIs job index k mem t (down.More at kind size rest) =
+    × ((i : Inst) × ((instance_named (module_row job index k) (first_part (parts t)) ≡ Some i) × ((i.type ≡ spanned job kind) × (i.conns ≡ conns_in (section job conns (insts_end index k))))))
+DownIs job index k mem t (Some (down.More at kind size rest)) =
     (parts t ≡ first_part (parts t) ∷ parts (text_of job mem rest))
     × ((size ≡ length (first_part (parts t)))
-    × ((i : Inst) × ((instance_named (module_row job index k) (first_part (parts t)) ≡ some i) × (i.type ≡ spanned job kind))))
+    × ((i : Inst) × ((instance_named (module_row job index k) (first_part (parts t)) ≡ Some i) × (i.type ≡ spanned job kind))))
 
 -- where the lines begin whose first instance it is
-abbrev pub DownAt : Bytes → List ℕ → ℕ → Down → Type 0
-DownAt job index k down.None = Unit {0}
-DownAt job index k (down.Last at kind conns) = Leads job index k at
-DownAt job index k (down.More at kind size rest) = Leads job index k at
+abbrev pub DownAt : Bytes → List ℕ → ℕ → Option Down → Type 0
+DownAt job index k None = Unit {0}
+DownAt job index k (Some (down.Last at kind conns)) = Leads job index k at
+DownAt job index k (Some (down.More at kind size rest)) = Leads job index k at
 
-pub record DownSeen (job : Bytes) (index : List ℕ) (k : ℕ) (mem t : Bytes) (r : Down) : Type 0 where
+pub record DownSeen (job : Bytes) (index : List ℕ) (k : ℕ) (mem t : Bytes) (r : Option Down) : Type 0 where
   pub is : DownIs job index k mem t r
   pub place : DownAt job index k r
 
 -- the same with a memo, which is known then too
-pub record StepSeen (job : Bytes) (index : List ℕ) (k : ℕ) (mem t : Bytes) (r : Down) (memo : List ℕ) : Type 0 where
+pub record StepSeen (job : Bytes) (index : List ℕ) (k : ℕ) (mem t : Bytes) (r : Option Down) (memo : List ℕ) : Type 0 where
   pub down : DownSeen job index k mem t r
   pub known : Known job index memo
 
@@ -77,7 +76,7 @@ nowhere_place = record { found = false; parent = 0; conns = 0; sub = 0; upto = 0
 
 abbrev pub place_is : Bytes → List ℕ → Place → Option Instance
 place_is job index r =
-    cond r.found (some (record { parent = module_row job index r.parent; conns = conns_in (section job r.conns (insts_end index r.parent)); sub = module_row job index r.sub })) none
+    cond r.found (Some (record { parent = module_row job index r.parent; conns = conns_in (section job r.conns (insts_end index r.parent)); sub = module_row job index r.sub })) None
 
 pub record PlaceSeen (job : Bytes) (index : List ℕ) (count k : ℕ) (t : Bytes) (r : Place) : Type 0 where
   pub is : place_is job index r ≡ instance_at (modules job index count) (module_row job index k) (parts t)

@@ -9,11 +9,10 @@ ghost use Rattle.targets.specs.Off.{WordOff, begins_plain, TextOff};
 ghost use Rattle.targets.specs.Seen.{SlashSeen, part_is, DownSeen, StepSeen, Sought, nowhere_place, PlaceSeen};
 
 use jobindex::Span;
-use lines::InstAt;
 use names::name::Name;
 use names::part::next_part;
-use refs::{Ref, Step, is_name, next, whole};
-use spans::span::{Got, Span as Word, first, minus};
+use refs::{Ref, is_name, next, whole};
+use spans::span::{Span as Word, first, minus};
 
 // The last slash of a name: whether there is one, how many bytes stand up to it and with it, and what is left behind it.
 #[derive(Clone, Copy)]
@@ -34,7 +33,6 @@ pub enum Part {
 // An instance: where the lines begin whose first instance it is, its module's name, where its connections begin, and whether its name is the last part.
 #[derive(Clone, Copy)]
 pub enum Down {
-    None,
     Last {
         at: usize,
         kind: Span,
@@ -59,6 +57,7 @@ pub struct Place {
 }
 
 // The last slash of a name.
+#[tactic(auto, using(crate::proofs::Slashes::slashes))]
 pub fn last_slash(files: &[u8], area: &[u8], e: Name) -> Slash
     requires { length files.now + length area.now < 2 ^ 32 }
     ensures { SlashSeen (files.now ++ area.now) e result }
@@ -70,77 +69,65 @@ pub fn last_slash(files: &[u8], area: &[u8], e: Name) -> Slash
     };
     let mut x = e;
     let mut n = 0;
-    loop {
-        match names::name::next(files, area, x) {
-            names::name::Step::End => return s,
-            names::name::Step::Byte(b, u) => {
-                n += 1;
-                x = u;
-                if b == b'/' {
-                    s = Slash {
-                        found: true,
-                        upto: n,
-                        rest: u,
-                    };
-                    continue;
-                }
-            }
+    while let Some((b, u)) = names::name::next(files, area, x) {
+        n += 1;
+        x = u;
+        if b == b'/' {
+            s = Slash {
+                found: true,
+                upto: n,
+                rest: u,
+            };
+            continue;
         }
     }
+    s
 }
 
 // Whether the first part of a text is w, byte by byte.
+#[tactic(auto, using(crate::proofs::Parted::takes))]
 fn stepped_part(job: &[u8], files: &[u8], area: &[u8], r: Ref, w: &[u8]) -> Part
     ensures { part_is job.now (files.now ++ area.now) result ≡ behind w.now (parts (text_of job.now (files.now ++ area.now) r)) }
 {
     let mut x = r;
-    let mut i = 0;
-    while i < w.len() {
-        match next(job, files, area, x) {
-            Step::End => return Part::Other,
-            Step::Byte(b, u) => {
-                if b == b'/' {
-                    return Part::Other;
-                }
-                if b != w[i] {
-                    return Part::Other;
-                }
-                x = u;
-                i += 1;
-            }
+    for own in w {
+        let Some((b, u)) = next(job, files, area, x) else {
+            return Part::Other;
+        };
+        if b == b'/' {
+            return Part::Other;
         }
-    }
-    match next(job, files, area, x) {
-        Step::End => Part::Last,
-        Step::Byte(b, u) => {
-            if b == b'/' {
-                return Part::More(u);
-            }
-            Part::Other
+        if b != *own {
+            return Part::Other;
         }
+        x = u;
     }
+    let Some((b, u)) = next(job, files, area, x) else {
+        return Part::Last;
+    };
+    if b == b'/' {
+        return Part::More(u);
+    }
+    Part::Other
 }
 
 // Whether a word, read in any form, surely is not w up to a slash: by a byte before which no backslash stands.
+#[tactic(auto, using(crate::proofs::Off::goes))]
 fn word_off(files: &[u8], area: &[u8], s: Word, w: &[u8]) -> bool
     ensures { WordOff (files.now ++ area.now) s w.now result }
 {
     let mut x = s;
-    let mut i = 0;
-    while i < w.len() {
-        match first(files, area, x) {
-            Got::No => return false,
-            Got::Yes(b, u) => {
-                if (b == b'\\') | (b == b'/') {
-                    return false;
-                }
-                if b != w[i] {
-                    return true;
-                }
-                x = u;
-                i += 1;
-            }
+    for own in w {
+        let Some((b, u)) = first(files, area, x) else {
+            return false;
+        };
+        if (b == b'\\') | (b == b'/') {
+            return false;
         }
+        if b != *own {
+            return true;
+        }
+        x = u;
     }
     false
 }
@@ -149,24 +136,22 @@ fn word_off(files: &[u8], area: &[u8], s: Word, w: &[u8]) -> bool
 fn begins_plain(r: Ref) -> bool
     ensures { result ≡ begins_plain r }
 {
-    let n = r.name;
-    let s = n.scope;
-    (!r.cut) & ((s.len == 0) & (!n.sep))
+    (!r.cut) & ((r.name.scope.len == 0) & (!r.name.sep))
 }
 
 // Whether the first part of a text surely is not w.
+#[tactic(auto, using(crate::proofs::Off::texts))]
 fn text_off(files: &[u8], area: &[u8], r: Ref, w: &[u8]) -> bool
     ensures { TextOff (files.now ++ area.now) r w.now result }
 {
     if !begins_plain(r) {
         return false;
     }
-    let n = r.name;
-    let v = n.word;
-    word_off(files, area, v, w)
+    word_off(files, area, r.name.word, w)
 }
 
 // Whether the first part of a text is w.
+#[tactic(auto, using(crate::proofs::Parted::names, crate::proofs::Off::offs))]
 fn first_part(job: &[u8], files: &[u8], area: &[u8], r: Ref, w: &[u8]) -> Part
     ensures { part_is job.now (files.now ++ area.now) result ≡ behind w.now (parts (text_of job.now (files.now ++ area.now) r)) }
 {
@@ -176,8 +161,7 @@ fn first_part(job: &[u8], files: &[u8], area: &[u8], r: Ref, w: &[u8]) -> Part
         }
         return stepped_part(job, files, area, r, w);
     }
-    let n = r.name;
-    match next_part(files, area, n, w) {
+    match next_part(files, area, r.name, w) {
         names::part::Part::Same(x) => Part::More(whole(x)),
         names::part::Part::Last => Part::Last,
         names::part::Part::Other => Part::Other,
@@ -185,26 +169,24 @@ fn first_part(job: &[u8], files: &[u8], area: &[u8], r: Ref, w: &[u8]) -> Part
 }
 
 // The slot of the memo for the first part of a text in module k.
+#[tactic(auto, using(crate::proofs::Turns::slotted))]
 fn slot(job: &[u8], files: &[u8], area: &[u8], k: usize, r: Ref) -> usize
     ensures { result < slots }
 {
     let mut x = r;
     let mut h = k;
-    loop {
-        match next(job, files, area, x) {
-            Step::End => return h % 128,
-            Step::Byte(b, u) => {
-                if b == b'/' {
-                    return h % 128;
-                }
-                h = h % 16777216 * 31 + b as usize;
-                x = u;
-            }
+    while let Some((b, u)) = next(job, files, area, x) {
+        if b == b'/' {
+            break;
         }
+        h = h % 16777216 * 31 + b as usize;
+        x = u;
     }
+    h % 128
 }
 
 // Where to begin to look for the first part of a text in module k: at an instance of that name, where the memo has it.
+#[tactic(auto, using(crate::proofs::Turns::lookups))]
 fn begin(
     job: &[u8],
     index: &[u32],
@@ -223,17 +205,10 @@ fn begin(
         return from;
     }
     let at = memo::place_in(memo, h);
-    let x = lines::next_inst(job, at, lookup::insts_end(index, k));
-    let InstAt::Inst {
-        dims: _,
-        name,
-        kind: _,
-        next: _,
-    } = x
-    else {
+    let Some(inst) = lines::next_inst(job, at, lookup::insts_end(index, k)) else {
         return from;
     };
-    match first_part(job, files, area, r, lines::part_of(job, name)) {
+    match first_part(job, files, area, r, lines::part_of(job, inst.name)) {
         Part::Last => at,
         Part::More(_) => at,
         Part::Other => from,
@@ -241,6 +216,7 @@ fn begin(
 }
 
 // The first instance of module k whose name is the first part of a text, dimensions not looked at; none of that name is before `from`.
+#[tactic(auto, using(crate::proofs::Turns::downs))]
 fn instance_at(
     job: &[u8],
     index: &[u32],
@@ -249,48 +225,39 @@ fn instance_at(
     area: &[u8],
     r: Ref,
     from: usize,
-) -> Down
+) -> Option<Down>
     requires { Begins job.now index.now k (first_part (parts (text_of job.now (files.now ++ area.now) r))) from }
     ensures { DownSeen job.now index.now k (files.now ++ area.now) (text_of job.now (files.now ++ area.now) r) result }
 {
     let end = lookup::insts_end(index, k);
     let mut at = from;
-    loop {
-        let x = lines::next_inst(job, at, end);
-        let InstAt::Inst {
-            dims: _,
-            name,
-            kind,
-            next,
-        } = x
-        else {
-            return Down::None;
-        };
-        let w = lines::part_of(job, name);
+    while let Some(inst) = lines::next_inst(job, at, end) {
+        let kind = inst.kind;
+        let w = lines::part_of(job, inst.name);
         match first_part(job, files, area, r, w) {
             Part::Last => {
-                return Down::Last {
+                return Some(Down::Last {
                     at,
                     kind,
-                    conns: next,
-                };
+                    conns: inst.next,
+                });
             }
             Part::More(rest) => {
-                return Down::More {
+                return Some(Down::More {
                     at,
                     kind,
                     size: w.len(),
                     rest,
-                };
+                });
             }
-            Part::Other => {
-                at = next;
-            }
+            Part::Other => at = inst.next,
         }
     }
+    None
 }
 
 // The same with a memo, which then has the instance, where more parts stand behind its name. A module of few lines is looked through without it.
+#[tactic(auto, using(crate::proofs::Turns::steps))]
 fn step_down(
     job: &[u8],
     index: &[u32],
@@ -299,7 +266,7 @@ fn step_down(
     area: &[u8],
     r: Ref,
     memo: &mut [usize],
-) -> Down
+) -> Option<Down>
     requires { Recalls job.now index.now memo.old k }
     ensures { StepSeen job.now index.now k (files.now ++ area.now) (text_of job.now (files.now ++ area.now) r) result memo.new }
 {
@@ -309,18 +276,12 @@ fn step_down(
     }
     let h = slot(job, files, area, k, r);
     let from = begin(job, index, k, files, area, r, memo, h);
-    let d = instance_at(job, index, k, files, area, r, from);
-    let Down::More {
-        at,
-        kind: _,
-        size: _,
-        rest: _,
-    } = d
-    else {
-        return d;
+    let d = instance_at(job, index, k, files, area, r, from)?;
+    let Down::More { at, .. } = d else {
+        return Some(d);
     };
     memo::put(memo, h, k, at);
-    d
+    Some(d)
 }
 
 // Nothing found.
@@ -337,6 +298,7 @@ fn nowhere() -> Place
 }
 
 // The instance that the parts of a text lead to from module k, with a memo.
+#[tactic(auto, using(crate::proofs::Turns::seeks))]
 fn find_by(
     job: &[u8],
     index: &[u32],
@@ -353,10 +315,9 @@ fn find_by(
     let mut m = k;
     let mut x = r;
     let mut upto = 0;
-    loop {
-        match step_down(job, index, m, files, area, x, memo) {
-            Down::None => return nowhere(),
-            Down::Last { at: _, kind, conns } => {
+    while let Some(d) = step_down(job, index, m, files, area, x, memo) {
+        match d {
+            Down::Last { kind, conns, .. } => {
                 let row = lookup::module_named(job, index, count, lines::part_of(job, kind));
                 if row == 0 {
                     return nowhere();
@@ -364,16 +325,16 @@ fn find_by(
                 return Place {
                     found: true,
                     parent: m,
-                    conns: conns,
+                    conns,
                     sub: row - 1,
-                    upto: upto,
+                    upto,
                 };
             }
             Down::More {
-                at: _,
                 kind,
                 size,
                 rest,
+                ..
             } => {
                 let row = lookup::module_named(job, index, count, lines::part_of(job, kind));
                 if row == 0 {
@@ -385,6 +346,7 @@ fn find_by(
             }
         }
     }
+    nowhere()
 }
 
 // The instance that the parts of a text lead to from module k.
@@ -400,6 +362,6 @@ pub fn find_instance(
     requires { (count ≤ 128) × ((k < count) × (length (text_of job.now (files.now ++ area.now) r) < 2 ^ 63)) }
     ensures { PlaceSeen job.now index.now count k (text_of job.now (files.now ++ area.now) r) result }
 {
-    let mut memo: [usize; 256] = [0; 256];
+    let mut memo = [0usize; 256];
     find_by(job, index, count, k, files, area, r, &mut memo)
 }

@@ -13,11 +13,11 @@ use native.Mathlib.Nat.{add-zero}
 use lib.Seq.{get_or-drop}
 use Rattle.tcl.specs.Join.{joint_by, joint}
 use Rattle.tcl.specs.Words.{depth, inside, kind_of, quote_size, quote_state, size_of}
-use Rattle.text.specs.Scan.{before}
+use Rattle.text.specs.Scan.{before, Ends}
 use Rattle.tcl.specs.Machines.{span_le, word_kind}
-use Rattle.text.specs.Classes.{ends_plain, within}
+use Rattle.text.specs.Classes.{ends_plain}
 use Rattle.text.specs.Ascii.{byte}
-use Rattle.text.specs.Scans.{before_le}
+use Rattle.text.specs.Scans.{before_le, before_end}
 
 module _ (s p : List ℕ) (at : ℕ) (e : ends_plain (get_or s at 0) ≡ false) where
   pub size_brace : p ≡ take (inside (byte "{") (byte "}") (drop (at + 1) s)) (drop (at + 1) s) → get_or s at 0 ≡ byte "{" → length p + 2 ≡ 1 + size_of (kind_of false (get_or s at 0)) (drop (at + 1) s)
@@ -91,3 +91,7 @@ unfolding joint_by
 no_joint s i h =
     let e : get_or (drop i s) 0 0 ≡ get_or s i 0 = get_or-drop i s 0 0 ∙ ap (λ (k : ℕ). get_or s k 0) (add-zero i) in
     rw (e, ne_eqb (get_or s i 0) (byte "\\") h)
+
+-- no byte ends the plain word: all of it is passed
+pub plain_all : (s : List ℕ) (i a : ℕ) → a ≡ i + before ends_plain (drop i s) → length s ≤ i → i ≤ length s → Ends a (length s) (length s)
+plain_all s i a inv h g = let e : i ≡ length s = omega arith in rw e at (before_end ends_plain s i a inv h g)

@@ -1,7 +1,6 @@
 -- The arguments of a command: positional words, options and flags (document 01, "Files and commands"). Assumes nothing.
-use Rattle.std.specs.Prelude.{Bool, true, false, cond, not, ◌&&◌, ◌||◌, List, [], ◌∷◌, eqb}
-use Rattle.std.proofs.Math.Option.{Option, none, some}
-use Rattle.text.specs.Ascii.{Bytes, ascii, byte}
+use Rattle.std.specs.Prelude.{Bool, true, false, cond, not, ◌&&◌, ◌||◌, List, [], ◌∷◌, eqb, Option, None, Some}
+use Rattle.text.specs.Ascii.{Bytes, byte}
 use Rattle.text.specs.Classes.{is_digit}
 use Rattle.text.specs.Compare.{same}
 
@@ -52,16 +51,16 @@ positionals ws = positionals_from false ws
 
 -- the value of the option with this name: the last one wins
 abbrev pub as_value : Role → Bool → Option Bytes
-as_value Role.positional t = none
-as_value Role.flag t = none
-as_value (Role.option v) t = cond t (some v) none
+as_value Role.positional t = None
+as_value Role.flag t = None
+as_value (Role.option v) t = cond t (Some v) None
 
 abbrev pub later : Option Bytes → Option Bytes → Option Bytes
-later (some v) u = some v
-later none u = u
+later (Some v) u = Some v
+later None u = u
 
 unfoldable pub option_from : Bool → Bytes → List Bytes → Option Bytes
-option_from taken key [] = none
+option_from taken key [] = None
 option_from true key (w ∷ ws) = option_from false key ws
 option_from false key (w ∷ ws) =
     later (option_from (takes_next (role_of w ws)) key ws) (as_value (role_of w ws) (same w key))

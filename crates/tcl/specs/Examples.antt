@@ -1,6 +1,5 @@
 -- The starred cases of "Marked runs" that are of this layer, and others: each is computed from the definitions. Assumes nothing.
-use Rattle.std.specs.Prelude.{◌≡◌, refl, false, List, [], ◌∷◌, map}
-use Rattle.std.proofs.Math.Option.{some}
+use Rattle.std.specs.Prelude.{◌≡◌, refl, false, List, [], ◌∷◌, map, Some}
 use Prim.Native.String.{String}
 use Rattle.text.specs.Ascii.{Bytes, ascii}
 use Rattle.text.specs.Compare.{same}
@@ -44,7 +43,7 @@ hash = refl
 
 -- * `x -5 -k -6`: positional `x`, `-5`; `k` is `-6`
 minus : (positionals (ascii "x" ∷ ascii "-5" ∷ ascii "-k" ∷ ascii "-6" ∷ []) ≡ ascii "x" ∷ ascii "-5" ∷ [])
-    × (option_of (ascii "-k") (ascii "x" ∷ ascii "-5" ∷ ascii "-k" ∷ ascii "-6" ∷ []) ≡ some (ascii "-6"))
+    × (option_of (ascii "-k") (ascii "x" ∷ ascii "-5" ∷ ascii "-k" ∷ ascii "-6" ∷ []) ≡ Some (ascii "-6"))
 unfolding positionals_from option_from role_of is_option same
 minus = (refl, refl)
 
@@ -55,7 +54,7 @@ unfolding states_from same
 state_value = refl
 
 -- * `-include_scope PD`: `PD` is a value and the name is empty
-swallowed : (option_of (ascii "-include_scope") (ascii "-include_scope" ∷ ascii "PD" ∷ []) ≡ some (ascii "PD"))
+swallowed : (option_of (ascii "-include_scope") (ascii "-include_scope" ∷ ascii "PD" ∷ []) ≡ Some (ascii "PD"))
     × ((name_of (ascii "-include_scope" ∷ ascii "PD" ∷ []) ≡ []) × (has_flag (ascii "-include_scope") (ascii "-include_scope" ∷ ascii "PD" ∷ []) ≡ false))
 unfolding positionals_from option_from has_flag_from role_of is_option same
 swallowed = (refl, (refl, refl))

@@ -1,5 +1,5 @@
 -- "`\` LF and `\` CR LF become a space first." Assumes nothing.
-use Rattle.std.specs.Prelude.{ℕ, ◌+◌, ◌≤◌, ◌≡◌, Bool, true, cond, ◌&&◌, [], ◌∷◌, ◌++◌, eqb, length, take, drop, get_or}
+use Rattle.std.specs.Prelude.{ℕ, cond, ◌&&◌, [], ◌∷◌, eqb, get_or}
 use Rattle.text.specs.Ascii.{Bytes, byte}
 use Rattle.tcl.specs.Rewrite.{rewrite}
 
@@ -22,12 +22,3 @@ joined s = joined_by (joint s) (get_or s 0 0) ∷ []
 
 abbrev pub join : Bytes → Bytes
 join s = rewrite joint joined 0 s
-
--- n bytes from i on
-unfoldable pub run : Bytes → ℕ → ℕ → Bytes
-run s i n = take n (drop i s)
-
--- where r says so, n bytes stand from i on, and they are written as they are
-pub record Kept (s : Bytes) (i n : ℕ) (r : Bool) : Type 0 where
-  pub there : r ≡ true → i + n ≤ length s
-  pub stays : r ≡ true → join (drop i s) ≡ run s i n ++ join (drop (i + n) s)

@@ -21,6 +21,10 @@ module _ (next : ℕ → ℕ → ℕ) (s : List ℕ) (i a d : ℕ) (inv : Spans 
   unfolding span
   span_end_lem h g = record { is_at = sym (inv.keeps ∙ rw (drop_of_length-le s h, add-zero)); within = g }
 
+  -- all of it is passed
+  pub span_all : length s ≤ i → i ≤ length s → Ends a (length s) (length s)
+  span_all h g = let e : i ≡ length s = omega arith in rw e at (span_end_lem h g)
+
   pub span_stop : (d' : ℕ) → d' ≡ 0 → d' ≡ next d (get_or s i 0) → i < length s → Ends a (length s) i
   unfolding span
   span_stop d' t e h = record { is_at = sym (inv.keeps ∙ rw (here s i h, ← e, eq-eqb d' 0 t, add-zero)); within = omega arith }

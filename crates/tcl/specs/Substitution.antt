@@ -1,12 +1,11 @@
 -- Substitution of variables, and what a written word comes to. Assumes nothing.
-use Rattle.std.specs.Prelude.{ℕ, ◌+◌, Bool, cond, not, ◌&&◌, List, [], ◌∷◌, map, eqb, ltb, length, take, drop, get_or}
-use Rattle.std.proofs.Math.Option.{Option, none, some}
+use Rattle.std.specs.Prelude.{ℕ, ◌+◌, Bool, cond, not, ◌&&◌, List, [], ◌∷◌, map, eqb, ltb, length, take, drop, get_or, Option, None, Some}
 use Rattle.text.specs.Ascii.{Bytes, byte}
 use Rattle.text.specs.Classes.{is_variable}
 use Rattle.text.specs.Compare.{same}
 use Rattle.text.specs.Scan.{before, up_to}
 use Rattle.tcl.specs.Rewrite.{rewrite}
-use Rattle.tcl.specs.Words.{Word, braced, quoted, bracketed, plain}
+use Rattle.tcl.specs.Words.{Word, quoted, plain}
 
 -- a variable that `set` made, in the order of the `set` commands
 pub record Variable : Type 0 where
@@ -15,15 +14,15 @@ pub record Variable : Type 0 where
 
 -- the value of a name: the last one set wins; "an unknown or empty name is kept as written"
 abbrev pub last_or : Option Bytes → Bool → Bytes → Option Bytes
-last_or (some v) t u = some v
-last_or none t u = cond t (some u) none
+last_or (Some v) t u = Some v
+last_or None t u = cond t (Some u) None
 
 unfoldable pub lookup : List Variable → Bytes → Option Bytes
-lookup [] n = none
+lookup [] n = None
 lookup (v ∷ vs) n = last_or (lookup vs n) (same n v.name) v.value
 
 unfoldable pub known : List Variable → Bytes → Option Bytes
-known vs [] = none
+known vs [] = None
 known vs (x ∷ n) = lookup vs (x ∷ n)
 
 -- ---- "`$N` and `${N}` take letters, digits, `_`": s begins with the `$`
@@ -57,8 +56,8 @@ piece_name s = cond (eqb (get_or s 0 0) (byte "$")) (take (name_size s) (drop (1
 
 -- what stands for a piece: the value, or the piece as written
 abbrev pub or_as_written : Option Bytes → Bytes → Bytes
-or_as_written none raw = raw
-or_as_written (some v) raw = v
+or_as_written None raw = raw
+or_as_written (Some v) raw = v
 
 abbrev pub image : List Variable → Bytes → Bytes
 image vs s = or_as_written (known vs (piece_name s)) (take (1 + piece_more s) s)

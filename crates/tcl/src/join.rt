@@ -1,9 +1,11 @@
 // A file's text with its continuations joined: `\` LF and `\` CR LF become a space.
 ghost use Rattle.std.specs.Prelude.{◌≡◌, ◌+◌, ◌≤◌, ◌<◌, length, drop};
 ghost use Rattle.spans.specs.Area.{Wrote};
-ghost use Rattle.tcl.specs.Join.{joint_by, joint as Join·joint, joined_by, join as Join·join, run, Kept};
+ghost use Rattle.tcl.specs.Join.{joint_by, joint as Join·joint, joined_by, join as Join·join};
 
+use spans::area::append;
 use text::part::peek;
+use text::scan::find_far;
 
 // How many bytes a continuation has besides its backslash, by the three bytes that stand there.
 fn joint_by(a: u8, b: u8, c: u8) -> usize
@@ -39,55 +41,6 @@ pub fn joined_by(n: usize, b: u8) -> u8
     b' '
 }
 
-// Whether none of eight bytes of body from i on is a backslash: then they are written as they are.
-fn eight_kept(body: &[u8], i: usize) -> bool
-    requires { i + 8 ≤ length body.now }
-    ensures { Kept body.now i 8 result }
-{
-    (body[i] != b'\\')
-        & (body[i + 1] != b'\\')
-        & (body[i + 2] != b'\\')
-        & (body[i + 3] != b'\\')
-        & (body[i + 4] != b'\\')
-        & (body[i + 5] != b'\\')
-        & (body[i + 6] != b'\\')
-        & (body[i + 7] != b'\\')
-}
-
-// The same where there are eight, and false where there are fewer.
-fn kept_here(body: &[u8], i: usize) -> bool
-    requires { i ≤ length body.now }
-    ensures { Kept body.now i 8 result }
-{
-    if body.len() - i < 8 {
-        return false;
-    }
-    eight_kept(body, i)
-}
-
-// Writes at o the eight bytes of body from i on: all are read first, so that they become one load and one store.
-fn copy_eight(body: &[u8], i: usize, area: &mut [u8], o: usize)
-    requires { (i + 8 ≤ length body.now) × (o + 8 ≤ length area.old) }
-    ensures { Wrote area.old area.new o (run body.now i 8) (o + 8) }
-{
-    let a = body[i];
-    let b = body[i + 1];
-    let c = body[i + 2];
-    let d = body[i + 3];
-    let e = body[i + 4];
-    let f = body[i + 5];
-    let g = body[i + 6];
-    let h = body[i + 7];
-    area[o] = a;
-    area[o + 1] = b;
-    area[o + 2] = c;
-    area[o + 3] = d;
-    area[o + 4] = e;
-    area[o + 5] = f;
-    area[o + 6] = g;
-    area[o + 7] = h;
-}
-
 // Writes body to the area from `at` on, with a space for each continuation, and returns where it ends.
 pub fn join(body: &[u8], area: &mut [u8], at: usize) -> usize
     requires { at + length body.now ≤ length area.old }
@@ -95,17 +48,17 @@ pub fn join(body: &[u8], area: &mut [u8], at: usize) -> usize
 {
     let mut i = 0;
     let mut o = at;
+    // Counted by hand: the place moves on behind the next backslash, so an iterator is no plainer.
     while i < body.len() {
-        if kept_here(body, i) {
-            copy_eight(body, i, area, o);
-            o += 8;
-            i += 8;
-            continue;
+        let e = find_far(body, i, b'\\');
+        o = append(&body[i..e], area, o);
+        if e == body.len() {
+            return o;
         }
-        let n = joint(body, i);
-        area[o] = joined_by(n, body[i]);
+        let n = joint(body, e);
+        area[o] = joined_by(n, body[e]);
         o += 1;
-        i = i + 1 + n;
+        i = e + 1 + n;
     }
     o
 }

@@ -26,16 +26,14 @@ fn close_at(s: &[u8], at: usize, op: u8, cl: u8) -> usize
     requires { at ≤ length s.now }
     ensures { Ends (at + inside op cl (drop at s.now)) (length s.now) result }
 {
-    let mut i = at;
     let mut d: usize = 1;
-    while i < s.len() {
+    for i in at..s.len() {
         d = deeper(op, cl, d, s[i]);
         if d == 0 {
             return i;
         }
-        i += 1;
     }
-    i
+    s.len()
 }
 
 // In a quoted word: 1, or 2 behind a backslash; 0 where it is closed.
@@ -55,20 +53,19 @@ pub fn quote_state(d: usize, b: u8) -> usize
 }
 
 // Where the quoted word whose body begins at `at` is closed: the end, where it is not.
+// A loop of its own beside `close_at`: its step takes no brackets, and a step that is passed in is no plainer.
 fn quote_end(s: &[u8], at: usize) -> usize
     requires { at ≤ length s.now }
     ensures { Ends (at + quote_size (drop at s.now)) (length s.now) result }
 {
-    let mut i = at;
     let mut d: usize = 1;
-    while i < s.len() {
+    for i in at..s.len() {
         d = quote_state(d, s[i]);
         if d == 0 {
             return i;
         }
-        i += 1;
     }
-    i
+    s.len()
 }
 
 // Where the plain word from `at` on ends.
@@ -76,14 +73,12 @@ fn plain_end(s: &[u8], at: usize) -> usize
     requires { at ≤ length s.now }
     ensures { Ends (at + before ends_plain (drop at s.now)) (length s.now) result }
 {
-    let mut i = at;
-    while i < s.len() {
+    for i in at..s.len() {
         if ends_plain(s[i]) {
             return i;
         }
-        i += 1;
     }
-    i
+    s.len()
 }
 
 // The braced word whose `{` is at `at`, without its braces.

@@ -13,10 +13,7 @@ ghost use Rattle.entries.specs.View.{Finds as Item-as-Finds, next_of};
 ghost use Rattle.args.specs.View.{words_from, pick, Finds};
 ghost use Rattle.tclc.specs.Numbers.{next_by, item_by, found_by, read_by};
 
-use commands::next::Next;
-use entries::byte::Next as Read;
-use entries::item::Item;
-use spans::span::Found;
+use substitution::put::Full;
 
 pub fn tclc_join(body: &[u8], area: &mut [u8]) -> usize
     requires { 0 + length body.now ≤ length area.old }
@@ -46,12 +43,12 @@ pub fn tclc_next(
 {
     let r = commands::next::next_command(files, base, len, at, vars, nv, area, o, limit, words);
     match r {
-        Next::None => 0,
-        Next::Full => 1,
-        Next::Words(n, a, e) => {
-            *count = n;
-            *next = a;
-            *end = e;
+        Err(Full) => 1,
+        Ok(None) => 0,
+        Ok(Some(w)) => {
+            *count = w.count;
+            *next = w.next;
+            *end = w.end;
             2
         }
     }
@@ -68,19 +65,16 @@ pub fn tclc_entry(
 ) -> u32
     ensures { Item-as-Finds v.now (entries_left first (drop at v.now)) (item_by result from.new size.new next.new) }
 {
-    let r = entries::item::next_entry(v, at, first);
-    match r {
-        Item::None => 0,
-        Item::Entry(s, q, n) => {
-            *from = s.at;
-            *size = s.len;
-            *next = n;
-            if q {
-                return 2;
-            }
-            1
-        }
+    let Some(item) = entries::item::next_entry(v, at, first) else {
+        return 0;
+    };
+    *from = item.entry.at;
+    *size = item.entry.len;
+    *next = item.next;
+    if item.quoted {
+        return 2;
     }
+    1
 }
 
 pub fn tclc_count(v: &[u8]) -> usize
@@ -101,15 +95,12 @@ pub fn tclc_positional(
 ) -> u32
     ensures { Finds (files.now ++ area.now) words.now n (pick k (positionals (words_from (files.now ++ area.now) words.now n 1))) (found_by result at.new len.new) }
 {
-    let r = args::argument::positional(files, area, words, n, k);
-    match r {
-        Found::None => 0,
-        Found::At(s) => {
-            *at = s.at;
-            *len = s.len;
-            1
-        }
-    }
+    let Some(s) = args::argument::positional(files, area, words, n, k) else {
+        return 0;
+    };
+    *at = s.at;
+    *len = s.len;
+    1
 }
 
 // The value of an option.
@@ -124,15 +115,12 @@ pub fn tclc_option<'a>(
 ) -> u32
     ensures { Finds (files.now ++ area.now) words.now n (option_of key.now (words_from (files.now ++ area.now) words.now n 1)) (found_by result at.new len.new) }
 {
-    let r = args::argument::option(files, area, words, n, key);
-    match r {
-        Found::None => 0,
-        Found::At(s) => {
-            *at = s.at;
-            *len = s.len;
-            1
-        }
-    }
+    let Some(s) = args::argument::option(files, area, words, n, key) else {
+        return 0;
+    };
+    *at = s.at;
+    *len = s.len;
+    1
 }
 
 pub fn tclc_flag<'a>(files: &'a [u8], area: &'a [u8], words: &[u32], n: usize, key: &[u8]) -> bool
@@ -145,13 +133,10 @@ pub fn tclc_flag<'a>(files: &'a [u8], area: &'a [u8], words: &[u32], n: usize, k
 pub fn tclc_byte(raw: &[u8], i: usize, quoted: bool, byte: &mut u8, next: &mut usize) -> u32
     ensures { entry_bytes quoted (drop i raw.now) ≡ next_of quoted raw.now (read_by result byte.new next.new) }
 {
-    let r = entries::byte::next_byte(raw, i, quoted);
-    match r {
-        Read::End => 0,
-        Read::Byte(b, j) => {
-            *byte = b;
-            *next = j;
-            1
-        }
-    }
+    let Some((b, j)) = entries::byte::next_byte(raw, i, quoted) else {
+        return 0;
+    };
+    *byte = b;
+    *next = j;
+    1
 }

@@ -1,12 +1,10 @@
 -- Decimal numbers: "decimal, no leading zero but for 0".
 -- Assumes nothing.
-use Rattle.std.specs.Prelude.{ℕ, ◌+◌, ◌-◌, ◌*◌, Bool, false, cond, not, ◌&&◌, ◌||◌, [], ◌∷◌, eqb, leb}
+use Rattle.std.specs.Prelude.{Option, Some, None, ℕ, ◌+◌, ◌-◌, ◌*◌, Bool, false, cond, not, ◌&&◌, ◌||◌, [], ◌∷◌, eqb, leb}
 use Rattle.text.specs.Ascii.{Bytes, byte}
 use Rattle.text.specs.Classes.{is_digit}
 use Rattle.text.specs.Compare.{same}
 use Rattle.text.specs.Scan.{all}
-use Rattle.text.specs.declared.number.Num.{Num}
-use Rattle.text.specs.declared.number.Num.TheVariants.{Of, Bad}
 
 -- the value of digits, n standing for those before them
 unfoldable pub value_from : ℕ → Bytes → ℕ
@@ -18,5 +16,5 @@ is_decimal [] = false
 is_decimal (d ∷ ds) = all is_digit (d ∷ ds) && (not (eqb d (byte "0")) || same ds [])
 
 -- a decimal number of at most `most`, or none
-unfoldable pub number_of : ℕ → Bytes → Num
-number_of most w = cond (is_decimal w && leb (value_from 0 w) most) (Of (value_from 0 w)) Bad
+unfoldable pub number_of : ℕ → Bytes → Option ℕ
+number_of most w = cond (is_decimal w && leb (value_from 0 w) most) (Some (value_from 0 w)) None

@@ -1,11 +1,10 @@
 -- Worked examples: each is computed from the definitions.
 -- Assumes nothing.
-use Rattle.std.specs.Prelude.{◌≡◌, refl, true, [], ◌∷◌}
+use Rattle.std.specs.Prelude.{◌≡◌, refl, Some, None, true, [], ◌∷◌}
 use Rattle.text.specs.Ascii.{ascii, byte}
 use Rattle.text.specs.Compare.{same, starts_with, less}
 use Rattle.text.specs.Scan.{before, up_to, all, split_at}
 use Rattle.text.specs.Numbers.{value_from, is_decimal, number_of}
-use Rattle.text.specs.declared.number.Num.TheVariants.{Of, Bad}
 
 prefix : starts_with (ascii "query_") (ascii "query_power") ≡ true
 unfolding same
@@ -23,10 +22,10 @@ place : up_to (byte "=") (ascii "top=t") ≡ 3
 unfolding before
 place = refl
 
-number : number_of 999 (ascii "154") ≡ Of 154
+number : number_of 999 (ascii "154") ≡ Some 154
 unfolding number_of is_decimal all value_from
 number = refl
 
-leading_zero : number_of 999 (ascii "00") ≡ Bad
+leading_zero : number_of 999 (ascii "00") ≡ None
 unfolding number_of is_decimal all value_from same
 leading_zero = refl

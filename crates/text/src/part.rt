@@ -5,44 +5,36 @@ ghost use Rattle.std.specs.Prelude.{◌≡◌, take, drop, get_or};
 pub fn part(s: &[u8], at: usize, len: usize) -> &[u8]
     ensures { result.now ≡ take len (drop at s.now) }
 {
-    if s.len() <= at {
-        return &s[..0];
-    }
-    if s.len() - at <= len {
-        return &s[at..];
-    }
-    let e = at + len;
-    &s[at..e]
+    let after = rest(s, at);
+    &after[..len.min(after.len())]
 }
 
 // The bytes of s from at on.
 pub fn rest(s: &[u8], at: usize) -> &[u8]
     ensures { result.now ≡ drop at s.now }
 {
-    if s.len() <= at {
-        return &s[..0];
-    }
-    &s[at..]
+    &s[at.min(s.len())..]
+}
+
+// The element at i, or d.
+pub fn get_or<T: Copy>(s: &[T], i: usize, d: T) -> T
+    ensures { result ≡ get_or s.now i d }
+{
+    s.get(i).copied().unwrap_or(d)
 }
 
 // The byte at i.
 pub fn peek(s: &[u8], i: usize) -> u8
     ensures { result ≡ get_or s.now i 0 }
 {
-    if i < s.len() {
-        return s[i];
-    }
-    0
+    get_or(s, i, 0)
 }
 
 // The number at i.
 pub fn num(s: &[u32], i: usize) -> u32
     ensures { result ≡ get_or s.now i 0 }
 {
-    if i < s.len() {
-        return s[i];
-    }
-    0
+    get_or(s, i, 0)
 }
 
 // A number as a place.

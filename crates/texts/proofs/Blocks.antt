@@ -1,11 +1,10 @@
 -- What the texts say of the signals that a domain loses: the number in its report line (demand 3c), and the force lines of its two blocks in the
 -- glue (demand 3d), each under its sentence.
 -- Assumes nothing.
-use Rattle.std.specs.Prelude.{ℕ, ◌≤◌, ◌≡◌, refl, leb, length}
+use Rattle.std.specs.Prelude.{ℕ, ◌≤◌, ◌≡◌, refl, leb, length, Option, None, Some}
 use Rattle.std.proofs.Math.Path.{sym, ap}
 use Rattle.std.proofs.Common.{subst, ◌∙◌, arith}
 use Rattle.std.proofs.Math.Bool.{true}
-use Rattle.std.proofs.Math.Option.{Option, none, some}
 use mathlib.Core.List.{List, [], ◌∷◌, ◌++◌, map, append_assoc, append_cancel_left, append_cancel_right, Memᴰ as Mem}
 use Rattle.std.proofs.lemmas.List.{length-map}
 use borrow.Author.Tests.{leb-true}
@@ -41,7 +40,7 @@ use Rattle.texts.specs.Blocks.{always_of, initial_of, glue_head, report_head, gl
 
 -- ---- a domain's parts of the texts
 
-with_both : {A : Type 0} (d : Domain) (z : A) (f : Bytes → Bytes → A) (power ground_net : Bytes) → d.power ≡ some power → d.ground_net ≡ some ground_net → with_supplies d z f ≡ f power ground_net
+with_both : {A : Type 0} (d : Domain) (z : A) (f : Bytes → Bytes → A) (power ground_net : Bytes) → d.power ≡ Some power → d.ground_net ≡ Some ground_net → with_supplies d z f ≡ f power ground_net
 with_both d z f power ground_net p g = rw (p, g)
 
 three : (a b c r : Bytes) → ((a ++ b) ++ c) ++ r ≡ a ++ (b ++ (c ++ r))
@@ -49,7 +48,7 @@ three a b c r = rw (append_assoc (a ++ b) c r, append_assoc a b (c ++ r))
 
 -- ---- every domain with both supplies, wherever it stands among the domains
 
-module _ (s : Setting) (front : List Domain) (d : Domain) (back : List Domain) (stands : s.records.domains ≡ front ++ d ∷ back) (power ground_net : Bytes) (p : d.power ≡ some power) (g : d.ground_net ≡ some ground_net) where
+module _ (s : Setting) (front : List Domain) (d : Domain) (back : List Domain) (stands : s.records.domains ≡ front ++ d ∷ back) (power ground_net : Bytes) (p : d.power ≡ Some power) (g : d.ground_net ≡ Some ground_net) where
   -- 3d: "The blocks are parts of the glue as `generate` writes it: the definition of the glue exhibits them"
   pub glue_has_blocks : glue_of s ≡ (glue_head s ++ glue_for s front) ++ (wire d power ground_net ++ (always_of s d ++ (initial_of s d ++ glue_for s back)))
   unfolding glue_of ◌⊕◌
@@ -77,7 +76,7 @@ line_says s d power ground_net = simp append_assoc
 
 -- ---- the number
 
-module _ (s : Setting) (within : fits s ≡ true) (d : Domain) (has : Mem d s.records.domains) (power ground_net : Bytes) (p : d.power ≡ some power) (g : d.ground_net ≡ some ground_net) where
+module _ (s : Setting) (within : fits s ≡ true) (d : Domain) (has : Mem d s.records.domains) (power ground_net : Bytes) (p : d.power ≡ Some power) (g : d.ground_net ≡ Some ground_net) where
   -- "its paths 1,024"
   pub few_paths : length (lost_paths s d) ≤ most_paths
   unfolding fits
@@ -103,16 +102,16 @@ module _ (s : Setting) (within : fits s ≡ true) (d : Domain) (has : Mem d s.re
 -- ---- the force lines
 
 -- the scope of a job that passes checks 7 and 8 exists
-pub scope_exists : (t : Bytes) (j : Job) (top : Module) (design_top : Option Bytes) (path : List Bytes) (base : Module) → parse t ≡ accepted j → module_named j.modules j.top ≡ some top → scope_of j top design_top ≡ at path base → Scope t j path base
+pub scope_exists : (t : Bytes) (j : Job) (top : Module) (design_top : Option Bytes) (path : List Bytes) (base : Module) → parse t ≡ accepted j → module_named j.modules j.top ≡ Some top → scope_of j top design_top ≡ at path base → Scope t j path base
 unfolding scope_of
 scope_exists t j top design_top path base a i e =
     record { accepts = a; top = top; is_top = i; exists = along_exists (scope_path_of j top design_top) e }
   where
-    found : (p : List Bytes) (o : Option Module) → existing p o ≡ at path base → module_at j.modules top p ≡ o → module_at j.modules top path ≡ some base
-    found p none e m = let z : ◌≡◌ {A = ℕ} 0 1 = cc in absurd (omega arith)
-    found p (some b) e m = let x : p ≡ path = cc in let y : b ≡ base = cc in rw (← x, ← y) m
+    found : (p : List Bytes) (o : Option Module) → existing p o ≡ at path base → module_at j.modules top p ≡ o → module_at j.modules top path ≡ Some base
+    found p None e m = let z : ◌≡◌ {A = ℕ} 0 1 = cc in absurd (omega arith)
+    found p (Some b) e m = let x : p ≡ path = cc in let y : b ≡ base = cc in rw (← x, ← y) m
 
-    along_exists : (p : Path) → scope_along j.modules top p ≡ at path base → module_at j.modules top path ≡ some base
+    along_exists : (p : Path) → scope_along j.modules top p ≡ at path base → module_at j.modules top path ≡ Some base
     along_exists (Path.along p) e = found p (module_at j.modules top p) e refl
     along_exists (Path.refused n) e = let z : ◌≡◌ {A = ℕ} 0 1 = cc in absurd (omega arith)
 

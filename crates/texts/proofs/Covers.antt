@@ -1,10 +1,9 @@
 -- "Strategies with elements go first, otherwise in order of creation; the first to cover a port keeps it.": what holds of the isolated ports.
 -- Assumes nothing.
-use Rattle.std.specs.Prelude.{◌≡◌, Bool, cond, not}
+use Rattle.std.specs.Prelude.{◌≡◌, Bool, cond, not, Option, None, Some}
 use Rattle.std.proofs.Math.Path.{refl, ap}
 use Rattle.std.proofs.Common.{sym, ◌∙◌, ⊎_elim}
 use Rattle.std.proofs.Math.Bool.{true, false}
-use Rattle.std.proofs.Math.Option.{Option, none, some}
 use mathlib.Core.List.{List, [], ◌∷◌, ◌++◌, map, flat_map, append_assoc, append-nil, map-append}
 use mathlib.Core.List.Memᴰ.{append_cases}
 use mathlib.Core.List.Memᴰ.{eq_of_singleton as eq-single}
@@ -55,20 +54,20 @@ module _ (s : Setting) (P : Cover → Type 0)
     domain_holds d c (e ∷ es) h = covered_holds (flat_map (element_targets s) (e ∷ es)) c h
 
     with_domain_holds : (c : Cover) (o : Option Domain) → P c → P (with_domain s i sig c o)
-    with_domain_holds c none h = remark c _ h
-    with_domain_holds c (some d) h = domain_holds d c i.elements h
+    with_domain_holds c None h = remark c _ h
+    with_domain_holds c (Some d) h = domain_holds d c i.elements h
 
-    clamped_holds : (c : Cover) → P c → P (with_signal s i c (some sig))
+    clamped_holds : (c : Cover) → P c → P (with_signal s i c (Some sig))
     clamped_holds c h = go (is_clamp (lowered i.clamp))
       where
         go : (b : Bool) → P (cond b (with_domain s i sig c (domain_named s.records i.domain)) (remarked c (format2 "isolation strategy '{0}': clamp value '{1}' not simulated" i.name (lowered i.clamp))))
         go true = with_domain_holds c (domain_named s.records i.domain) h
         go false = remark c _ h
 
-  module _ (Q : Isolation → Type 0) (keep : (i : Isolation) (sig : Bytes) (t : Target) (c : Cover) (n : Bytes) → Q i → i.signal ≡ some sig → is_in (key_of t) c.keys ≡ false → P c → P (kept s i sig t c (Resolved.net n))) where
+  module _ (Q : Isolation → Type 0) (keep : (i : Isolation) (sig : Bytes) (t : Target) (c : Cover) (n : Bytes) → Q i → i.signal ≡ Some sig → is_in (key_of t) c.keys ≡ false → P c → P (kept s i sig t c (Resolved.net n))) where
     signal_holds : (i : Isolation) (c : Cover) (o : Option Bytes) → Q i → i.signal ≡ o → P c → P (with_signal s i c o)
-    signal_holds i c none q e h = remark c _ h
-    signal_holds i c (some sig) q e h = clamped_holds i sig (λ t c n new h. keep i sig t c n q e new h) c h
+    signal_holds i c None q e h = remark c _ h
+    signal_holds i c (Some sig) q e h = clamped_holds i sig (λ t c n new h. keep i sig t c n q e new h) c h
 
     pub strategies_hold : (is : List Isolation) (c : Cover) → ((i : Isolation) → Mem i is → Q i) → P c → P (strategies s is c)
     unfolding strategies

@@ -1,11 +1,10 @@
 -- Laws: the paths that a domain loses have no LF, and the checks in its block have none where the names in the records have none.
 -- A listed path is made of NAMEs and of an element that leads to a module, whose parts are NAMEs or empty.
 -- Assumes nothing.
-use Rattle.std.specs.Prelude.{ℕ, ◌≡◌, Bool, false, cond, ◌&&◌, eqb, leb, length}
+use Rattle.std.specs.Prelude.{ℕ, ◌≡◌, Bool, false, cond, ◌&&◌, eqb, leb, length, None, Some}
 use Rattle.std.proofs.Math.Path.{refl, subst}
 use Rattle.std.proofs.Common.{sym, ap, ◌∙◌, ⊎_elim, eqb-true, ne_eqb}
 use Rattle.std.proofs.Math.Bool.{true, not}
-use Rattle.std.proofs.Math.Option.{none, some}
 use mathlib.Core.List.Memᴰ.{cast}
 use mathlib.Core.List.{List, [], ◌∷◌, flat_map, Memᴰ as Mem}
 use Rattle.text.specs.Ascii.{Bytes, ascii, byte}
@@ -130,11 +129,11 @@ element_parts e h = sym (filled_one (parts e) ∙ parts_one e) ∙ h
 -- ---- names that lead to a module
 
 module _ (d : List Module) (named : AllNamed d) where
-  pub lookup_one : (m : Module) (ns : List Bytes) {m' : Module} → Mem m d → module_at d m ns ≡ some m' → all on_one_line ns ≡ true
+  pub lookup_one : (m : Module) (ns : List Bytes) {m' : Module} → Mem m d → module_at d m ns ≡ Some m' → all on_one_line ns ≡ true
   unfolding module_at all
   lookup_one m [] at e = refl
   lookup_one m (n ∷ ns) at e =
-      let i = some_of (instance_named m n) (λ (i : Inst). on_some (module_named d i.type) none (λ m'. module_at d m' ns)) e in
+      let i = some_of (instance_named m n) (λ (i : Inst). on_some (module_named d i.type) None (λ m'. module_at d m' ns)) e in
       let k = some_of (module_named d i.0.type) (λ m'. module_at d m' ns) i.2 in
       let is : i.0.name ≡ n = same_eq i.0.name n (first_passes (λ (i : Inst). same i.name n) (instances m) i.1) in
       let one : on_one_line n ≡ true = subst (λ (x : Bytes). on_one_line x ≡ true) is (name_one i.0.name ((named m at).insts i.0 (first_mem (λ (i : Inst). same i.name n) (instances m) i.1))) in
@@ -184,7 +183,7 @@ active_one i = go (same (lowered i.sense) (ascii "low"))
     go false = refl
 
 module _ (s : Setting) (short : all on_one_line s.scope ≡ true) where
-  kept_one : (i : Isolation) (sig : Bytes) (t : Target) (c : Cover) (n : Bytes) → strategy_one i ≡ true → i.signal ≡ some sig → is_in (key_of t) c.keys ≡ false → all port_one c.ports ≡ true → all port_one (kept s i sig t c (Resolved.net n)).ports ≡ true
+  kept_one : (i : Isolation) (sig : Bytes) (t : Target) (c : Cover) (n : Bytes) → strategy_one i ≡ true → i.signal ≡ Some sig → is_in (key_of t) c.keys ≡ false → all port_one c.ports ≡ true → all port_one (kept s i sig t c (Resolved.net n)).ports ≡ true
   unfolding all
   kept_one i sig t c n g e new h =
       let r = both (on_one_line i.name) (on_some i.signal true on_one_line) g in

@@ -1,9 +1,8 @@
 -- Jobs answered by computation, from their bytes to the bytes of the texts: the worked example of "Marked runs", and small jobs that show one rule each.
 -- Assumes nothing.
-use Rattle.std.specs.Prelude.{ℕ, ◌≡◌, refl, cond, length}
+use Rattle.std.specs.Prelude.{ℕ, ◌≡◌, refl, cond, length, Option, None, Some}
 use Prim.Native.String.{String, ◌++◌ as ◌++ˢ◌}
 use mathlib.Core.List.{List, [], ◌∷◌, ◌++◌, flat_map}
-use Rattle.std.proofs.Math.Option.{Option, none, some}
 use Rattle.text.specs.Ascii.{Bytes, ascii, byte}
 use Rattle.text.specs.Compare.{same, less}
 use Rattle.text.specs.Scan.{before, all, any, split_at}
@@ -55,9 +54,9 @@ text_in f j m (Scope.at path base) = f (setting_of j path base m)
 text_in f j m (Scope.no_scope n) = refusal n
 
 abbrev text_from : (Setting → Bytes) → Job → Option Module → Reading → Bytes
-text_from f j none r = []
-text_from f j (some top) (Reading.done n m) = text_in f j m (scope_of j top m.design_top)
-text_from f j (some top) (Reading.refused x k) = refusal x
+text_from f j None r = []
+text_from f j (Some top) (Reading.done n m) = text_in f j m (scope_of j top m.design_top)
+text_from f j (Some top) (Reading.refused x k) = refusal x
 
 abbrev text_of : (Setting → Bytes) → Parsed → Bytes
 text_of f (Parsed.refused x n) = refusal x

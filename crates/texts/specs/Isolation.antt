@@ -1,8 +1,7 @@
 -- Isolation: which ports are isolated, by which strategy, and the processes that clamp them (document 01, "The walk and the glue").
 -- Assumes nothing.
-use Rattle.std.specs.Prelude.{ℕ, ◌+◌, ◌-◌, Bool, true, false, cond, not, ◌&&◌, ◌||◌}
+use Rattle.std.specs.Prelude.{ℕ, ◌+◌, ◌-◌, Bool, true, false, cond, not, ◌&&◌, ◌||◌, Option, None, Some}
 use mathlib.Core.List.{List, [], ◌∷◌, ◌++◌, map, flat_map}
-use Rattle.std.proofs.Math.Option.{Option, none, some}
 use Rattle.text.specs.Ascii.{Bytes, ascii, byte}
 use Rattle.text.specs.Classes.{within}
 use Rattle.text.specs.Compare.{same}
@@ -167,12 +166,12 @@ in_domain s i sig d c [] =
 in_domain s i sig d c (e ∷ es) = covered s i sig (flat_map (element_targets s) (e ∷ es)) c
 
 abbrev pub with_domain : Setting → Isolation → Bytes → Cover → Option Domain → Cover
-with_domain s i sig c none = remarked c (format2 "isolation strategy '{0}': unknown domain '{1}'" i.name i.domain)
-with_domain s i sig c (some d) = in_domain s i sig d c i.elements
+with_domain s i sig c None = remarked c (format2 "isolation strategy '{0}': unknown domain '{1}'" i.name i.domain)
+with_domain s i sig c (Some d) = in_domain s i sig d c i.elements
 
 abbrev pub with_signal : Setting → Isolation → Cover → Option Bytes → Cover
-with_signal s i c none = remarked c (format1 "isolation strategy '{0}' has no -isolation_signal; not simulated" i.name)
-with_signal s i c (some sig) =
+with_signal s i c None = remarked c (format1 "isolation strategy '{0}' has no -isolation_signal; not simulated" i.name)
+with_signal s i c (Some sig) =
     cond (is_clamp (lowered i.clamp)) (with_domain s i sig c (domain_named s.records i.domain))
     (remarked c (format2 "isolation strategy '{0}': clamp value '{1}' not simulated" i.name (lowered i.clamp)))
 

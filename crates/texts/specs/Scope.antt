@@ -1,7 +1,6 @@
 -- The scope of the power intent: checks 7 and 8 of document 01.
 -- Assumes nothing.
-use Rattle.std.specs.Prelude.{ℕ, cond, not, List, [], ◌∷◌, map, eqb, leb}
-use Rattle.std.proofs.Math.Option.{Option, none, some}
+use Rattle.std.specs.Prelude.{ℕ, cond, not, List, [], ◌∷◌, map, eqb, leb, Option, None, Some}
 use Rattle.text.specs.Ascii.{Bytes, byte}
 use Rattle.text.specs.Compare.{same}
 use Rattle.text.specs.Scan.{split_at}
@@ -30,15 +29,15 @@ without_top top (p ∷ ps) = cond (same p top) ps (p ∷ ps)
 -- ---- "Without an override, where a design top is set and is not the top itself: does `find_by_type` make at most 4,096 calls? No: 13. Is it the
 -- type of an instance found by `find_by_type`? No: 11."
 abbrev pub found_at : Option (List Bytes) → Path
-found_at none = refused 11
-found_at (some path) = along path
+found_at None = refused 11
+found_at (Some path) = along path
 
 abbrev pub path_to : List Module → Module → Bytes → Path
 path_to d top type = cond (leb (calls_made d top type) most_calls) (found_at (find_by_type d top type)) (refused 13)
 
 abbrev pub by_design_top : List Module → Module → Bytes → Option Bytes → Path
-by_design_top d top name none = along []
-by_design_top d top name (some type) = cond (same type name) (along []) (path_to d top type)
+by_design_top d top name None = along []
+by_design_top d top name (Some type) = cond (same type name) (along []) (path_to d top type)
 
 -- "`override=PATH` (empty: none)"
 abbrev pub scope_path_of : Job → Module → Option Bytes → Path
@@ -50,8 +49,8 @@ pub data Scope : Type 0 where
   no_scope : ℕ → Scope
 
 abbrev pub existing : List Bytes → Option Module → Scope
-existing path none = no_scope 12
-existing path (some m) = at path m
+existing path None = no_scope 12
+existing path (Some m) = at path m
 
 abbrev pub scope_along : List Module → Module → Path → Scope
 scope_along d top (Path.along path) = existing path (module_at d top path)

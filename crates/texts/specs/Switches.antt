@@ -1,8 +1,7 @@
 -- Power switches: their conditions (the Rust's `bool_expr`), their glue, report lines and warnings.
 -- Assumes nothing.
-use Rattle.std.specs.Prelude.{ℕ, ◌+◌, cond, take}
+use Rattle.std.specs.Prelude.{ℕ, ◌+◌, cond, take, Option, None, Some}
 use mathlib.Core.List.{List, [], ◌∷◌, ◌++◌, map, flat_map}
-use Rattle.std.proofs.Math.Option.{Option, none, some}
 use Rattle.text.specs.Ascii.{Bytes, ascii}
 use Rattle.text.specs.Classes.{is_digit, is_variable}
 use Rattle.text.specs.Compare.{same}
@@ -20,7 +19,7 @@ use Rattle.texts.specs.Setting.{Setting, hier}
 -- the signal of a control port: of two for one port the last counts
 unfoldable pub signal_of : Setting → List Control → Bytes → Option Bytes → Option Bytes
 signal_of s [] port found = found
-signal_of s (c ∷ cs) port found = signal_of s cs port (cond (same c.port port) (some (hier s c.signal)) found)
+signal_of s (c ∷ cs) port found = signal_of s cs port (cond (same c.port port) (Some (hier s c.signal)) found)
 
 -- how many bytes the word at the head has besides its first: 0 where it is no word
 unfoldable pub word_more : Bytes → ℕ
@@ -35,26 +34,26 @@ abbrev pub unknown_text : Bytes → Bytes
 unknown_text w = cond (all is_digit w) w (ascii "1'bx")
 
 abbrev pub word_text : Option Bytes → Bytes → Bytes
-word_text (some sig) w = sig
-word_text none w = unknown_text w
+word_text (Some sig) w = sig
+word_text None w = unknown_text w
 
 -- what stands for the piece at the head
 unfoldable pub piece_text : Setting → List Control → Bytes → Bytes
 piece_text s cs [] = []
-piece_text s cs (b ∷ t) = cond (is_variable b) (word_text (signal_of s cs (word_at (b ∷ t)) none) (word_at (b ∷ t))) (b ∷ [])
+piece_text s cs (b ∷ t) = cond (is_variable b) (word_text (signal_of s cs (word_at (b ∷ t)) None) (word_at (b ∷ t))) (b ∷ [])
 
 abbrev pub condition : Setting → List Control → Bytes → Bytes
 condition s cs e = rewrite word_more (piece_text s cs) 0 e
 
 -- the words that are no control port and no number, as often as they stand there
 abbrev pub unless_known : Option Bytes → Bytes → List Bytes
-unless_known (some sig) w = []
-unless_known none w = cond (all is_digit w) [] (format1 "power switch state uses unknown control port '{0}'" w ∷ [])
+unless_known (Some sig) w = []
+unless_known None w = cond (all is_digit w) [] (format1 "power switch state uses unknown control port '{0}'" w ∷ [])
 
 unfoldable pub unknowns : Setting → List Control → ℕ → Bytes → List Bytes
 unknowns s cs skip [] = []
 unknowns s cs ℕ.zero (b ∷ t) =
-    cond (is_variable b) (unless_known (signal_of s cs (word_at (b ∷ t)) none) (word_at (b ∷ t))) []
+    cond (is_variable b) (unless_known (signal_of s cs (word_at (b ∷ t)) None) (word_at (b ∷ t))) []
     ++ unknowns s cs (word_more (b ∷ t)) t
 unknowns s cs (ℕ.suc skip) (b ∷ t) = unknowns s cs skip t
 

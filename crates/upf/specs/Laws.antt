@@ -1,8 +1,7 @@
 -- Laws: from the parts to the answer. Assumes nothing.
-use Rattle.std.specs.Prelude.{ℕ, zero, suc, ◌+◌, ◌≤◌, ◌<◌, ◌≡◌, Bool, true, false, cond, not, ◌||◌, List, [], ◌∷◌, ◌++◌, map, length, take, drop, replicate}
+use Rattle.std.specs.Prelude.{ℕ, zero, suc, ◌+◌, ◌≤◌, ◌<◌, ◌≡◌, Bool, true, false, cond, not, ◌||◌, List, [], ◌∷◌, ◌++◌, map, length, take, drop, replicate, Option, Some}
 use Rattle.std.proofs.Common.{arith, sym, ap, ◌∙◌, length-take, length-drop, length-append, take-append-drop}
 use Rattle.std.proofs.Math.Path.{refl}
-use Rattle.std.proofs.Math.Option.{Option, some}
 use borrow.Author.Tests.{ne_eqb, le-leb, lt-leb}
 use Rattle.text.specs.Ascii.{Bytes}
 use Rattle.text.specs.Compare.{same}
@@ -124,7 +123,7 @@ same_other p q h = go (same q p) refl
     go false e = refl
     go true e = let z : q ≡ p = same_eq q p e in absurd (no_true (sym h ∙ ap (λ (x : Bytes). same p x) z ∙ same_refl p))
 
-named_here : (ms : List Module) (k : ℕ) (m : Module) (r : List Module) → drop k ms ≡ m ∷ r → distinct (names ms) ≡ true → module_named ms m.name ≡ some m
+named_here : (ms : List Module) (k : ℕ) (m : Module) (r : List Module) → drop k ms ≡ m ∷ r → distinct (names ms) ≡ true → module_named ms m.name ≡ Some m
 unfolding distinct first
 named_here [] zero m r e h = absurd (let z : ◌≡◌ {A = ℕ} 0 1 = cc in omega arith)
 named_here [] (suc k) m r e h = absurd (let z : ◌≡◌ {A = ℕ} 0 1 = cc in omega arith)
@@ -139,7 +138,7 @@ unfolding module_row name_at
 row_name_lem job nums k = refl
 
 -- the top is the module of its row
-pub top_named : (job : Bytes) (nums : List ℕ) (head : Header) → Taken job nums head → module_named (modules job nums head.modules) (spanned job head.top) ≡ some (module_row job nums head.topmodule)
+pub top_named : (job : Bytes) (nums : List ℕ) (head : Header) → Taken job nums head → module_named (modules job nums head.modules) (spanned job head.top) ≡ Some (module_row job nums head.topmodule)
 top_named job nums head ok =
     let d : distinct (names (modules job nums head.modules)) ≡ true = (accepted_good job (job_of job nums head) ok.is_accepted).lists.modules_distinct in
     let n : (module_row job nums head.topmodule).name ≡ spanned job head.top = row_name_lem job nums head.topmodule ∙ ok.indexed.top_is in

@@ -1,9 +1,8 @@
 -- The signals of a domain: what is promised of its list, each under its sentence. `d` is the module lines of a job, `base` the scope's module, `scope`
 -- its path below the top, `entries` the retained entries, `es` the domain's elements. Where the names of a job matter, the job is an accepted one.
 -- Assumes nothing.
-use Rattle.std.specs.Prelude.{ℕ, ◌<◌, ◌≡◌, refl, ◌↔◌, length}
+use Rattle.std.specs.Prelude.{ℕ, ◌<◌, ◌≡◌, refl, ◌↔◌, length, None}
 use Rattle.std.proofs.Common.{ap, arith, length-append}
-use Rattle.std.proofs.Math.Option.{none}
 use mathlib.Core.List.{List, [], ◌∷◌, ◌++◌, flat_map, Memᴰ as Mem}
 use Rattle.text.specs.Ascii.{Bytes, byte}
 use Rattle.text.specs.Compare.{same}
@@ -105,7 +104,7 @@ module _ (t : Bytes) (j : Job) (scope : List Bytes) (base : Module) (s : Scope t
 scope_long : (t : Bytes) (j : Job) (n : Bytes) (ns : List Bytes) (base : Module) → Scope t j (n ∷ ns) base → 0 < length (scope_path (n ∷ ns))
 unfolding module_at
 scope_long t j n ns base s =
-    let i = some_of (instance_named s.top n) (λ (i : Inst). on_some (module_named j.modules i.type) none (λ m. module_at j.modules m ns)) s.exists in
+    let i = some_of (instance_named s.top n) (λ (i : Inst). on_some (module_named j.modules i.type) None (λ m. module_at j.modules m ns)) s.exists in
     let e : i.0.name ≡ n = same_eq i.0.name n (first_passes (λ (i : Inst). same i.name n) (instances s.top) i.1) in
     let filled = (plain t j (n ∷ ns) base s).inst_filled s.top (top_at t j (n ∷ ns) base s) i.0 (first_mem (λ (i : Inst). same i.name n) (instances s.top) i.1) in
     omega (arith, ap length e, filled, length-append n (flat_map (λ (m : Bytes). byte "." ∷ m) ns))

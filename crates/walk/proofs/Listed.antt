@@ -1,10 +1,9 @@
 -- Laws: what the walk lists is what is reached, and each path one time.
 -- Assumes nothing.
 use Prim.Native.Nat.{ℕ, zero, suc, ◌+◌, ◌≤◌}
-use Rattle.std.specs.Prelude.{◌≡◌, refl, ◌⊎◌, Bool, true, false, cond, length}
+use Rattle.std.specs.Prelude.{◌≡◌, refl, ◌⊎◌, Bool, true, false, cond, length, None, Some}
 use Rattle.std.proofs.Common.{sym, ap, ◌∙◌, inl, inr, arith}
 use Rattle.std.proofs.Math.Logic.{⊎_elim}
-use Rattle.std.proofs.Math.Option.{none, some}
 use mathlib.Core.List.{List, [], ◌∷◌, ◌++◌, flat_map}
 use mathlib.Core.List.Memᴰ.{cases_cons}
 use mathlib.Core.List.Memᴰ.{head as here}
@@ -32,15 +31,15 @@ use Rattle.walk.specs.Reach.{Leads, end_of, on_way, Reaches, ElementReaches, Dom
 -- ---- the walk and the chains
 
 -- the test on an instance: D 0, and its module listed
-pub entered_inv : (d : List Module) (i : Inst) {m : Module} → entered d i ≡ some m → (i.dims ≡ false) × (module_named d i.type ≡ some m)
+pub entered_inv : (d : List Module) (i : Inst) {m : Module} → entered d i ≡ Some m → (i.dims ≡ false) × (module_named d i.type ≡ Some m)
 unfolding entered
 entered_inv d i {m} = go i.dims refl
   where
-    go : (b : Bool) → i.dims ≡ b → cond b none (module_named d i.type) ≡ some m → (i.dims ≡ false) × (module_named d i.type ≡ some m)
+    go : (b : Bool) → i.dims ≡ b → cond b None (module_named d i.type) ≡ Some m → (i.dims ≡ false) × (module_named d i.type ≡ Some m)
     go true t e = let z : ◌≡◌ {A = ℕ} 0 1 = cc in absurd (omega arith)
     go false t e = (t, e)
 
-pub entered_is : (d : List Module) (i : Inst) {m : Module} → i.dims ≡ false → module_named d i.type ≡ some m → entered d i ≡ some m
+pub entered_is : (d : List Module) (i : Inst) {m : Module} → i.dims ≡ false → module_named d i.type ≡ Some m → entered d i ≡ Some m
 unfolding entered
 entered_is d i h e = rw h e
 
@@ -61,7 +60,7 @@ module _ (d : List Module) (R : List Bytes) where
       }
 
   -- one instance further up
-  longer : (left : ℕ) (m m' : Module) (p : Bytes) (i : Inst) {q : Bytes} → is_in p R ≡ false → Mem i (instances m) → entered d i ≡ some m' → Reaches d R left m' (child_path p i.name) q → Reaches d R (suc left) m p q
+  longer : (left : ℕ) (m m' : Module) (p : Bytes) (i : Inst) {q : Bytes} → is_in p R ≡ false → Mem i (instances m) → entered d i ≡ Some m' → Reaches d R left m' (child_path p i.name) q → Reaches d R (suc left) m p q
   longer left m m' p i {q} out at e r =
       record {
         chain = i ∷ r.chain;

@@ -2,11 +2,10 @@
 -- entries that are empty equal no path there.
 -- Assumes nothing.
 use Prim.Native.Nat.{ℕ, zero, suc, ◌+◌, ◌<◌}
-use Rattle.std.specs.Prelude.{◌≡◌, Bool, length}
+use Rattle.std.specs.Prelude.{◌≡◌, Bool, length, Option, None, Some}
 use Rattle.std.proofs.Math.Path.{refl, sym, ap, ap₂}
 use Rattle.std.proofs.Common.{◌∙◌, arith, length-append}
 use Rattle.std.proofs.Math.Bool.{true, false, cond, ◌||◌}
-use Rattle.std.proofs.Math.Option.{Option, none, some}
 use mathlib.Core.List.{List, [], ◌∷◌, ◌++◌, map, flat_map, append_assoc, map-append}
 use mathlib.Core.List.Memᴰ.{head as here}
 use mathlib.Core.List.Memᴰ.{tail as there}
@@ -118,14 +117,14 @@ module _ (c : ℕ) (s : Bytes) where
     abbrev near_in : ℕ → Bytes → Inst → ℕ
     near_in left p i = on_some (entered d i) 0 λ m'. modules_entered d near left m' (child_path p i.name)
 
-    enters : (i : Inst) {m : Module} → entered d i ≡ some m → Mem m d
+    enters : (i : Inst) {m : Module} → entered d i ≡ Some m → Mem m d
     enters i e = named_mem d i.type (entered_inv d i e).1
 
     module _ (left : ℕ) (p : Bytes) (m : Module) (at : Mem m d) where
       module _ (ih : (m' : Module) (q : Bytes) → Mem m' d → corruptible d far left m' (full q) ≡ map (child_path S) (corruptible d near left m' q)) where
         one_list : (i : Inst) → Mem i m.insts → (o : Option Module) → entered d i ≡ o → on_some o [] (λ m'. corruptible d far left m' (child_path (full p) i.name)) ≡ map (child_path S) (on_some o [] λ m'. corruptible d near left m' (child_path p i.name))
-        one_list i has none e = refl
-        one_list i has (some m') e = ap (corruptible d far left m') (full_child p i.name (ok m at i has)) ∙ ih m' (child_path p i.name) (enters i e)
+        one_list i has None e = refl
+        one_list i has (Some m') e = ap (corruptible d far left m') (full_child p i.name (ok m at i has)) ∙ ih m' (child_path p i.name) (enters i e)
 
         each_list : (l : List Inst) → ((i : Inst) → Mem i l → Mem i m.insts) → flat_map (far_of left p) l ≡ map (child_path S) (flat_map (near_of left p) l)
         unfolding flat_map
@@ -138,8 +137,8 @@ module _ (c : ℕ) (s : Bytes) where
 
       module _ (ih : (m' : Module) (q : Bytes) → Mem m' d → modules_entered d far left m' (full q) ≡ modules_entered d near left m' q) where
         one_in : (i : Inst) → Mem i m.insts → (o : Option Module) → entered d i ≡ o → on_some o 0 (λ m'. modules_entered d far left m' (child_path (full p) i.name)) ≡ on_some o 0 λ m'. modules_entered d near left m' (child_path p i.name)
-        one_in i has none e = refl
-        one_in i has (some m') e = ap (modules_entered d far left m') (full_child p i.name (ok m at i has)) ∙ ih m' (child_path p i.name) (enters i e)
+        one_in i has None e = refl
+        one_in i has (Some m') e = ap (modules_entered d far left m') (full_child p i.name (ok m at i has)) ∙ ih m' (child_path p i.name) (enters i e)
 
         each_in : (l : List Inst) → ((i : Inst) → Mem i l → Mem i m.insts) → sum_over (far_in left p) l ≡ sum_over (near_in left p) l
         unfolding sum_over
@@ -189,16 +188,16 @@ module _ (d : List Module) (base : Module) (scope entries : List Bytes) (ok : Fi
   element_list_lem e = rw (element_full c s scope h e, retained_far c s scope h entries) (go (module_at d base (filled_parts e)) refl)
     where
       go : (o : Option Module) → module_at d base (filled_parts e) ≡ o → on_some o [] (λ m. corruptible d (map (λ x. child_path (c ∷ s) (dotted x)) entries) most_depth m (full c s (element_path [] e))) ≡ map (child_path (c ∷ s)) (on_some o [] λ m. corruptible d (map dotted (filled_entries entries)) most_depth m (element_path [] e))
-      go none f = refl
-      go (some m) f = walk_below c s d entries ok most_depth m (element_path [] e) (module_at_mem d base (filled_parts e) at f)
+      go None f = refl
+      go (Some m) f = walk_below c s d entries ok most_depth m (element_path [] e) (module_at_mem d base (filled_parts e) at f)
 
   element_entered_lem : (e : Bytes) → element_entered d base scope entries e ≡ element_entered d base [] (filled_entries entries) e
   unfolding element_entered
   element_entered_lem e = rw (element_full c s scope h e, retained_far c s scope h entries) (go (module_at d base (filled_parts e)) refl)
     where
       go : (o : Option Module) → module_at d base (filled_parts e) ≡ o → on_some o 0 (λ m. modules_entered d (map (λ x. child_path (c ∷ s) (dotted x)) entries) most_depth m (full c s (element_path [] e))) ≡ on_some o 0 λ m. modules_entered d (map dotted (filled_entries entries)) most_depth m (element_path [] e)
-      go none f = refl
-      go (some m) f = entered_below_lem c s d entries ok most_depth m (element_path [] e) (module_at_mem d base (filled_parts e) at f)
+      go None f = refl
+      go (Some m) f = entered_below_lem c s d entries ok most_depth m (element_path [] e) (module_at_mem d base (filled_parts e) at f)
 
   list_below_lem : (es : List Bytes) → domain_list d base scope entries es ≡ map (child_path (c ∷ s)) (domain_list d base [] (filled_entries entries) es)
   unfolding domain_list

@@ -1,12 +1,11 @@
 -- Laws: retained paths. More of them never add a path; a module at one ends its branch; an element below one is walked.
 -- Assumes nothing.
 use Prim.Native.Nat.{ℕ, zero, suc, ◌+◌, ◌≤◌, ◌<◌}
-use Rattle.std.specs.Prelude.{◌≡◌, ◌⊎◌, length}
+use Rattle.std.specs.Prelude.{◌≡◌, ◌⊎◌, length, Option, None, Some}
 use Rattle.std.proofs.Math.Path.{refl, ap}
 use Rattle.std.proofs.Common.{sym, ◌∙◌, inl, ⊎_elim, arith, length-append}
 use Rattle.std.proofs.Math.Logic.{inr}
 use Rattle.std.proofs.Math.Bool.{cond}
-use Rattle.std.proofs.Math.Option.{Option, none, some}
 use mathlib.Core.List.{List, [], ◌∷◌, ◌++◌}
 use mathlib.Core.List.{Memᴰ as Mem}
 use mathlib.Core.List.Memᴰ.{cast}
@@ -73,8 +72,8 @@ unfolding element_list
 element_ends d base scope entries e h = go (module_at d base (filled_parts e))
   where
     go : (o : Option Module) → on_some o [] (λ m. corruptible d (retained_paths scope entries) 32 m (element_path scope e)) ≡ []
-    go none = refl
-    go (some m) = ends_here d (retained_paths scope entries) 32 m (element_path scope e) h
+    go None = refl
+    go (Some m) = ends_here d (retained_paths scope entries) 32 m (element_path scope e) h
 
 -- an element that reaches a path beneath a retained one lies beneath it too
 pub from_beneath : (d : List Module) (base : Module) (scope entries : List Bytes) (e q v : Bytes) → Plain d → Mem base d → ElementReaches d base scope entries e q → Mem v (retained_paths scope entries) → Beneath v q → Beneath v (element_path scope e)
@@ -111,7 +110,7 @@ from_beneath d base scope entries e q v ok at r ret below =
 -- ---- retained paths that no module on the way has
 
 -- two lists of retained paths that agree wherever the walk comes to
-module _ (d : List Module) (R S : List Bytes) (Q : Module → Bytes → Type 0) (agree : (m : Module) (p : Bytes) → Q m p → is_in p R ≡ is_in p S) (down : (m : Module) (p : Bytes) (i : Inst) (m' : Module) → Q m p → Mem i (instances m) → entered d i ≡ some m' → Q m' (child_path p i.name)) where
+module _ (d : List Module) (R S : List Bytes) (Q : Module → Bytes → Type 0) (agree : (m : Module) (p : Bytes) → Q m p → is_in p R ≡ is_in p S) (down : (m : Module) (p : Bytes) (i : Inst) (m' : Module) → Q m p → Mem i (instances m) → entered d i ≡ Some m' → Q m' (child_path p i.name)) where
   pub walks_agree : (left : ℕ) (m : Module) (p : Bytes) → Q m p → corruptible d R left m p ≡ corruptible d S left m p
   unfolding corruptible
   walks_agree zero m p h = rw (agree m p h)
@@ -124,9 +123,9 @@ module _ (d : List Module) (R S : List Bytes) (Q : Module → Bytes → Type 0) 
       (instances m)
       (λ i at. below i (entered d i) (λ m' e. walks_agree left m' (child_path p i.name) (down m p i m' h at e)) refl)))
     where
-      below : (i : Inst) (o : Option Module) → ((m' : Module) → entered d i ≡ some m' → corruptible d R left m' (child_path p i.name) ≡ corruptible d S left m' (child_path p i.name)) → entered d i ≡ o → on_some o [] (λ m'. corruptible d R left m' (child_path p i.name)) ≡ on_some o [] (λ m'. corruptible d S left m' (child_path p i.name))
-      below i none g e = refl
-      below i (some m') g e = g m' e
+      below : (i : Inst) (o : Option Module) → ((m' : Module) → entered d i ≡ Some m' → corruptible d R left m' (child_path p i.name) ≡ corruptible d S left m' (child_path p i.name)) → entered d i ≡ o → on_some o [] (λ m'. corruptible d R left m' (child_path p i.name)) ≡ on_some o [] (λ m'. corruptible d S left m' (child_path p i.name))
+      below i None g e = refl
+      below i (Some m') g e = g m' e
 
 -- an entry that is not the path, wherever it stands
 other_entry : (scope E F : List Bytes) (r p : Bytes) → (length p ≡ length (retained_path scope r) → ⊥) → is_in p (retained_paths scope (E ++ r ∷ F)) ≡ is_in p (retained_paths scope (E ++ F))
@@ -161,8 +160,8 @@ below_walked d base scope E F r rest = go (module_at d base (filled_parts e))
     Q m p = length (retained_path scope r) < length p
 
     go : (o : Option Module) → on_some o [] (λ m. corruptible d (retained_paths scope (E ++ r ∷ F)) 32 m (element_path scope e)) ≡ on_some o [] (λ m. corruptible d (retained_paths scope (E ++ F)) 32 m (element_path scope e))
-    go none = refl
-    go (some m) =
+    go None = refl
+    go (Some m) =
         walks_agree d (retained_paths scope (E ++ r ∷ F)) (retained_paths scope (E ++ F)) Q
         (λ m p h. other_entry scope E F r p (λ z. omega arith))
         (λ m p i m' h at is. omega (arith, child_longer p i.name))
@@ -187,7 +186,7 @@ module _ (d : List Module) (base : Module) (scope : List Bytes) (ok : Plain d) (
   Q : Module → Bytes → Type 0
   Q m p = Mem m d × ((length p ≡ length (scope_path scope)) ⊎ (length (scope_path scope) + 2 ≤ length p))
 
-  further : (m : Module) (p : Bytes) (i : Inst) (m' : Module) → Q m p → Mem i (instances m) → entered d i ≡ some m' → Q m' (child_path p i.name)
+  further : (m : Module) (p : Bytes) (i : Inst) (m' : Module) → Q m p → Mem i (instances m) → entered d i ≡ Some m' → Q m' (child_path p i.name)
   unfolding Q
   further m p i m' h has is =
       let filled = ok.inst_filled m h.0 i has in (
@@ -204,8 +203,8 @@ module _ (d : List Module) (base : Module) (scope : List Bytes) (ok : Plain d) (
   empty_element E F e = go (module_at d base (filled_parts e)) refl
     where
       go : (o : Option Module) → module_at d base (filled_parts e) ≡ o → on_some o [] (λ m. corruptible d (retained_paths scope (E ++ [] ∷ F)) 32 m (element_path scope e)) ≡ on_some o [] (λ m. corruptible d (retained_paths scope (E ++ F)) 32 m (element_path scope e))
-      go none f = refl
-      go (some m) f =
+      go None f = refl
+      go (Some m) f =
           walks_agree d (retained_paths scope (E ++ [] ∷ F)) (retained_paths scope (E ++ F)) Q
           (λ m p h. other_entry scope E F [] p (not_empty_entry p h.1))
           further 32 m (element_path scope e) (module_at_mem d base (filled_parts e) at f, element_lengths scope e long)

@@ -1,7 +1,6 @@
 -- What it is that an element reaches a path: said by a chain of instances, apart from the walk.
 -- Assumes nothing.
-use Rattle.std.specs.Prelude.{ℕ, ◌≤◌, ◌<◌, ◌≡◌, false, ◌⊎◌, length}
-use Rattle.std.proofs.Math.Option.{some}
+use Rattle.std.specs.Prelude.{ℕ, ◌≤◌, ◌<◌, ◌≡◌, false, ◌⊎◌, length, Some}
 use mathlib.Core.List.{List, [], ◌∷◌, ◌++◌, map, Memᴰ as Mem}
 use Rattle.text.specs.Ascii.{Bytes, byte}
 use Rattle.joblines.specs.Job.{Inst, Module, Job}
@@ -16,7 +15,7 @@ use Rattle.design.specs.Paths.{child_path, element_path, retained_path, parts, f
 abbrev pub Leads : List Module → Module → List Inst → Module → Type 0
 Leads d m [] last = m ≡ last
 Leads d m (i ∷ is) last =
-    (m' : Module) × Mem i (instances m) × (i.dims ≡ false) × (module_named d i.type ≡ some m') × Leads d m' is last
+    (m' : Module) × Mem i (instances m) × (i.dims ≡ false) × (module_named d i.type ≡ Some m') × Leads d m' is last
 
 -- the path at the end of a chain that begins at a path
 abbrev pub end_of : Bytes → List Inst → Bytes
@@ -45,7 +44,7 @@ pub record Reaches (d : List Module) (retained : List Bytes) (most : ℕ) (m : M
 -- an element, "from the module that the Rust's lookup in the module lines finds for the element below the scope"
 pub record ElementReaches (d : List Module) (base : Module) (scope entries : List Bytes) (e q : Bytes) : Type 0 where
   pub start : Module
-  pub found : module_at d base (filled_parts e) ≡ some start
+  pub found : module_at d base (filled_parts e) ≡ Some start
   pub reaches : Reaches d (map (retained_path scope) entries) 32 start (element_path scope e) q
 
 -- some element of a domain
@@ -91,5 +90,5 @@ Whole e = (e ≡ []) ⊎ (Mem [] (parts e) → ⊥)
 pub record Scope (t : Bytes) (j : Job) (scope : List Bytes) (base : Module) : Type 0 where
   pub accepts : parse t ≡ accepted j
   pub top : Module
-  pub is_top : module_named j.modules j.top ≡ some top
-  pub exists : module_at j.modules top scope ≡ some base
+  pub is_top : module_named j.modules j.top ≡ Some top
+  pub exists : module_at j.modules top scope ≡ Some base

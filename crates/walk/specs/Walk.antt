@@ -1,8 +1,7 @@
 -- The walk: the paths that a domain loses, in the Rust's order (its `corruptible`, and the part of `generate` that calls it).
 -- d is the design, the module lines of a job; `retained` has the retained paths, and `entries` the retained entries, below the scope.
 -- Assumes nothing.
-use Rattle.std.specs.Prelude.{ℕ, zero, suc, ◌+◌, Bool, cond, ◌&&◌, leb, length}
-use Rattle.std.proofs.Math.Option.{Option, none}
+use Rattle.std.specs.Prelude.{ℕ, zero, suc, ◌+◌, Bool, cond, ◌&&◌, leb, length, Option, None}
 use mathlib.Core.List.{List, [], ◌∷◌, ◌++◌, map, flat_map}
 use Rattle.text.specs.Ascii.{Bytes}
 use Rattle.joblines.specs.Job.{Inst, Module}
@@ -16,7 +15,7 @@ use Rattle.walk.specs.Limits.{most_depth, most_entered, most_paths, most_path_by
 
 -- "The walk goes down from a module into its instances with D 0 whose module is listed"
 unfoldable pub entered : List Module → Inst → Option Module
-entered d i = cond i.dims none (module_named d i.type)
+entered d i = cond i.dims None (module_named d i.type)
 
 -- what a module loses itself, at its path
 abbrev pub own : Module → Bytes → List Bytes

@@ -8,18 +8,18 @@ use Rattle.joblines.specs.Parse.{parse}
 use Rattle.jobindex.specs.Index.{module_row}
 use Rattle.jobindex.specs.Rows.{rows_length}
 use Rattle.jobindex.specs.declared.Header.{Header}
-use Rattle.job.specs.declared.Answer.{Answer}
-use Rattle.job.specs.declared.Answer.TheVariants.{Taken, Refused}
+use Rattle.std.specs.Prelude.{Result, Ok, Err}
+use Rattle.job.specs.declared.Refused.{Refused}
 use Rattle.job.specs.Reader.{JobRead}
 use Rattle.listing.specs.Listing.{Answer as Listing-as-Answer}
 use Rattle.listing.specs.declared.Walk.{Walk}
 use Rattle.walkc.specs.Counted.{module_count, Walked}
 
-module _ (job index index' : List ℕ) (r : Answer) (s : JobRead job index index' r) where
-  pub tell_refused : (x n : ℕ) → r ≡ Refused x n → 0 ≡ module_count (parse job)
-  tell_refused x n e = rw (← s.says, e)
+module _ (job index index' : List ℕ) (r : Result Header Refused) (s : JobRead job index index' r) where
+  pub tell_refused : (x : Refused) → r ≡ Err x → 0 ≡ module_count (parse job)
+  tell_refused x e = rw (← s.says, e)
 
-  pub tell_taken : (head : Header) → r ≡ Taken head → head.modules ≡ module_count (parse job)
+  pub tell_taken : (head : Header) → r ≡ Ok head → head.modules ≡ module_count (parse job)
   tell_taken head e = sym (rw (← s.says, e) (rows_length (module_row job index') head.modules))
 
 pub ruleset tells = (rules, tell_refused, tell_taken)

@@ -15,19 +15,18 @@ ghost use Rattle.paths.specs.Pieces.{entries_below};
 ghost use Rattle.corrupt.specs.Corrupt.{DomainGiven};
 ghost use Rattle.walkc.specs.Counted.{module_count, Walked};
 
-use job::Answer;
 use names::name::Name;
 use spans::span::Span;
 
 // The number of modules of a job, 0 for one that is refused; `index` gets the index of a job that is accepted.
+#[tactic(auto, using(crate::proofs::Telling::tells))]
 pub fn walkc_index(job: &[u8], index: &mut [u32]) -> usize
     requires { index_size ≤ length index.old }
     ensures { result ≡ module_count (parse job.now) }
 {
-    let a = job::read_job(job, &mut index[..]);
-    match a {
-        Answer::Refused { number: _, line: _ } => 0,
-        Answer::Taken { head } => head.modules,
+    match job::read_job(job, index) {
+        Err(_) => 0,
+        Ok(head) => head.modules,
     }
 }
 
@@ -59,13 +58,14 @@ pub fn walkc_put(
             len: size,
         },
         sep,
-        word: Span { at: at, len: len },
+        word: Span { at, len },
         form,
     };
     nametable::put_row(table, k, n)
 }
 
 // The paths that a domain loses: whether a limit is passed.
+#[tactic(auto, using(crate::proofs::Telling::walks))]
 pub fn walkc_paths(
     job: &[u8],
     index: &[u32],

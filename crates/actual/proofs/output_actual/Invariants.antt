@@ -4,8 +4,8 @@ use Rattle.refs.specs.Text.{text_of}
 use Rattle.actual.proofs.Turns.{Deciding}
 use Rattle.actual.proofs.output_actual.Given as goal
 
-abbrev pub invariant-loop-port : goal.invariant-loop-port
-invariant-loop-port l = Deciding l.job l.index l.next l.end l.sub (text_of l.job (l.files ++ l.area) l.port) l.pe l.p l.at l.star
+abbrev pub invariant-loop-conn : goal.invariant-loop-conn
+invariant-loop-conn l = Deciding l.job l.index l.next l.end l.sub (text_of l.job (l.files ++ l.area) l.port) l.pe l.p l.at l.star
 
-abbrev pub decreases-loop-port : goal.decreases-loop-port
-decreases-loop-port l = l.end - l.at
+abbrev pub decreases-loop-conn : goal.decreases-loop-conn
+decreases-loop-conn l = l.end - l.at

@@ -1,45 +1,19 @@
-use mathlib.Core.Path.{refl}
-use Rattle.alike.proofs.Dotted.{lesses}
+-- `alike::less_dotted` meets its contract. Assumes nothing.
+use Rattle.std.specs.Prelude.{◌++◌}
+use Rattle.std.proofs.Common.{refl, rules}
+use Rattle.std.proofs.lemmas.Iterator.{YieldsList-from_map}
+use Rattle.std.proofs.lemmas.Iterator.Consumers.{YieldsList-from_first, YieldsList-at}
+use Rattle.text.specs.Classes.{dot_of}
+use Rattle.names.specs.Name.{name_of}
+use Rattle.names.specs.Stream.{left_of}
+use Rattle.alike.proofs.Dotted.{dotted_less}
 use Rattle.alike.proofs.less_dotted.Goals as goal
 
-pub loop-q-init : goal.loop-q-init
-loop-q-init c = record { keeps = refl }
-
-pub next-requires : goal.next-requires
-next-requires c = search lesses
-
-pub enum_told-1 : goal.enum_told-1
-enum_told-1 c = search lesses
-
-pub returns-in-End : goal.returns-in-End
-returns-in-End c = search lesses
-
-pub enum_known-q : goal.enum_known-q
-enum_known-q c = search lesses
-
-pub next-requires-in-Byte : goal.next-requires-in-Byte
-next-requires-in-Byte c = search lesses
-
-pub enum_told-in-End-next : goal.enum_told-in-End-next
-enum_told-in-End-next c = search lesses
-
-pub returns-in-End-next : goal.returns-in-End-next
-returns-in-End-next c = search lesses
-
-pub enum_known-p : goal.enum_known-p
-enum_known-p c = search lesses
-
-pub dot-c-requires : goal.dot-c-requires
-dot-c-requires c = search lesses
-
-pub dot-d-requires : goal.dot-d-requires
-dot-d-requires c = search lesses
-
-pub returns-then-c-d : goal.returns-then-c-d
-returns-then-c-d c = search lesses
-
-pub loop-q-smaller : goal.loop-q-smaller
-loop-q-smaller c = search lesses
-
-pub loop-q-preserved : goal.loop-q-preserved
-loop-q-preserved c = search lesses
+pub returns : goal.returns
+returns c =
+    let p = name_of (c.args.files.now ++ c.args.area.now) c.args.a in
+    let q = name_of (c.args.files.now ++ c.args.area.now) c.args.b in
+    dotted_less c.map-y.result c.lt.result p q
+    (YieldsList-from_map _ dot_of (YieldsList-at c.map-x.ensures.source (YieldsList-from_first (λ x. x) left_of p refl)) c.map-x.ensures.closure (λ x r q k. search rules))
+    (YieldsList-from_map _ dot_of (YieldsList-at c.map-y.ensures.source (YieldsList-from_first (λ x. x) left_of q refl)) c.map-y.ensures.closure (λ x r q k. search rules))
+    c.lt.ensures.ran

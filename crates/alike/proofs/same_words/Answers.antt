@@ -1,57 +1,19 @@
-use mathlib.Core.Path.{refl}
-use Rattle.alike.proofs.Words.{sames}
+-- `alike::same_words` meets its contract. Assumes nothing.
+use Rattle.std.specs.Prelude.{◌++◌}
+use Rattle.std.proofs.Common.{refl, rules}
+use Rattle.std.proofs.lemmas.Iterator.{YieldsList-from_map}
+use Rattle.std.proofs.lemmas.Iterator.Consumers.{YieldsList-from_first, YieldsList-at}
+use Rattle.text.specs.Classes.{dot_of}
+use Rattle.spans.specs.Span.{bytes}
+use Rattle.spans.specs.Stream.{left_of}
+use Rattle.alike.proofs.Dotted.{dotted_same}
 use Rattle.alike.proofs.same_words.Goals as goal
 
-pub loop-p-init : goal.loop-p-init
-loop-p-init c = record { keeps = refl }
-
-pub first-requires : goal.first-requires
-first-requires c = search sames
-
-pub enum_told-1 : goal.enum_told-1
-enum_told-1 c = search sames
-
-pub first-requires-in-No : goal.first-requires-in-No
-first-requires-in-No c = search sames
-
-pub enum_told-in-No-first : goal.enum_told-in-No-first
-enum_told-in-No-first c = search sames
-
-pub returns-in-No-first : goal.returns-in-No-first
-returns-in-No-first c = search sames
-
-pub enum_told-in-Yes-first : goal.enum_told-in-Yes-first
-enum_told-in-Yes-first c = search sames
-
-pub returns-in-Yes-first : goal.returns-in-Yes-first
-returns-in-Yes-first c = search sames
-
-pub enum_known-p : goal.enum_known-p
-enum_known-p c = search sames
-
-pub first-requires-in-Yes : goal.first-requires-in-Yes
-first-requires-in-Yes c = search sames
-
-pub enum_told-in-No-first-2 : goal.enum_told-in-No-first-2
-enum_told-in-No-first-2 c = search sames
-
-pub returns-in-No-first-2 : goal.returns-in-No-first-2
-returns-in-No-first-2 c = search sames
-
-pub enum_known-q : goal.enum_known-q
-enum_known-q c = search sames
-
-pub dot-requires : goal.dot-requires
-dot-requires c = search sames
-
-pub dot-requires-in-Yes-first-2 : goal.dot-requires-in-Yes-first-2
-dot-requires-in-Yes-first-2 c = search sames
-
-pub returns-then-dot : goal.returns-then-dot
-returns-then-dot c = search sames
-
-pub loop-p-smaller : goal.loop-p-smaller
-loop-p-smaller c = search sames
-
-pub loop-p-preserved : goal.loop-p-preserved
-loop-p-preserved c = search sames
+pub returns : goal.returns
+returns c =
+    let p = bytes (c.args.files.now ++ c.args.area.now) c.args.a in
+    let q = bytes (c.args.files.now ++ c.args.area.now) c.args.b in
+    dotted_same c.map-y.result c.eq.result p q
+    (YieldsList-from_map _ dot_of (YieldsList-at c.map-x.ensures.source (YieldsList-from_first (λ x. x) left_of p refl)) c.map-x.ensures.closure (λ x r q k. search rules))
+    (YieldsList-from_map _ dot_of (YieldsList-at c.map-y.ensures.source (YieldsList-from_first (λ x. x) left_of q refl)) c.map-y.ensures.closure (λ x r q k. search rules))
+    c.eq.ensures.ran

@@ -45,24 +45,3 @@ loop-k-preserved c =
       | in-One+else-not-same_spans w ↦ (seen_as _ _ _ _ c.loop-k.invariant.0 _ (w.in-One.is ∙ sym w.own-is), gather_one _ _ _ _ _ _ c.requires _ _ _ _ c.loop-k.invariant.1 c.loop-k-test.true _ c.strategy_at-i.ensures _ (told_one _ _ _ _ c.loop-k.invariant.0 _ _ w.in-One.is _ _ w.span.ensures w.span-in-One.ensures _ w.same_spans.ensures) w.if-not-same_spans.false-raw _ _ c.add-m.ensures)
       | in-More+else-not-has_own w ↦ (seen_as _ _ _ _ c.loop-k.invariant.0 _ (sym w.own-is), gather_one _ _ _ _ _ _ c.requires _ _ _ _ c.loop-k.invariant.1 c.loop-k-test.true _ c.strategy_at-i.ensures _ w.has_own.ensures w.if-not-has_own.false-raw _ _ c.add-m.ensures)
     ]
-
-pub overflow_sub-k : goal.overflow_sub-k
-overflow_sub-k c = search gathers
-
-pub loop-k-smaller-then-i-s : goal.loop-k-smaller-then-i-s
-loop-k-smaller-then-i-s c = search gathers
-
-pub loop-k-smaller-in-None : goal.loop-k-smaller-in-None
-loop-k-smaller-in-None c = search gathers
-
-pub loop-k-smaller-then-not-same_spans : goal.loop-k-smaller-then-not-same_spans
-loop-k-smaller-then-not-same_spans c = search gathers
-
-pub loop-k-smaller-then-not-has_own : goal.loop-k-smaller-then-not-has_own
-loop-k-smaller-then-not-has_own c = search gathers
-
-pub loop-k-smaller : goal.loop-k-smaller
-loop-k-smaller c = search gathers
-
-pub returns : goal.returns
-returns c = search gathers

@@ -6,6 +6,3 @@ use Rattle.checks.proofs.has_own.Given as goal
 
 abbrev pub invariant-loop-j : goal.invariant-loop-j
 invariant-loop-j l = Seeks (l.files ++ l.area) l.t l.name l.domain l.j
-
-abbrev pub decreases-loop-j : goal.decreases-loop-j
-decreases-loop-j l = l.t.n - l.j

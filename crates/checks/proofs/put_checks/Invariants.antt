@@ -3,7 +3,8 @@ use Prim.Native.Nat.{◌-◌}
 use mathlib.Core.Path.{◌≡◌}
 use mathlib.Core.List.{◌++◌}
 use lib.ListN.{length, take}
-use Rattle.out.specs.Emit.{◌▸◌, emit}
+use Rattle.out.specs.Emit.{emit}
+use Rattle.out.specs.Text.{shown, SameRoom}
 use Rattle.out.specs.Items.{each}
 use Rattle.names.specs.Name.{name_of}
 use Rattle.scope.specs.Parts.{parts}
@@ -13,7 +14,4 @@ use Rattle.checks.proofs.Loops.{Writes}
 use Rattle.checks.proofs.put_checks.Given as goal
 
 abbrev pub invariant-loop-k : goal.invariant-loop-k
-invariant-loop-k l = (length l.out ≡ length l.initial.out) × Writes (check_text (parts l.over l.from) (strategy_at (l.files ++ l.area) l.t) (name_of (l.files ++ l.area) l.domain)) l.found l.n (emit (l.initial.out ▸ l.at) (each (check_text (parts l.over l.from) (strategy_at (l.files ++ l.area) l.t) (name_of (l.files ++ l.area) l.domain)) (take l.n l.found))) (l.out ▸ l.o) l.k
-
-abbrev pub decreases-loop-k : goal.decreases-loop-k
-decreases-loop-k l = l.n - l.k
+invariant-loop-k l = SameRoom l.initial.to l.to × Writes (check_text (parts l.over l.from) (strategy_at (l.files ++ l.area) l.t) (name_of (l.files ++ l.area) l.domain)) l.found l.n (emit (shown l.initial.to) (each (check_text (parts l.over l.from) (strategy_at (l.files ++ l.area) l.t) (name_of (l.files ++ l.area) l.domain)) (take l.n l.found))) (shown l.to) l.k

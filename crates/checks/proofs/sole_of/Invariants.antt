@@ -5,7 +5,4 @@ use Rattle.checks.proofs.Soles.{Passes}
 use Rattle.checks.proofs.sole_of.Given as goal
 
 abbrev pub invariant-loop-j : goal.invariant-loop-j
-invariant-loop-j l = Passes (l.files ++ l.area) l.t l.domain l.found l.name l.j
-
-abbrev pub decreases-loop-j : goal.decreases-loop-j
-decreases-loop-j l = l.t.n - l.j
+invariant-loop-j l = Passes (l.files ++ l.area) l.t l.domain l.one l.j

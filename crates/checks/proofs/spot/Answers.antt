@@ -5,35 +5,17 @@ use Rattle.checks.proofs.spot.Goals as goal
 pub loop-k-init : goal.loop-k-init
 loop-k-init c = spot_start _ _ _ _ (search rules) (search rules)
 
-pub place-j-requires : goal.place-j-requires
-place-j-requires c = search spots
-
 pub is_same-requires : goal.is_same-requires
 is_same-requires c = (search rules, search spot_number)
-
-pub returns-then-is_same : goal.returns-then-is_same
-returns-then-is_same c = search spots
 
 pub is_earlier-requires : goal.is_earlier-requires
 is_earlier-requires c = (search rules, search spot_number)
 
-pub overflow_add-result : goal.overflow_add-result
-overflow_add-result c = search spots
+pub returns-then-is_same : goal.returns-then-is_same
+returns-then-is_same c = search spots
 
 pub returns-then-is_earlier : goal.returns-then-is_earlier
 returns-then-is_earlier c = search spots
 
-pub overflow_add-k : goal.overflow_add-k
-overflow_add-k c = search spots
-
-pub loop-k-smaller : goal.loop-k-smaller
-loop-k-smaller c = search spots
-
 pub loop-k-preserved : goal.loop-k-preserved
 loop-k-preserved c = search spots
-
-pub overflow_add-result-2 : goal.overflow_add-result-2
-overflow_add-result-2 c = search spots
-
-pub returns : goal.returns
-returns c = search spots

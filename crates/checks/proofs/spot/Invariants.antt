@@ -7,6 +7,3 @@ use Rattle.checks.proofs.spot.Given as goal
 
 abbrev pub invariant-loop-k : goal.invariant-loop-k
 invariant-loop-k l = Spots (strategy_at (l.files ++ l.area) l.t) l.i l.found l.n l.k
-
-abbrev pub decreases-loop-k : goal.decreases-loop-k
-decreases-loop-k l = l.n - l.k

@@ -2,14 +2,15 @@
 use mathlib.Core.List.{◌++◌}
 use mathlib.Core.Path.{◌≡◌}
 use lib.ListN.{length}
-use Rattle.out.specs.Emit.{emit, ◌▸◌}
+use Rattle.out.specs.Emit.{emit}
+use Rattle.out.specs.Text.{shown, SameRoom}
 use Rattle.names.specs.Name.{name_of}
 use Rattle.texts.specs.Isolation.{lowered}
 use Rattle.clamps.proofs.Streams.{Puts}
 use Rattle.clamps.proofs.put_lowered.Given as goal
 
 abbrev pub invariant-loop-b : goal.invariant-loop-b
-invariant-loop-b l = (length l.out ≡ length l.initial.out) × Puts (l.files ++ l.area) (emit (l.initial.out ▸ l.at) (lowered (name_of (l.files ++ l.area) l.initial.x))) (l.out ▸ l.o) l.x
+invariant-loop-b l = SameRoom l.initial.to l.to × Puts (l.files ++ l.area) (emit (shown l.initial.to) (lowered (name_of (l.files ++ l.area) l.initial.x))) (shown l.to) l.x
 
 abbrev pub decreases-loop-b : goal.decreases-loop-b
 decreases-loop-b l = length (name_of (l.files ++ l.area) l.x)

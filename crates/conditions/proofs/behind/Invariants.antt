@@ -7,7 +7,4 @@ use Rattle.conditions.proofs.Words.{Drops}
 use Rattle.conditions.proofs.behind.Given as goal
 
 abbrev pub invariant-loop-k : goal.invariant-loop-k
-invariant-loop-k l = Drops (l.files ++ l.area) (drop l.n (name_of (l.files ++ l.area) l.initial.x)) l.n l.x l.k
-
-abbrev pub decreases-loop-k : goal.decreases-loop-k
-decreases-loop-k l = l.n - l.k
+invariant-loop-k l = Drops (l.files ++ l.area) (drop l.n (name_of (l.files ++ l.area) l.initial.x)) l.n l.x l._k

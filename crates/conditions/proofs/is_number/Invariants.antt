@@ -9,7 +9,4 @@ use Rattle.conditions.proofs.Words.{Digits}
 use Rattle.conditions.proofs.is_number.Given as goal
 
 abbrev pub invariant-loop-k : goal.invariant-loop-k
-invariant-loop-k l = Digits (l.files ++ l.area) (all is_digit (take l.n (name_of (l.files ++ l.area) l.initial.x))) l.n l.x l.k
-
-abbrev pub decreases-loop-k : goal.decreases-loop-k
-decreases-loop-k l = l.n - l.k
+invariant-loop-k l = Digits (l.files ++ l.area) (all is_digit (take l.n (name_of (l.files ++ l.area) l.initial.x))) l.n l.x l._k

@@ -7,17 +7,14 @@ use Rattle.conditions.proofs.put_condition.Goals as goal
 pub loop-b-init : goal.loop-b-init
 loop-b-init c = (refl, record { keeps = refl })
 
-pub returns-in-End : goal.returns-in-End
-returns-in-End c = search condition_end
+pub loop-b-preserved-then-is_variable : goal.loop-b-preserved-then-is_variable
+loop-b-preserved-then-is_variable c = (search rules, search condition_over)
+
+pub loop-b-preserved : goal.loop-b-preserved
+loop-b-preserved c = (search rules, search condition_on)
 
 pub loop-b-smaller-then-is_variable : goal.loop-b-smaller-then-is_variable
 loop-b-smaller-then-is_variable c = search condition_less
 
-pub loop-b-preserved-then-is_variable : goal.loop-b-preserved-then-is_variable
-loop-b-preserved-then-is_variable c = (search rules, search condition_over)
-
-pub loop-b-smaller : goal.loop-b-smaller
-loop-b-smaller c = search shorter
-
-pub loop-b-preserved : goal.loop-b-preserved
-loop-b-preserved c = (search rules, search condition_on)
+pub returns : goal.returns
+returns c = (search rules, search condition_end)

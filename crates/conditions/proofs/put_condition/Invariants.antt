@@ -2,7 +2,8 @@
 use mathlib.Core.Path.{◌≡◌}
 use lib.ListN.{length}
 use mathlib.Core.List.{◌++◌}
-use Rattle.out.specs.Emit.{emit, ◌▸◌}
+use Rattle.out.specs.Emit.{emit}
+use Rattle.out.specs.Text.{shown, SameRoom}
 use Rattle.names.specs.Name.{name_of}
 use Rattle.nametable.specs.Table.{table_names}
 use Rattle.scope.specs.Parts.{parts}
@@ -13,7 +14,7 @@ use Rattle.conditions.proofs.Written.{Conditions}
 use Rattle.conditions.proofs.put_condition.Given as goal
 
 abbrev pub invariant-loop-b : goal.invariant-loop-b
-invariant-loop-b l = (length l.out ≡ length l.initial.out) × Conditions (scope_setting (parts l.over l.from)) (controls_of (table_names (l.files ++ l.area) l.controls l.count)) (l.files ++ l.area) (emit (l.initial.out ▸ l.at) (condition (scope_setting (parts l.over l.from)) (controls_of (table_names (l.files ++ l.area) l.controls l.count)) (name_of (l.files ++ l.area) l.initial.x))) (l.out ▸ l.o) l.x
+invariant-loop-b l = SameRoom l.initial.to l.to × Conditions (scope_setting (parts l.over l.from)) (controls_of (table_names (l.files ++ l.area) l.controls l.count)) (l.files ++ l.area) (emit (shown l.initial.to) (condition (scope_setting (parts l.over l.from)) (controls_of (table_names (l.files ++ l.area) l.controls l.count)) (name_of (l.files ++ l.area) l.initial.x))) (shown l.to) l.x
 
 abbrev pub decreases-loop-b : goal.decreases-loop-b
 decreases-loop-b l = length (name_of (l.files ++ l.area) l.x)

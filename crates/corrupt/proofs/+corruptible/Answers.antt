@@ -1,8 +1,7 @@
 use mathlib.Core.Path.{◌∙◌}
 use mathlib.Core.List.{[]}
 use native.Mathlib.Omega.{arith}
-use borrow.Author.Rules.{rules}
-use Rattle.corrupt.proofs.Rounds.{own_given, module_row_lem, walk_full, walk_last, walk_done, round_start, round_row, round_low, round_fits, round_long, round_given, round_stop, round_front, round_on, round_end, retaineds, rooms}
+use Rattle.corrupt.proofs.Rounds.{own_given, module_row_lem, walk_full, walk_last, walk_done, round_start, round_row, round_low, round_long, round_given, round_stop, round_front, round_on, round_end, retaineds, rooms}
 use Rattle.corrupt.proofs.+corruptible.Goals as goal
 
 pub retained-requires : goal.retained-requires
@@ -27,34 +26,22 @@ pub way_count-z-requires : goal.way_count-z-requires
 way_count-z-requires t c = module_row_lem _ _ _ _ _ _ _ _ _ _ c.requires.0
 
 pub loop-j-init : goal.loop-j-init
-loop-j-init t c = (search rules, (search rules, (search rules, round_start _ _ _ _ _ _ _ _ _ _ _ _ _ _ _ c.requires.0 c.requires.1.0 c.stem-u.ensures c.if-left-eq0.false _ _ _ _ _ c.own-w.ensures c.if-full.false)))
+loop-j-init t c = round_start _ _ _ _ _ _ _ _ _ _ _ _ _ _ _ c.requires.0 c.requires.1.0 c.stem-u.ensures c.if-left-eq0.false _ _ _ _ _ c.own-w.ensures c.if-full.false
 
 pub way_name-requires : goal.way_name-requires
-way_name-requires t c = (round_row _ _ _ _ _ _ _ _ _ _ _ _ _ _ _ _ _ _ _ _ _ c.loop-j.invariant.1.1.1, round_low _ _ _ _ _ _ _ _ _ _ _ _ _ _ _ _ _ _ _ _ _ c.loop-j.invariant.1.1.1 _ c.way_count-z.ensures c.loop-j-test.true)
+way_name-requires t c = (round_row _ _ _ _ _ _ _ _ _ _ _ _ _ _ _ _ _ _ _ _ _ c.loop-j.invariant, round_low _ _ _ _ _ _ _ _ _ _ _ _ _ _ _ _ _ _ _ _ _ c.loop-j.invariant _ c.way_count-z.ensures c.loop-j-test.true)
 
 pub way_row-requires : goal.way_row-requires
-way_row-requires t c = (round_row _ _ _ _ _ _ _ _ _ _ _ _ _ _ _ _ _ _ _ _ _ c.loop-j.invariant.1.1.1, round_low _ _ _ _ _ _ _ _ _ _ _ _ _ _ _ _ _ _ _ _ _ c.loop-j.invariant.1.1.1 _ c.way_count-z.ensures c.loop-j-test.true)
+way_row-requires t c = (round_row _ _ _ _ _ _ _ _ _ _ _ _ _ _ _ _ _ _ _ _ _ c.loop-j.invariant, round_low _ _ _ _ _ _ _ _ _ _ _ _ _ _ _ _ _ _ _ _ _ c.loop-j.invariant _ c.way_count-z.ensures c.loop-j-test.true)
 
 pub corruptible-w-requires : goal.corruptible-w-requires
-corruptible-w-requires t c = (omega (arith, c.decreases, c.loop-j.invariant.1.1.1.more), (round_given _ _ _ _ _ _ _ _ _ _ _ _ _ _ _ _ _ _ _ _ _ c.loop-j.invariant.1.1.1 _ c.way_count-z.ensures c.loop-j-test.true _ c.way_name.ensures _ _ c.put-v.ensures _ c.way_row.ensures, (round_long _ _ _ _ _ _ _ _ _ _ _ _ _ _ _ _ _ _ _ _ _ c.loop-j.invariant.1.1.1 _ c.way_count-z.ensures c.loop-j-test.true _ c.way_name.ensures _ _ c.put-v.ensures c.put-v.auto.out, (c.loop-j.invariant.1.1.1.turn.ready, c.requires.1.1.1))))
-
-pub shape_of-tail-then-over : goal.shape_of-tail-then-over
-shape_of-tail-then-over t c = c.corruptible-w.auto.tail ∙ c.put-v.auto.out ∙ c.loop-j.invariant.0 ∙ c.stem-u.auto.tail
-
-pub shape_of-text-then-over : goal.shape_of-text-then-over
-shape_of-text-then-over t c = c.corruptible-w.auto.text ∙ c.loop-j.invariant.1.0 ∙ c.own-w.auto.text
-
-pub shape_of-ends-then-over : goal.shape_of-ends-then-over
-shape_of-ends-then-over t c = c.corruptible-w.auto.ends ∙ c.loop-j.invariant.1.1.0 ∙ c.own-w.auto.ends
+corruptible-w-requires t c = (omega (arith, c.decreases, c.loop-j.invariant.more), (round_given _ _ _ _ _ _ _ _ _ _ _ _ _ _ _ _ _ _ _ _ _ c.loop-j.invariant _ c.way_count-z.ensures c.loop-j-test.true _ c.way_name.ensures _ _ c.put-v.ensures _ c.way_row.ensures, (round_long _ _ _ _ _ _ _ _ _ _ _ _ _ _ _ _ _ _ _ _ _ c.loop-j.invariant _ c.way_count-z.ensures c.loop-j-test.true _ c.way_name.ensures _ _ c.put-v.ensures c.put-v.auto.out, (c.loop-j.invariant.turn.ready, c.requires.1.1.1))))
 
 pub returns-then-over : goal.returns-then-over
-returns-then-over t c = walk_done _ _ _ _ _ _ _ _ _ _ _ _ c.requires.0 c.requires.1.0 _ c.part.ensures _ c.retained.ensures c.if-retained.false _ _ c.stem-u.ensures _ c.part-2.ensures _ _ _ _ _ _ c.own-w.ensures c.if-full.false c.if-left-eq0.false _ _ _ _ (round_stop _ _ _ _ _ _ _ _ _ _ _ _ _ _ _ _ _ _ _ _ _ c.loop-j.invariant.1.1.1 _ c.way_count-z.ensures c.loop-j-test.true _ c.way_name.ensures _ _ c.put-v.ensures _ c.way_row.ensures _ _ _ _ c.corruptible-w.ensures c.if-over.true) (round_front _ _ _ _ _ _ _ _ _ _ _ _ _ _ _ _ _ _ _ _ _ c.loop-j.invariant.1.1.1 _ c.way_count-z.ensures c.loop-j-test.true _ c.way_name.ensures _ _ c.put-v.ensures _ c.way_row.ensures _ _ _ _ c.corruptible-w.ensures)
-
-pub overflow_add-j : goal.overflow_add-j
-overflow_add-j t c = record { fits = round_fits _ _ _ _ _ _ _ _ _ _ _ _ _ _ _ _ _ _ _ _ _ c.loop-j.invariant.1.1.1 _ c.way_count-z.ensures c.loop-j-test.true }
+returns-then-over t c = walk_done _ _ _ _ _ _ _ _ _ _ _ _ c.requires.0 c.requires.1.0 _ c.part.ensures _ c.retained.ensures c.if-retained.false _ _ c.stem-u.ensures _ c.part-2.ensures _ _ _ _ _ _ c.own-w.ensures c.if-full.false c.if-left-eq0.false _ _ _ _ (round_stop _ _ _ _ _ _ _ _ _ _ _ _ _ _ _ _ _ _ _ _ _ c.loop-j.invariant _ c.way_count-z.ensures c.loop-j-test.true _ c.way_name.ensures _ _ c.put-v.ensures _ c.way_row.ensures _ _ _ _ c.corruptible-w.ensures c.if-over.true) (round_front _ _ _ _ _ _ _ _ _ _ _ _ _ _ _ _ _ _ _ _ _ c.loop-j.invariant _ c.way_count-z.ensures c.loop-j-test.true _ c.way_name.ensures _ _ c.put-v.ensures _ c.way_row.ensures _ _ _ _ c.corruptible-w.ensures)
 
 pub loop-j-preserved : goal.loop-j-preserved
-loop-j-preserved t c = (c.corruptible-w.auto.tail ∙ c.put-v.auto.out ∙ c.loop-j.invariant.0, (c.corruptible-w.auto.text ∙ c.loop-j.invariant.1.0, (c.corruptible-w.auto.ends ∙ c.loop-j.invariant.1.1.0, round_on _ _ _ _ _ _ _ _ _ _ _ _ _ _ _ _ _ _ _ _ _ c.loop-j.invariant.1.1.1 _ c.way_count-z.ensures c.loop-j-test.true _ c.way_name.ensures _ _ c.put-v.ensures _ c.way_row.ensures _ _ _ _ c.corruptible-w.ensures c.if-over.false (c.corruptible-w.auto.tail ∙ c.put-v.auto.out))))
+loop-j-preserved t c = round_on _ _ _ _ _ _ _ _ _ _ _ _ _ _ _ _ _ _ _ _ _ c.loop-j.invariant _ c.way_count-z.ensures c.loop-j-test.true _ c.way_name.ensures _ _ c.put-v.ensures _ c.way_row.ensures _ _ _ _ c.corruptible-w.ensures c.if-over.false (c.corruptible-w.auto.tail ∙ c.put-v.auto.out)
 
 pub returns : goal.returns
-returns t c = walk_done _ _ _ _ _ _ _ _ _ _ _ _ c.requires.0 c.requires.1.0 _ c.part.ensures _ c.retained.ensures c.if-retained.false _ _ c.stem-u.ensures _ c.part-2.ensures _ _ _ _ _ _ c.own-w.ensures c.if-full.false c.if-left-eq0.false _ _ _ _ (round_end _ _ _ _ _ _ _ _ _ _ _ _ _ _ _ _ _ _ _ _ _ c.loop-j.invariant.1.1.1 _ c.way_count-z.ensures c.loop-j-test.false) c.loop-j.invariant.1.1.1.front
+returns t c = walk_done _ _ _ _ _ _ _ _ _ _ _ _ c.requires.0 c.requires.1.0 _ c.part.ensures _ c.retained.ensures c.if-retained.false _ _ c.stem-u.ensures _ c.part-2.ensures _ _ _ _ _ _ c.own-w.ensures c.if-full.false c.if-left-eq0.false _ _ _ _ (round_end _ _ _ _ _ _ _ _ _ _ _ _ _ _ _ _ _ _ _ _ _ c.loop-j.invariant _ c.way_count-z.ensures (omega arith)) c.loop-j.invariant.front

@@ -1,8 +1,5 @@
 -- `corrupt::marked_paths` meets its contract: the domain is what was listed so far and what the elements left come to. Assumes nothing.
-use Prim.Native.Nat.{◌-◌}
-use mathlib.Core.Path.{◌≡◌}
 use mathlib.Core.List.{[], ◌++◌}
-use lib.ListN.{length}
 use Rattle.jobindex.specs.Index.{module_row}
 use Rattle.lookup.specs.Rows.{modules}
 use Rattle.nametable.specs.Table.{table_names}
@@ -12,7 +9,4 @@ use Rattle.corrupt.proofs.Domain.{Elements}
 use Rattle.corrupt.proofs.marked_paths.Given as goal
 
 abbrev pub invariant-loop-i : goal.invariant-loop-i
-invariant-loop-i l = (length l.tail ≡ length l.initial.tail) × ((length l.text ≡ length l.initial.text) × ((length l.ends ≡ length l.initial.ends) × Elements l.job l.index l.count l.k l.table l.files l.area l.n (entries_below l.below (table_names (l.files ++ l.area) l.retained l.n)) l.elements l.m l.prefix l.initial.tail l.initial.text l.initial.ends (domain_entered (modules l.job l.index l.count) (module_row l.job l.index l.k) [] (entries_below l.below (table_names (l.files ++ l.area) l.retained l.n)) (table_names (l.files ++ l.area) l.elements l.m)) (domain_list (modules l.job l.index l.count) (module_row l.job l.index l.k) [] (entries_below l.below (table_names (l.files ++ l.area) l.retained l.n)) (table_names (l.files ++ l.area) l.elements l.m)) l.text l.ends l.w l.i))
-
-abbrev pub decreases-loop-i : goal.decreases-loop-i
-decreases-loop-i l = l.m - l.i
+invariant-loop-i l = Elements l.job l.index l.count l.k l.table l.files l.area l.n (entries_below l.below (table_names (l.files ++ l.area) l.retained l.n)) l.elements l.m l.prefix l.initial.tail l.initial.text l.initial.ends (domain_entered (modules l.job l.index l.count) (module_row l.job l.index l.k) [] (entries_below l.below (table_names (l.files ++ l.area) l.retained l.n)) (table_names (l.files ++ l.area) l.elements l.m)) (domain_list (modules l.job l.index l.count) (module_row l.job l.index l.k) [] (entries_below l.below (table_names (l.files ++ l.area) l.retained l.n)) (table_names (l.files ++ l.area) l.elements l.m)) l.text l.ends l.w l.i

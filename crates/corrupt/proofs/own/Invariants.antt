@@ -1,7 +1,4 @@
 -- `corrupt::own` meets its contract: the names from i on are left. Assumes nothing.
-use Prim.Native.Nat.{◌-◌}
-use mathlib.Core.Path.{◌≡◌}
-use lib.ListN.{length}
 use mathlib.Core.List.{◌++◌, map}
 use Rattle.names.specs.Name.{name_of}
 use Rattle.design.specs.Lists.{add_all}
@@ -12,7 +9,4 @@ use Rattle.corrupt.proofs.OwnNames.{Names}
 use Rattle.corrupt.proofs.own.Given as goal
 
 abbrev pub invariant-loop-i : goal.invariant-loop-i
-invariant-loop-i l = (length l.text ≡ length l.initial.text) × ((length l.ends ≡ length l.initial.ends) × Names l.job l.table l.k (l.files ++ l.area) l.e l.elen l.h l.tail l.number l.prefix l.initial.w.entered (add_all (paths_of l.initial.text l.initial.ends l.initial.w.count) (map (λ n. dotted (name_of (l.files ++ l.area) l.e) ++ (l.tail ++ n)) (names_of l.job l.table l.k))) l.w l.text l.ends l.i)
-
-abbrev pub decreases-loop-i : goal.decreases-loop-i
-decreases-loop-i l = l.z - l.i
+invariant-loop-i l = Names l.job l.table l.k (l.files ++ l.area) l.e l.elen l.h l.tail l.number l.prefix l.initial.w.entered (add_all (paths_of l.initial.text l.initial.ends l.initial.w.count) (map (λ n. dotted (name_of (l.files ++ l.area) l.e) ++ (l.tail ++ n)) (names_of l.job l.table l.k))) l.w l.text l.ends l.i

@@ -2,6 +2,9 @@
 use Rattle.cover.proofs.Ports.{outputs_some, finds}
 use Rattle.cover.proofs.cover_outputs.Goals as goal
 
+pub returns : goal.returns
+returns c = outputs_some _ _ _ _ _ _ _ c.requires.1 _ _ c.whole.ensures _ c.find_instance-p.ensures c.if-not-p.false _ _ _ _ _ _ _ _ c.cover_ports.ensures
+
 pub whole-requires : goal.whole-requires
 whole-requires c = search finds
 
@@ -13,6 +16,3 @@ returns-then-not-p c = search finds
 
 pub cover_ports-requires : goal.cover_ports-requires
 cover_ports-requires c = search finds
-
-pub returns : goal.returns
-returns c = outputs_some _ _ _ _ _ _ _ c.requires.1 _ _ c.whole.ensures _ c.find_instance-p.ensures c.if-not-p.false _ _ _ _ _ _ _ _ c.cover_ports.ensures

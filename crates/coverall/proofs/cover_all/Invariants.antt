@@ -14,6 +14,3 @@ abbrev pub invariant-loop-i : goal.invariant-loop-i
 invariant-loop-i l = (length l.out ≡ length l.initial.out)
     × ((length l.ports ≡ length l.initial.ports)
     × Alls l.job (l.files ++ l.area) l.warn l.initial.x l.initial.out l.initial.ports l.s.number (name_of (l.files ++ l.area) l.s.name) (aims_for l.outputs (modules l.job l.index l.count) (module_row l.job l.index l.k)) l.table l.n l.x l.out l.ports l.i)
-
-abbrev pub decreases-loop-i : goal.decreases-loop-i
-decreases-loop-i l = l.n - l.i

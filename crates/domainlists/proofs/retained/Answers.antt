@@ -15,12 +15,6 @@ bounds-t-i c = search alls
 pub put_below-n-requires : goal.put_below-n-requires
 put_below-n-requires c = search all_rooms
 
-pub overflow_add-i : goal.overflow_add-i
-overflow_add-i c = search alls
-
-pub loop-i-smaller : goal.loop-i-smaller
-loop-i-smaller c = search alls
-
 pub loop-i-preserved : goal.loop-i-preserved
 loop-i-preserved c = (search rules, search all_step)
 

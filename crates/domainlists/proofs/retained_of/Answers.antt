@@ -5,7 +5,7 @@ use Rattle.domainlists.proofs.retained_of.Goals as goal
 
 pub put_below-n-requires : goal.put_below-n-requires
 put_below-n-requires c =
-    own_rooms _ _ _ _ c.requires _ c.loop-i-test.true _ _ _ _ c.loop-i.invariant.1 _ c.same_strings.ensures c.if-same_strings.true
+    own_rooms _ _ _ _ c.requires _ c.loop-i-test.true _ _ _ _ c.loop-i.invariant.1 _ c.same_strings.ensures c.if-not-same_strings.false
 
 pub loop-i-init : goal.loop-i-init
 loop-i-init c = (refl, own_start _ _ _ _)
@@ -19,23 +19,11 @@ bounds-t-i c = search owns
 pub same_strings-requires : goal.same_strings-requires
 same_strings-requires c = search owns
 
-pub overflow_add-i : goal.overflow_add-i
-overflow_add-i c = search owns
-
-pub loop-i-smaller-then-same_strings : goal.loop-i-smaller-then-same_strings
-loop-i-smaller-then-same_strings c = search owns
-
-pub loop-i-preserved-then-same_strings : goal.loop-i-preserved-then-same_strings
-loop-i-preserved-then-same_strings c = (search rules, search own_step)
-
-pub overflow_add-i-in-loop-i : goal.overflow_add-i-in-loop-i
-overflow_add-i-in-loop-i c = search owns
-
-pub loop-i-smaller : goal.loop-i-smaller
-loop-i-smaller c = search owns
-
-pub loop-i-preserved : goal.loop-i-preserved
-loop-i-preserved c = (search rules, search own_other)
-
 pub returns : goal.returns
 returns c = search owns
+
+pub loop-i-preserved-then-not-same_strings : goal.loop-i-preserved-then-not-same_strings
+loop-i-preserved-then-not-same_strings c = (search rules, search own_other)
+
+pub loop-i-preserved : goal.loop-i-preserved
+loop-i-preserved c = (search rules, search own_step)

@@ -1,5 +1,4 @@
 -- `domainlists::retained_of` meets its contract: the entries of the retentions left stand behind those that are there. Assumes nothing.
-use Prim.Native.Nat.{◌-◌}
 use mathlib.Core.Path.{◌≡◌}
 use mathlib.Core.List.{◌++◌}
 use lib.ListN.{length}
@@ -8,6 +7,3 @@ use Rattle.domainlists.proofs.retained_of.Given as goal
 
 abbrev pub invariant-loop-i : goal.invariant-loop-i
 invariant-loop-i l = (length l.table ≡ length l.initial.table) × Own (l.files ++ l.area) l.t l.domain l.initial.table l.table l.n l.i
-
-abbrev pub decreases-loop-i : goal.decreases-loop-i
-decreases-loop-i l = l.m - l.i

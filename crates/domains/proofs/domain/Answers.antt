@@ -12,4 +12,4 @@ pub supplied-requires : goal.supplied-requires
 supplied-requires c = c.requires
 
 pub returns : goal.returns
-returns c = both_told _ _ _ _ _ _ _ _ _ _ _ _ _ _ _ _ _ _ _ _ c.supplied.ensures c.in-Given.is c.in-Given-ground_net.is
+returns c = both_told _ _ _ _ _ _ _ _ _ _ _ _ _ _ _ _ _ _ _ _ c.supplied.ensures c.in-Some.is c.in-Some-ground_net.is

@@ -21,6 +21,3 @@ loop-i-preserved c = (search rules, (search rules, (search rules, (search rules,
 
 pub returns : goal.returns
 returns c = telling_end _ _ _ _ _ _ _ _ _ _ _ _ _ _ _ c.requires.0 _ _ _ _ _ _ _ c.loop-i.invariant.1.1.1.1.1 c.loop-i-test.false
-
-pub overflow_add-i : goal.overflow_add-i
-overflow_add-i c = omega (arith, c.loop-i-test.true, few_domains _ _ _ _ _ _ _ _ _ _ _ _ _ _ _ c.requires.0)

@@ -8,6 +8,3 @@ use Rattle.domains.proofs.domains.Given as goal
 
 abbrev pub invariant-loop-i : goal.invariant-loop-i
 invariant-loop-i l = (length l.tail ≡ length l.initial.tail) × ((length l.text ≡ length l.initial.text) × ((length l.ends ≡ length l.initial.ends) × ((length l.glue ≡ length l.initial.glue) × ((length l.report ≡ length l.initial.report) × Telling l.job l.nums l.count l.k l.files l.area l.path l.from l.top l.s l.ports l.isolated (l.initial.glue ▸ l.initial.o.glue) l.glue (l.initial.report ▸ l.initial.o.report) l.report l.o l.i))))
-
-abbrev pub decreases-loop-i : goal.decreases-loop-i
-decreases-loop-i l = l.m - l.i

@@ -12,11 +12,11 @@ returns c =
 pub loop-i-init : goal.loop-i-init
 loop-i-init c = (refl, (search rules, (search rules, search domained_start)))
 
-pub bounds-t-i : goal.bounds-t-i
-bounds-t-i c = search indices
-
 pub of_domain-o-requires : goal.of_domain-o-requires
 of_domain-o-requires c = (search rules, (search domain_asked, search domain_low))
 
 pub loop-i-preserved : goal.loop-i-preserved
 loop-i-preserved c = (search rules, (search rules, (search told_low, search domained_next)))
+
+pub bounds-t-i : goal.bounds-t-i
+bounds-t-i c = search indices

@@ -21,6 +21,3 @@ invariant-loop-i l = (length l.out ≡ length l.initial.out)
     (emit (l.initial.out ▸ l.initial.o.at) (each warning_line (flat_map (λ d. remarks (modules l.job l.nums l.count) (module_row l.job l.nums l.k) (domain_of (l.files ++ l.area) d)) (take l.t.n l.t.all))))
     (l.initial.o.count + length (flat_map (λ d. remarks (modules l.job l.nums l.count) (module_row l.job l.nums l.k) (domain_of (l.files ++ l.area) d)) (take l.t.n l.t.all)))
     (l.out ▸ l.o.at) l.o.count l.i))
-
-abbrev pub decreases-loop-i : goal.decreases-loop-i
-decreases-loop-i l = l.m - l.i

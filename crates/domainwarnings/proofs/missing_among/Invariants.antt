@@ -22,6 +22,3 @@ invariant-loop-i l = (length l.out ≡ length l.initial.out)
     (emit (l.initial.out ▸ l.initial.o.at) (each warning_line (missing (modules l.job l.nums l.count) (module_row l.job l.nums l.k) (string (l.files ++ l.area) l.domain) (table_names (l.files ++ l.area) l.elements l.n))))
     (l.initial.o.count + length (missing (modules l.job l.nums l.count) (module_row l.job l.nums l.k) (string (l.files ++ l.area) l.domain) (table_names (l.files ++ l.area) l.elements l.n)))
     (l.out ▸ l.o.at) l.o.count l.i))
-
-abbrev pub decreases-loop-i : goal.decreases-loop-i
-decreases-loop-i l = l.n - l.i

@@ -6,8 +6,8 @@ use Rattle.names.specs.Parts.{parts, first_part}
 use Rattle.memo.specs.Known.{Begins}
 use Rattle.elements.proofs.instance_at.Given as goal
 
-abbrev pub invariant-loop-name : goal.invariant-loop-name
-invariant-loop-name l = Begins l.job l.index l.k (first_part (parts (name_of (l.files ++ l.area) l.e))) l.at
+abbrev pub invariant-loop-inst : goal.invariant-loop-inst
+invariant-loop-inst l = Begins l.job l.index l.k (first_part (parts (name_of (l.files ++ l.area) l.e))) l.at
 
-abbrev pub decreases-loop-name : goal.decreases-loop-name
-decreases-loop-name l = l.end - l.at
+abbrev pub decreases-loop-inst : goal.decreases-loop-inst
+decreases-loop-inst l = l.end - l.at

@@ -28,12 +28,6 @@ in_name-requires c = search alls
 pub returns-then-not-in_name : goal.returns-then-not-in_name
 returns-then-not-in_name c = search alls
 
-pub overflow_add-i : goal.overflow_add-i
-overflow_add-i c = search alls
-
-pub loop-i-smaller : goal.loop-i-smaller
-loop-i-smaller c = search alls
-
 pub loop-i-preserved : goal.loop-i-preserved
 loop-i-preserved c = search alls
 

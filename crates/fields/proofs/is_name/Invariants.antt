@@ -10,6 +10,3 @@ use Rattle.fields.proofs.is_name.Given as goal
 
 abbrev pub invariant-loop-i : goal.invariant-loop-i
 invariant-loop-i l = (l.i ≤ length l.w) × (is_name l.w ≡ all in_name (drop l.i l.w))
-
-abbrev pub decreases-loop-i : goal.decreases-loop-i
-decreases-loop-i l = length l.w - l.i

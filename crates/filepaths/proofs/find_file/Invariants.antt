@@ -1,5 +1,4 @@
 -- `filepaths::find_file` meets its contract: the files passed have another path. Assumes nothing.
-use Prim.Native.Nat.{◌-◌}
 use mathlib.Core.List.{◌++◌}
 use Rattle.spans.specs.Span.{bytes}
 use Rattle.jobindex.specs.Index.{path_at}
@@ -9,6 +8,3 @@ use Rattle.filepaths.proofs.find_file.Given as goal
 
 abbrev pub invariant-loop-k : goal.invariant-loop-k
 invariant-loop-k l = Left l.job l.nums l.n (joined_path (path_at l.job l.nums l.loader) (bytes (l.files ++ l.area) l.name)) l.k
-
-abbrev pub decreases-loop-k : goal.decreases-loop-k
-decreases-loop-k l = l.n - l.k

@@ -1,14 +1,11 @@
-use Prim.Native.Nat.{◌-◌}
+-- `findscope::put_way` meets its contract: the names left are written behind those that were. Assumes nothing.
 use mathlib.Core.Path.{◌≡◌}
-use lib.ListN.{length}
-use Rattle.out.specs.Emit.{◌▸◌, emit}
+use Rattle.out.specs.Emit.{emit}
+use Rattle.out.specs.Text.{shown, SameRoom}
 use Rattle.out.specs.Items.{joined}
 use Rattle.search.specs.Found.{way_from}
 use Rattle.findscope.proofs.Turns.{Writes}
 use Rattle.findscope.proofs.put_way.Given as goal
 
 abbrev pub invariant-loop-i : goal.invariant-loop-i
-invariant-loop-i l = (length l.out ≡ length l.initial.out) × Writes l.job l.f l.sep (emit (l.initial.out ▸ 0) (joined l.sep (way_from l.job 0 l.f))) l.out l.o l.i
-
-abbrev pub decreases-loop-i : goal.decreases-loop-i
-decreases-loop-i l = 33 - l.i
+invariant-loop-i l = SameRoom l.initial.to l.to × Writes l.job l.f l.sep (emit (shown l.initial.to) (joined l.sep (way_from l.job 0 l.f))) (shown l.to) l.i

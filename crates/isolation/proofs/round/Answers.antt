@@ -25,6 +25,3 @@ loop-i-init c = (refl, (refl, rounds_start _ _ _ _ _ _ _ c.requires.1 _ _ _ _ _ 
 
 pub bounds-t-i : goal.bounds-t-i
 bounds-t-i c = omega (arith, c.loop-i-test.true, strategies_few _ _ _ _ _ _ _ c.requires.1)
-
-pub overflow_add-i : goal.overflow_add-i
-overflow_add-i c = omega (arith, c.loop-i-test.true, strategies_few _ _ _ _ _ _ _ c.requires.1)

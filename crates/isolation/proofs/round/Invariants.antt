@@ -13,6 +13,3 @@ abbrev pub invariant-loop-i : goal.invariant-loop-i
 invariant-loop-i l = (length l.out ≡ length l.initial.out)
     × ((length l.ports ≡ length l.initial.ports)
     × Rounds l.job (l.files ++ l.area) l.warn l.initial.a l.initial.out l.initial.ports (modules l.job l.index l.count) (module_row l.job l.index l.k) (map (domain_of (l.files ++ l.area)) (take l.domains.n l.domains.all)) l.having l.t l.a l.out l.ports l.i)
-
-abbrev pub decreases-loop-i : goal.decreases-loop-i
-decreases-loop-i l = l.n - l.i

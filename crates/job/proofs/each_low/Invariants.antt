@@ -9,6 +9,3 @@ use Rattle.job.proofs.each_low.Given as goal
 
 abbrev pub invariant-loop-i : goal.invariant-loop-i
 invariant-loop-i l = all is_ascii (drop l.at l.job) ≡ all is_ascii (drop l.i l.job)
-
-abbrev pub decreases-loop-i : goal.decreases-loop-i
-decreases-loop-i l = length l.job - l.i

@@ -1,37 +1,7 @@
 -- `job::line_step` meets its contract.
 -- Assumes nothing.
-use Rattle.job.proofs.Dispatch.{ask_top, ask_override, ask_start, ask_file, ask_bytes, ask_more, ask_style, ask_ports, ask_decls, ask_insts, step_top, step_override, step_start, step_file, step_bytes, step_more, step_style, step_ports, step_decls, step_insts, step_nothing}
+use Rattle.job.proofs.Dispatch.{step_top, step_override, step_start, step_file, step_bytes, step_more, step_style, step_ports, step_decls, step_insts, step_nothing}
 use Rattle.job.proofs.line_step.Goals as goal
-
-pub top_step-requires : goal.top_step-requires
-top_step-requires c = search ask_top
-
-pub override_step-requires : goal.override_step-requires
-override_step-requires c = search ask_override
-
-pub start_step-requires : goal.start_step-requires
-start_step-requires c = search ask_start
-
-pub file_step-requires : goal.file_step-requires
-file_step-requires c = search ask_file
-
-pub bytes_step-requires : goal.bytes_step-requires
-bytes_step-requires c = search ask_bytes
-
-pub more_step-requires : goal.more_step-requires
-more_step-requires c = search ask_more
-
-pub style_step-requires : goal.style_step-requires
-style_step-requires c = search ask_style
-
-pub ports_step-requires : goal.ports_step-requires
-ports_step-requires c = search ask_ports
-
-pub decls_step-requires : goal.decls_step-requires
-decls_step-requires c = search ask_decls
-
-pub conns_step-requires : goal.conns_step-requires
-conns_step-requires c = search ask_insts
 
 pub returns-in-Top : goal.returns-in-Top
 returns-in-Top c = search (step_top, c.top_step.ensures)

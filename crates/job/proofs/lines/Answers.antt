@@ -1,8 +1,10 @@
+-- `job::lines` meets its contract.
+-- Assumes nothing.
 use Rattle.job.proofs.Going.{going_first, going_in, going_ends, going_asks, going_refused, going_less, going_on}
 use Rattle.job.proofs.lines.Goals as goal
 
-pub loop-from-init : goal.loop-from-init
-loop-from-init c = search going_first
+pub loop-line-init : goal.loop-line-init
+loop-line-init c = going_first _ _ c.requires
 
 pub cut_line-m-requires : goal.cut_line-m-requires
 cut_line-m-requires c = search going_in
@@ -10,14 +12,14 @@ cut_line-m-requires c = search going_in
 pub returns-in_default : goal.returns-in_default
 returns-in_default c = search going_ends
 
-pub line_step-step-requires : goal.line_step-step-requires
-line_step-step-requires c = search going_asks
+pub line_step-requires : goal.line_step-requires
+line_step-requires c = going_asks _ _ _ _ _ _ _ _ c.loop-line.invariant _ c.cut_line-m.ensures.1 _ c.cut_line-m.ensures.0 _ c.in-Some.is
 
-pub returns-in-Refused : goal.returns-in-Refused
-returns-in-Refused c = search going_refused
+pub returns-in-Err : goal.returns-in-Err
+returns-in-Err c = going_refused _ _ _ _ _ _ _ _ c.loop-line.invariant _ c.cut_line-m.ensures.1 _ c.cut_line-m.ensures.0 _ c.in-Some.is _ _ c.line_step.ensures _ c.in-Err.is
 
-pub loop-from-smaller : goal.loop-from-smaller
-loop-from-smaller c = going_less _ _ _ _ _ _ _ _ c.loop-from.invariant _ c.cut_line-m.ensures.1 _ c.cut_line-m.ensures.0 _ _ c.in-Line.is _ _ c.line_step-step.ensures _ _ _ _ c.in-On.is
+pub loop-line-smaller : goal.loop-line-smaller
+loop-line-smaller c = going_less _ _ _ _ _ _ _ _ c.loop-line.invariant _ c.cut_line-m.ensures.1 _ c.cut_line-m.ensures.0 _ c.in-Some.is _ _ c.line_step.ensures _ c.in-Ok.is
 
-pub loop-from-preserved : goal.loop-from-preserved
-loop-from-preserved c = going_on _ _ _ _ _ _ _ _ c.loop-from.invariant _ c.cut_line-m.ensures.1 _ c.cut_line-m.ensures.0 _ _ c.in-Line.is _ _ c.line_step-step.ensures _ _ _ _ c.in-On.is
+pub loop-line-preserved : goal.loop-line-preserved
+loop-line-preserved c = going_on _ _ _ _ _ _ _ _ c.loop-line.invariant _ c.cut_line-m.ensures.1 _ c.cut_line-m.ensures.0 _ c.in-Some.is _ _ c.line_step.ensures _ c.in-Ok.is

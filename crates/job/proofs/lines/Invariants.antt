@@ -5,8 +5,8 @@ use lib.ListN.{length}
 use Rattle.job.proofs.Going.{Going}
 use Rattle.job.proofs.lines.Given as goal
 
-abbrev pub invariant-loop-from : goal.invariant-loop-from
-invariant-loop-from l = Going l.job l.initial.index l.index l.p l.n l.due l.head l.opened
+abbrev pub invariant-loop-line : goal.invariant-loop-line
+invariant-loop-line l = Going l.job l.initial.index l.index l.step.at l.n l.step.due l.step.head l.step.opened
 
-abbrev pub decreases-loop-from : goal.decreases-loop-from
-decreases-loop-from l = length l.job - l.p
+abbrev pub decreases-loop-line : goal.decreases-loop-line
+decreases-loop-line l = length l.job - l.step.at

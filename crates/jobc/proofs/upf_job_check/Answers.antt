@@ -8,10 +8,10 @@ pub returns-then-index-lt1280 : goal.returns-then-index-lt1280
 returns-then-index-lt1280 c = search tell_short
 
 pub overflow_add-result : goal.overflow_add-result
-overflow_add-result c = let l = line_small _ _ _ _ c.read_job-a.ensures _ _ c.in-Refused.is in search rules
+overflow_add-result c = let l = line_small _ _ _ _ c.read_job.ensures _ c.in-Err.is in search rules
 
-pub returns-in-Refused : goal.returns-in-Refused
-returns-in-Refused c = search tell_refused
+pub returns-in-Err : goal.returns-in-Err
+returns-in-Err c = search tell_refused
 
-pub returns-in-Taken : goal.returns-in-Taken
-returns-in-Taken c = search tell_taken
+pub returns-in-Ok : goal.returns-in-Ok
+returns-in-Ok c = search tell_taken

@@ -1,13 +1,15 @@
 -- `jobsteps::file_step` meets its contract.
 -- Assumes nothing.
+use Rattle.std.specs.Prelude.{[]}
+use Rattle.std.proofs.Math.Path.{refl}
 use Rattle.jobsteps.proofs.Between.{file_none, file_refused, file_good}
 use Rattle.jobsteps.proofs.file_step.Goals as goal
 
-pub returns-in-Other : goal.returns-in-Other
-returns-in-Other c = search file_none
+pub returns-in_err-file_line : goal.returns-in_err-file_line
+returns-in_err-file_line c = file_refused _ _ _ _ _ c.args.opened _ c.part-line.ensures c.requires [] _ c.in_err-file_line.ensures _ c.from_residual.ensures.1
 
-pub returns-in-Refused : goal.returns-in-Refused
-returns-in-Refused c = search file_refused
+pub returns-then-branch : goal.returns-then-branch
+returns-then-branch c = file_good _ _ _ _ _ c.args.opened _ c.part-line.ensures c.requires [] _ c.in_ok-file_line.ensures c.if-branch.true _ c.file_on.ensures
 
-pub returns-in-Good : goal.returns-in-Good
-returns-in-Good c = search file_good
+pub returns : goal.returns
+returns c = file_none _ _ _ _ _ c.args.opened _ c.part-line.ensures c.requires [] _ c.in_ok-file_line.ensures c.if-branch.false refl

@@ -6,8 +6,8 @@ use Rattle.jobsteps.proofs.style_step.Goals as goal
 pub returns-then-not-starts_with : goal.returns-then-not-starts_with
 returns-then-not-starts_with c = search style_other
 
-pub returns-then-style-gt2 : goal.returns-then-style-gt2
-returns-then-style-gt2 c = search style_not
+pub returns-in_default : goal.returns-in_default
+returns-in_default c = search style_not
 
 pub returns : goal.returns
 returns c = search style_on

@@ -5,6 +5,3 @@ use Rattle.joined.proofs.join_files.Given as goal
 
 abbrev pub invariant-loop-k : goal.invariant-loop-k
 invariant-loop-k l = Going l.job l.initial.files l.initial.nums l.files l.nums l.n l.k l.o
-
-abbrev pub decreases-loop-k : goal.decreases-loop-k
-decreases-loop-k l = l.n - l.k

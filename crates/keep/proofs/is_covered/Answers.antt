@@ -8,12 +8,6 @@ loop-k-init c = seek_start _ _ _ _ _
 pub is_other-requires : goal.is_other-requires
 is_other-requires c = row_few _ _ c.requires.0 c.loop-k-test.true
 
-pub overflow_add-k : goal.overflow_add-k
-overflow_add-k c = search (rules, row_more _ _ c.requires.0 c.loop-k-test.true)
-
-pub loop-k-smaller-then-is_other : goal.loop-k-smaller-then-is_other
-loop-k-smaller-then-is_other c = row_left _ _ c.loop-k-test.true
-
 pub loop-k-preserved-then-is_other : goal.loop-k-preserved-then-is_other
 loop-k-preserved-then-is_other c = seek_other _ _ _ _ _ _ _ _ c.loop-k.invariant c.loop-k-test.true c.requires.1 c.is_other.ensures c.if-is_other.true
 
@@ -23,14 +17,5 @@ is_row-requires c = row_few _ _ c.requires.0 c.loop-k-test.true
 pub returns-then-is_row : goal.returns-then-is_row
 returns-then-is_row c = seek_here _ _ _ _ _ _ c.loop-k.invariant c.loop-k-test.true _ c.is_row.ensures c.if-is_row.true
 
-pub overflow_add-k-in-loop-k : goal.overflow_add-k-in-loop-k
-overflow_add-k-in-loop-k c = search (rules, row_more _ _ c.requires.0 c.loop-k-test.true)
-
-pub loop-k-smaller : goal.loop-k-smaller
-loop-k-smaller c = row_left _ _ c.loop-k-test.true
-
 pub loop-k-preserved : goal.loop-k-preserved
 loop-k-preserved c = seek_on _ _ _ _ _ _ c.loop-k.invariant c.loop-k-test.true _ c.is_row.ensures c.if-is_row.false
-
-pub returns : goal.returns
-returns c = search seeks

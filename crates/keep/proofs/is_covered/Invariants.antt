@@ -7,6 +7,3 @@ use Rattle.keep.proofs.is_covered.Given as goal
 
 abbrev pub invariant-loop-k : goal.invariant-loop-k
 invariant-loop-k l = Seeks l.job (l.files ++ l.area) l.ports l.n (text_of l.job (l.files ++ l.area) l.p) l.k
-
-abbrev pub decreases-loop-k : goal.decreases-loop-k
-decreases-loop-k l = l.n - l.k

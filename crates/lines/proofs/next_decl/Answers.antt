@@ -1,47 +1,11 @@
-use Rattle.lines.proofs.Turns.{decl_turns}
+use Rattle.lines.proofs.Turns.{turn_passed, decl_good, decl_skip, decl_turns}
 use Rattle.lines.proofs.next_decl.Goals as goal
 
-pub loop-at-init : goal.loop-at-init
-loop-at-init c = search decl_turns
+pub loop-e-init : goal.loop-e-init
+loop-e-init c = search decl_turns
 
-pub line_end-e-requires : goal.line_end-e-requires
-line_end-e-requires c = search decl_turns
+pub returns-in-Some-decl_here : goal.returns-in-Some-decl_here
+returns-in-Some-decl_here c = decl_good _ _ _ _ _ c.loop-e.invariant.1 c.in-Some.ensures _ c.part-line.ensures _ c.in-Some-decl_here.ensures c.loop-e.invariant.0 _ c.rest-v.ensures _ c.span_in.ensures
 
-pub returns-then-end-e : goal.returns-then-end-e
-returns-then-end-e c = search decl_turns
-
-pub overflow_sub-e : goal.overflow_sub-e
-overflow_sub-e c = search decl_turns
-
-pub part-line-requires : goal.part-line-requires
-part-line-requires c = search decl_turns
-
-pub decl_here-f-requires : goal.decl_here-f-requires
-decl_here-f-requires c = search decl_turns
-
-pub enum_known-f : goal.enum_known-f
-enum_known-f c = search decl_turns
-
-pub enum_told-1 : goal.enum_told-1
-enum_told-1 c = search decl_turns
-
-pub overflow_add-i : goal.overflow_add-i
-overflow_add-i c = search decl_turns
-
-pub loop-at-smaller : goal.loop-at-smaller
-loop-at-smaller c = search decl_turns
-
-pub loop-at-preserved : goal.loop-at-preserved
-loop-at-preserved c = search decl_turns
-
-pub rest-v-requires : goal.rest-v-requires
-rest-v-requires c = search decl_turns
-
-pub span_in-requires : goal.span_in-requires
-span_in-requires c = search decl_turns
-
-pub overflow_add-result : goal.overflow_add-result
-overflow_add-result c = search decl_turns
-
-pub returns-in-loop-at : goal.returns-in-loop-at
-returns-in-loop-at c = search decl_turns
+pub loop-e-preserved : goal.loop-e-preserved
+loop-e-preserved c = (turn_passed _ _ _ _ c.in-Some.ensures _ c.loop-e.invariant.0, decl_skip _ _ _ _ _ c.loop-e.invariant.1 c.in-Some.ensures _ c.part-line.ensures c.in_default-decl_here.ensures)

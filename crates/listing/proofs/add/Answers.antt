@@ -1,5 +1,4 @@
--- `listing::add` meets its contract. Assumes nothing.
-use Rattle.listing.proofs.Adds.{adds, adds_new}
+use Rattle.listing.proofs.Adds.{adds}
 use Rattle.listing.proofs.add.Goals as goal
 
 pub flagged-requires : goal.flagged-requires
@@ -10,6 +9,3 @@ returns-then-flagged c = search adds
 
 pub add_new-requires : goal.add_new-requires
 add_new-requires c = search adds
-
-pub returns : goal.returns
-returns c = search adds_new

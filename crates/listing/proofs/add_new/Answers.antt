@@ -1,4 +1,3 @@
--- `listing::add_new` meets its contract. Assumes nothing.
 use Rattle.listing.proofs.Adds.{news}
 use Rattle.listing.proofs.add_new.Goals as goal
 
@@ -7,9 +6,6 @@ returns-then-count-eq1024 c = search news
 
 pub returns-then-used-gt32768 : goal.returns-then-used-gt32768
 returns-then-used-gt32768 c = search news
-
-pub bounds-ends-flag : goal.bounds-ends-flag
-bounds-ends-flag c = search news
 
 pub returns : goal.returns
 returns c = search news

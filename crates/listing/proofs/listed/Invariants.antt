@@ -1,5 +1,4 @@
 -- `listing::listed` meets its contract: whether the path is one of the rows left. Assumes nothing.
-use Prim.Native.Nat.{◌-◌}
 use mathlib.Core.List.{◌++◌}
 use Rattle.names.specs.Name.{name_of}
 use Rattle.design.specs.Lists.{is_in}
@@ -10,6 +9,3 @@ use Rattle.listing.proofs.listed.Given as goal
 
 abbrev pub invariant-loop-k : goal.invariant-loop-k
 invariant-loop-k l = Left (dotted (name_of (l.files ++ l.area) l.e) ++ (l.tail ++ l.name)) l.text l.ends l.count (is_in (dotted (name_of (l.files ++ l.area) l.e) ++ (l.tail ++ l.name)) (paths_of l.text l.ends l.count)) l.k l.at
-
-abbrev pub decreases-loop-k : goal.decreases-loop-k
-decreases-loop-k l = l.count - l.k

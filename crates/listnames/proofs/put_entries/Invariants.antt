@@ -6,8 +6,8 @@ use Rattle.entries.specs.Entry.{entries_left}
 use Rattle.listnames.proofs.Turns.{Lists}
 use Rattle.listnames.proofs.put_entries.Given as goal
 
-abbrev pub invariant-loop-s : goal.invariant-loop-s
-invariant-loop-s l = Lists (λ (b : Bytes). b) (l.files ++ l.area) l.text l.initial.table l.n l.table l.k l.at l.first
+abbrev pub invariant-loop-item : goal.invariant-loop-item
+invariant-loop-item l = Lists (λ (b : Bytes). b) (l.files ++ l.area) l.text l.initial.table l.n l.table l.k l.at l.first
 
-abbrev pub decreases-loop-s : goal.decreases-loop-s
-decreases-loop-s l = length (entries_left l.first (drop l.at l.text))
+abbrev pub decreases-loop-item : goal.decreases-loop-item
+decreases-loop-item l = length (entries_left l.first (drop l.at l.text))

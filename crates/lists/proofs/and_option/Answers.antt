@@ -17,5 +17,5 @@ and_value-requires c = search options
 pub returns-in-None : goal.returns-in-None
 returns-in-None c = search options
 
-pub returns-in-At : goal.returns-in-At
-returns-in-At c = search options
+pub returns-in-Some : goal.returns-in-Some
+returns-in-Some c = search options

@@ -7,8 +7,8 @@ use Rattle.tcl.specs.Arguments.{states}
 use Rattle.lists.proofs.Laws.{Left}
 use Rattle.lists.proofs.and_states.Given as goal
 
-abbrev pub invariant-loop-t : goal.invariant-loop-t
-invariant-loop-t l = Left l.n (states l.one l.two (strings (l.files ++ l.area) l.words 0 l.n)) l.initial.t l.k l.t
+abbrev pub invariant-loop-v : goal.invariant-loop-v
+invariant-loop-v l = Left l.n (states l.one l.two (strings (l.files ++ l.area) l.words 0 l.n)) l.initial.t l.k l.t
 
-abbrev pub decreases-loop-t : goal.decreases-loop-t
-decreases-loop-t l = length (states l.one l.two (strings (l.files ++ l.area) l.words 0 l.n)) - l.k
+abbrev pub decreases-loop-v : goal.decreases-loop-v
+decreases-loop-v l = length (states l.one l.two (strings (l.files ++ l.area) l.words 0 l.n)) - l.k

@@ -5,8 +5,8 @@ use Prim.Native.Nat.{◌-◌}
 use mathlib.Core.Path.{◌≡◌}
 use Rattle.lookup.proofs.instance_named.Given as goal
 
-abbrev pub invariant-loop-own : goal.invariant-loop-own
-invariant-loop-own l = instance_named (module_row l.job l.index l.k) l.name ≡ named_in l.job l.at l.end l.name
+abbrev pub invariant-loop-inst : goal.invariant-loop-inst
+invariant-loop-inst l = instance_named (module_row l.job l.index l.k) l.name ≡ named_in l.job l.at l.end l.name
 
-abbrev pub decreases-loop-own : goal.decreases-loop-own
-decreases-loop-own l = l.end - l.at
+abbrev pub decreases-loop-inst : goal.decreases-loop-inst
+decreases-loop-inst l = l.end - l.at

@@ -7,7 +7,7 @@ pub loop-k-init : goal.loop-k-init
 loop-k-init c = (refl, search left_start)
 
 pub loop-k-preserved : goal.loop-k-preserved
-loop-k-preserved c = (search rules, search left_next)
+loop-k-preserved c = (cc, search left_next)
 
 pub returns : goal.returns
 returns c = search left_done

@@ -2,7 +2,8 @@
 use Prim.Native.Nat.{◌-◌}
 use mathlib.Core.Path.{◌≡◌}
 use lib.ListN.{length}
-use Rattle.out.specs.Emit.{emit, ◌▸◌}
+use Rattle.out.specs.Emit.{emit}
+use Rattle.out.specs.Text.{shown, SameRoom}
 use Rattle.out.specs.Items.{each}
 use Rattle.scope.specs.Parts.{parts}
 use Rattle.listing.specs.Listing.{paths_of}
@@ -11,8 +12,5 @@ use Rattle.pathlines.proofs.Writes.{Left}
 use Rattle.pathlines.proofs.put_lines.Given as goal
 
 abbrev pub invariant-loop-k : goal.invariant-loop-k
-invariant-loop-k l = (length l.out ≡ length l.initial.out)
-    × Left (line_of l.before l.after (parts l.over l.from)) l.text l.ends l.n (emit (l.initial.out ▸ l.at) (each (line_of l.before l.after (parts l.over l.from)) (paths_of l.text l.ends l.n))) (l.out ▸ l.o) l.k l.a
-
-abbrev pub decreases-loop-k : goal.decreases-loop-k
-decreases-loop-k l = l.n - l.k
+invariant-loop-k l = SameRoom l.initial.to l.to
+    × Left (line_of l.before l.after (parts l.over l.from)) l.text l.ends l.n (emit (shown l.initial.to) (each (line_of l.before l.after (parts l.over l.from)) (paths_of l.text l.ends l.n))) (shown l.to) l.k l.a

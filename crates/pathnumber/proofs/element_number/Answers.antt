@@ -1,29 +1,12 @@
-use Rattle.pathnumber.proofs.Numbers.{streams}
+use mathlib.Core.Path.{◌∙◌, ap}
+use Rattle.design.specs.Paths.{dotted}
+use Rattle.names.specs.Stream.{left_of}
+use Rattle.pathnumber.specs.Number.{number}
+use Rattle.pathnumber.proofs.Numbers.{element_next, element_end}
 use Rattle.pathnumber.proofs.element_number.Goals as goal
 
-pub loop-b-init : goal.loop-b-init
-loop-b-init c = search streams
-
-pub next-requires : goal.next-requires
-next-requires c = search streams
-
-pub enum_told-1 : goal.enum_told-1
-enum_told-1 c = search streams
-
-pub returns-in-End : goal.returns-in-End
-returns-in-End c = search streams
-
-pub enum_known-b : goal.enum_known-b
-enum_known-b c = search streams
-
-pub dot-requires : goal.dot-requires
-dot-requires c = search streams
-
-pub after-h-requires : goal.after-h-requires
-after-h-requires c = search streams
-
-pub loop-b-smaller : goal.loop-b-smaller
-loop-b-smaller c = search streams
-
 pub loop-b-preserved : goal.loop-b-preserved
-loop-b-preserved c = search streams
+loop-b-preserved c = element_next (left_of c.loop-b.b-iterator) _ _ _ _ _ _ c.loop-b.invariant c.in-Some.ensures.steps c.dot.ensures c.after-h.ensures
+
+pub returns : goal.returns
+returns c = element_end (left_of c.loop-b.b-iterator) _ _ c.loop-b.invariant c.in-None.ensures.steps.0 ∙ ap (λ t. number 0 (dotted (left_of t))) c.into_iter-b-iterator.ensures.into_iter_gives

@@ -9,6 +9,6 @@ pub returns-then-e-job : goal.returns-then-e-job
 unfolding cut_at moved_on
 returns-then-e-job c = simp (← c.find_far-e.ensures.is_at, lt-ltb _ _ c.if-e-job.true) (refl, refl)
 
-pub returns-else-e-job : goal.returns-else-e-job
+pub returns : goal.returns
 unfolding cut_at moved_on
-returns-else-e-job c = simp (← c.find_far-e.ensures.is_at, le-ltb _ _ c.if-e-job.false) (refl, refl)
+returns c = simp (← c.find_far-e.ensures.is_at, le-ltb _ _ c.if-e-job.false) (refl, refl)

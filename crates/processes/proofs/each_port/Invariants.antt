@@ -1,6 +1,7 @@
 -- `processes::each_port` meets its contract: what is left to write, written from here, is the answer. Assumes nothing.
 use mathlib.Core.List.{◌++◌}
-use Rattle.out.specs.Emit.{◌▸◌, emit}
+use Rattle.out.specs.Emit.{emit}
+use Rattle.out.specs.Text.{shown, SameRoom}
 use Rattle.scope.specs.Parts.{parts}
 use Rattle.isolated.specs.Table.{kept_in}
 use Rattle.alike.specs.Strategies.{strategy_at}
@@ -12,7 +13,4 @@ use lib.ListN.{length}
 use Rattle.processes.proofs.each_port.Given as goal
 
 abbrev pub invariant-loop-k : goal.invariant-loop-k
-invariant-loop-k l = (length l.out ≡ length l.initial.out) × Writes l.job (l.files ++ l.area) (parts l.over l.from) l.top l.tpl l.t l.ports l.n l.i (emit (l.initial.out ▸ l.at) (ports_text l.tpl (parts l.over l.from) l.top (strategy_at (l.files ++ l.area) l.t) l.i (kept_in l.job (l.files ++ l.area) l.ports l.n))) (l.out ▸ l.o) l.k l.s
-
-abbrev pub decreases-loop-k : goal.decreases-loop-k
-decreases-loop-k l = l.n - l.k
+invariant-loop-k l = SameRoom l.initial.to l.to × Writes l.job (l.files ++ l.area) (parts l.over l.from) l.top l.tpl l.t l.ports l.n l.i (emit (shown l.initial.to) (ports_text l.tpl (parts l.over l.from) l.top (strategy_at (l.files ++ l.area) l.t) l.i (kept_in l.job (l.files ++ l.area) l.ports l.n))) (shown l.to) l.k l.s

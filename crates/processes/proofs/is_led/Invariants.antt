@@ -7,6 +7,3 @@ use Rattle.processes.proofs.is_led.Given as goal
 
 abbrev pub invariant-loop-k : goal.invariant-loop-k
 invariant-loop-k l = Seeks (strategy_at (l.files ++ l.area) l.t) l.ports l.n l.i l.k l.s
-
-abbrev pub decreases-loop-k : goal.decreases-loop-k
-decreases-loop-k l = l.n - l.k

@@ -9,38 +9,20 @@ loop-k-init c = (refl, leads_start _ _ _ _ _ _ _ _ (search rules))
 pub strategy_at-i-requires : goal.strategy_at-i-requires
 strategy_at-i-requires c = leads_row _ _ _ _ _ _ _ _ _ _ _ c.loop-k.invariant.1 c.loop-k-test.true
 
-pub overflow_add-k : goal.overflow_add-k
-overflow_add-k c = search leads
-
-pub loop-k-smaller-then-i-s : goal.loop-k-smaller-then-i-s
-loop-k-smaller-then-i-s c = search leads
-
 pub loop-k-preserved-then-i-s : goal.loop-k-preserved-then-i-s
 loop-k-preserved-then-i-s c = (search rules, leads_skip _ _ _ _ _ _ _ _ _ _ _ c.loop-k.invariant.1 c.loop-k-test.true _ c.strategy_at-i.ensures c.if-i-s.true)
 
 pub is_led-requires : goal.is_led-requires
 is_led-requires c = (leads_front _ _ _ _ _ _ _ _ _ _ _ c.loop-k.invariant.1 c.loop-k-test.true, leads_number _ _ _ _ _ _ _ _ _ _ _ c.loop-k.invariant.1 c.loop-k-test.true _ c.strategy_at-i.ensures)
 
-pub overflow_add-k-then-is_led : goal.overflow_add-k-then-is_led
-overflow_add-k-then-is_led c = search leads
-
-pub loop-k-smaller-then-is_led : goal.loop-k-smaller-then-is_led
-loop-k-smaller-then-is_led c = search leads
-
 pub loop-k-preserved-then-is_led : goal.loop-k-preserved-then-is_led
 loop-k-preserved-then-is_led c = (search rules, leads_other _ _ _ _ _ _ _ _ _ _ _ c.loop-k.invariant.1 c.loop-k-test.true _ c.strategy_at-i.ensures _ c.is_led.ensures c.if-is_led.true)
 
-pub process-o-requires : goal.process-o-requires
-process-o-requires c = (c.loop-k.invariant.1.ruled, leads_number _ _ _ _ _ _ _ _ _ _ _ c.loop-k.invariant.1 c.loop-k-test.true _ c.strategy_at-i.ensures)
-
-pub overflow_add-k-in-loop-k : goal.overflow_add-k-in-loop-k
-overflow_add-k-in-loop-k c = search leads
-
-pub loop-k-smaller : goal.loop-k-smaller
-loop-k-smaller c = search leads
+pub process-requires : goal.process-requires
+process-requires c = (c.loop-k.invariant.1.ruled, leads_number _ _ _ _ _ _ _ _ _ _ _ c.loop-k.invariant.1 c.loop-k-test.true _ c.strategy_at-i.ensures)
 
 pub loop-k-preserved : goal.loop-k-preserved
-loop-k-preserved c = (search rules, leads_one _ _ _ _ _ _ _ _ _ _ _ c.loop-k.invariant.1 c.loop-k-test.true _ c.strategy_at-i.ensures _ c.is_led.ensures c.if-is_led.false _ c.process-o.ensures)
+loop-k-preserved c = (search rules, leads_one _ _ _ _ _ _ _ _ _ _ _ c.loop-k.invariant.1 c.loop-k-test.true _ c.strategy_at-i.ensures _ c.is_led.ensures c.if-is_led.false _ c.process.ensures.1)
 
 pub returns : goal.returns
-returns c = search leads
+returns c = (search rules, search leads)

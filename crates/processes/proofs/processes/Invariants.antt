@@ -1,11 +1,12 @@
 -- `processes::processes` meets its contract: what is left to write, written from here, is the answer. Assumes nothing.
 use mathlib.Core.List.{◌++◌, map}
-use Rattle.out.specs.Emit.{◌▸◌, emit}
+use Rattle.out.specs.Emit.{emit}
+use Rattle.out.specs.Text.{shown, SameRoom}
 use Rattle.scope.specs.Parts.{parts}
 use Rattle.texts.specs.Isolation.{processes}
 use Rattle.isolated.specs.Table.{kept_in}
 use Rattle.alike.specs.Strategies.{strategy_at}
-use Rattle.alike.specs.Shown.{shown}
+use Rattle.alike.specs.Shown.{shown as port_shown}
 use Rattle.processes.proofs.Texts.{Leads}
 use Prim.Native.Nat.{◌-◌}
 use mathlib.Core.Path.{◌≡◌}
@@ -13,7 +14,4 @@ use lib.ListN.{length}
 use Rattle.processes.proofs.processes.Given as goal
 
 abbrev pub invariant-loop-k : goal.invariant-loop-k
-invariant-loop-k l = (length l.out ≡ length l.initial.out) × Leads l.job (l.files ++ l.area) (parts l.over l.from) l.top l.t l.ports l.n (emit (l.initial.out ▸ l.at) (processes (map (shown (parts l.over l.from) l.top (strategy_at (l.files ++ l.area) l.t)) (kept_in l.job (l.files ++ l.area) l.ports l.n)))) (l.out ▸ l.o) l.k l.s
-
-abbrev pub decreases-loop-k : goal.decreases-loop-k
-decreases-loop-k l = l.n - l.k
+invariant-loop-k l = SameRoom l.initial.to l.to × Leads l.job (l.files ++ l.area) (parts l.over l.from) l.top l.t l.ports l.n (emit (shown l.initial.to) (processes (map (port_shown (parts l.over l.from) l.top (strategy_at (l.files ++ l.area) l.t)) (kept_in l.job (l.files ++ l.area) l.ports l.n)))) (shown l.to) l.k l.s

@@ -5,8 +5,8 @@ use Rattle.refs.proofs.next.Goals as goal
 pub returns-then-r : goal.returns-then-r
 returns-then-r c = search nexts
 
-pub returns-in-End : goal.returns-in-End
-returns-in-End c = search nexts
+pub returns-in-None : goal.returns-in-None
+returns-in-None c = search nexts
 
-pub returns-in-Byte : goal.returns-in-Byte
-returns-in-Byte c = search nexts
+pub returns-in-Some : goal.returns-in-Some
+returns-in-Some c = search nexts

@@ -2,8 +2,8 @@
 use Rattle.refs.proofs.Firsts.{behinds}
 use Rattle.refs.proofs.of_last.Goals as goal
 
-pub returns-in-End : goal.returns-in-End
-returns-in-End c = search behinds
+pub returns-in-None : goal.returns-in-None
+returns-in-None c = search behinds
 
-pub returns-in-Byte : goal.returns-in-Byte
-returns-in-Byte c = search behinds
+pub returns-in-Some : goal.returns-in-Some
+returns-in-Some c = search behinds

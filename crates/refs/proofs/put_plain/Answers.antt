@@ -7,7 +7,7 @@ pub returns-then-is_plain : goal.returns-then-is_plain
 returns-then-is_plain c = search words
 
 pub returns-then-r : goal.returns-then-r
-returns-then-r c = put_sep _ _ _ _ _ _ _ _ c.put_last.ensures c.becomes-p.ensures c.put_named-o.ensures c.if-r.true
+returns-then-r c = (cc, put_sep _ _ _ _ _ _ _ _ c.put_last.ensures.1 c.becomes.ensures.1 c.put_named.ensures.1 c.if-r.true)
 
 pub returns : goal.returns
-returns c = put_bare _ _ _ _ _ _ _ c.put_last-2.ensures c.put_named-o.ensures c.if-r.false
+returns c = (cc, put_bare _ _ _ _ _ _ _ c.put_last-2.ensures.1 c.put_named.ensures.1 c.if-r.false)

@@ -2,8 +2,5 @@
 use Rattle.remarks.proofs.Texts.{warns}
 use Rattle.remarks.proofs.clamp_unknown.Goals as goal
 
-pub returns-then-not-warn : goal.returns-then-not-warn
-returns-then-not-warn c = search warns
-
 pub returns : goal.returns
 returns c = search warns

@@ -1,9 +1,7 @@
 -- `remarks::not_outputs` meets its contract. Assumes nothing.
-use Rattle.remarks.proofs.Texts.{warns}
+use borrow.Author.Rules.{rules}
+use Rattle.remarks.proofs.Texts.{over_written, outputs_warned}
 use Rattle.remarks.proofs.not_outputs.Goals as goal
 
-pub returns-then-not-warn : goal.returns-then-not-warn
-returns-then-not-warn c = search warns
-
 pub returns : goal.returns
-returns c = search warns
+returns c = outputs_warned c.args.warn c.args.c c.args.out.now _ _ _ _ _ _ c.name.ensures _ _ _ c.warned-2.ensures (search rules) _ _ c.name-2.ensures (over_written _ _ _ _ _ _ _ c.fill2.ensures.1 c.over-text.ensures.from (search rules))

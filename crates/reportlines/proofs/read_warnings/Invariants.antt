@@ -3,7 +3,8 @@ use Prim.Native.Nat.{◌-◌}
 use mathlib.Core.Path.{◌≡◌}
 use mathlib.Core.List.{◌++◌, map}
 use lib.ListN.{length}
-use Rattle.out.specs.Emit.{emit, ◌▸◌}
+use Rattle.out.specs.Emit.{emit}
+use Rattle.out.specs.Text.{shown, SameRoom}
 use Rattle.out.specs.Items.{each}
 use Rattle.texts.specs.Texts.{warning_line}
 use Rattle.store.specs.View.{warnings_in, warning_text}
@@ -12,7 +13,4 @@ use Rattle.reportlines.proofs.Warnings.{Lines}
 use Rattle.reportlines.proofs.read_warnings.Given as goal
 
 abbrev pub invariant-loop-i : goal.invariant-loop-i
-invariant-loop-i l = (length l.out ≡ length l.initial.out) × Lines (l.files ++ l.area) l.nums l.rows (emit (l.initial.out ▸ l.at) (each warning_line (map (warning_text (l.files ++ l.area)) (warnings_in (rows_in l.nums l.rows))))) (l.out ▸ l.o) l.i
-
-abbrev pub decreases-loop-i : goal.decreases-loop-i
-decreases-loop-i l = l.rows - l.i
+invariant-loop-i l = SameRoom l.initial.to l.to × Lines (l.files ++ l.area) l.nums l.rows (emit (shown l.initial.to) (each warning_line (map (warning_text (l.files ++ l.area)) (warnings_in (rows_in l.nums l.rows))))) (shown l.to) l.i

@@ -3,8 +3,8 @@ use lib.ListN.{length}
 use Rattle.scope.proofs.Turns.{Along}
 use Rattle.scope.proofs.module_along.Given as goal
 
-abbrev pub invariant-loop-a : goal.invariant-loop-a
-invariant-loop-a l = Along l.job l.index l.count l.k l.over l.at l.row l.i
+abbrev pub invariant-loop-part : goal.invariant-loop-part
+invariant-loop-part l = Along l.job l.index l.count l.k l.over l.at l.row l.i
 
-abbrev pub decreases-loop-a : goal.decreases-loop-a
-decreases-loop-a l = length l.over - l.i
+abbrev pub decreases-loop-part : goal.decreases-loop-part
+decreases-loop-part l = length l.over - l.i

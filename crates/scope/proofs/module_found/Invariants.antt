@@ -2,8 +2,5 @@ use Prim.Native.Nat.{◌-◌}
 use Rattle.scope.proofs.Turns.{Way}
 use Rattle.scope.proofs.module_found.Given as goal
 
-abbrev pub invariant-loop-i : goal.invariant-loop-i
-invariant-loop-i l = Way l.job l.index l.count l.k l.f l.row l.i
-
-abbrev pub decreases-loop-i : goal.decreases-loop-i
-decreases-loop-i l = 33 - l.i
+abbrev pub invariant-loop-name : goal.invariant-loop-name
+invariant-loop-name l = Way l.job l.index l.count l.k l.names l.row l.name-index

@@ -1,35 +1,27 @@
-use Rattle.search.proofs.Turns.{starts, ends, turns, founds, overs, belows}
+use Rattle.std.proofs.Common.{refl}
+use Rattle.search.proofs.Turns.{left_below, left_end, left_found, left_on, left_over, left_unlisted, starts}
 use Rattle.search.proofs.+search_from.Goals as goal
-
-pub returns-then-calls-eq4096 : goal.returns-then-calls-eq4096
-returns-then-calls-eq4096 t c = search starts
 
 pub returns-then-left-eq0 : goal.returns-then-left-eq0
 returns-then-left-eq0 t c = search starts
 
-pub loop-name-init : goal.loop-name-init
-loop-name-init t c = search starts
-
-pub returns-in_default : goal.returns-in_default
-returns-in_default t c = search ends
+pub loop-inst-init : goal.loop-inst-init
+loop-inst-init t c = search starts
 
 pub returns-then-same : goal.returns-then-same
-returns-then-same t c = search founds
+returns-then-same t c = left_found _ _ _ _ _ _ _ _ _ _ c.loop-inst.invariant _ c.in-Some.ensures _ c.part_of-t.ensures _ c.same.ensures c.if-same.true _ refl _ c.found_at.ensures
 
-pub loop-name-smaller-then-row-eq0 : goal.loop-name-smaller-then-row-eq0
-loop-name-smaller-then-row-eq0 t c = search turns
+pub loop-inst-preserved-then-row-eq0 : goal.loop-inst-preserved-then-row-eq0
+loop-inst-preserved-then-row-eq0 t c = left_unlisted _ _ _ _ _ _ _ _ _ _ c.loop-inst.invariant _ c.in-Some.ensures _ c.part_of-t.ensures _ c.same.ensures c.if-same.false _ c.module_named-row.ensures c.if-row-eq0.true
 
-pub loop-name-preserved-then-row-eq0 : goal.loop-name-preserved-then-row-eq0
-loop-name-preserved-then-row-eq0 t c = search turns
+pub returns-then-f : goal.returns-then-f
+returns-then-f t c = left_over _ _ _ _ _ _ _ _ _ _ c.loop-inst.invariant _ c.in-Some.ensures _ c.part_of-t.ensures _ c.same.ensures c.if-same.false _ c.module_named-row.ensures c.if-row-eq0.false _ c.search_from-f.ensures c.if-f.true
 
-pub returns-then-over : goal.returns-then-over
-returns-then-over t c = search overs
+pub returns-then-f-2 : goal.returns-then-f-2
+returns-then-f-2 t c = left_below _ _ _ _ _ _ _ _ _ _ c.loop-inst.invariant _ c.in-Some.ensures _ c.part_of-t.ensures _ c.same.ensures c.if-same.false _ c.module_named-row.ensures c.if-row-eq0.false _ c.search_from-f.ensures c.if-f.false c.if-f-2.true _ refl _ c.below.ensures
 
-pub returns-then-found : goal.returns-then-found
-returns-then-found t c = search belows
+pub loop-inst-preserved : goal.loop-inst-preserved
+loop-inst-preserved t c = left_on _ _ _ _ _ _ _ _ _ _ c.loop-inst.invariant _ c.in-Some.ensures _ c.part_of-t.ensures _ c.same.ensures c.if-same.false _ c.module_named-row.ensures c.if-row-eq0.false _ c.search_from-f.ensures c.if-f.false c.if-f-2.false
 
-pub loop-name-smaller : goal.loop-name-smaller
-loop-name-smaller t c = search turns
-
-pub loop-name-preserved : goal.loop-name-preserved
-loop-name-preserved t c = search turns
+pub returns : goal.returns
+returns t c = left_end _ _ _ _ _ _ _ _ _ _ c.loop-inst.invariant c.in_default.ensures _ c.nothing-2.ensures

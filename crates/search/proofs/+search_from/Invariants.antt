@@ -5,8 +5,8 @@ use Rattle.search.proofs.+search_from.Given as goal
 abbrev pub decreases-search_from : goal.decreases-search_from
 decreases-search_from l = l.left
 
-abbrev pub invariant-loop-name : goal.invariant-loop-name
-invariant-loop-name l = Left l.job l.index l.count l.kind l.k l.left l.calls l.made l.at l.end
+abbrev pub invariant-loop-inst : goal.invariant-loop-inst
+invariant-loop-inst l = Left l.job l.index l.count l.kind l.k l.left l.calls l.made l.at l.end
 
-abbrev pub decreases-loop-name : goal.decreases-loop-name
-decreases-loop-name l = l.end - l.at
+abbrev pub decreases-loop-inst : goal.decreases-loop-inst
+decreases-loop-inst l = l.end - l.at

@@ -2,8 +2,8 @@
 use Rattle.strategies.proofs.Turns.{givens}
 use Rattle.strategies.proofs.given.Goals as goal
 
-pub returns-in-Not : goal.returns-in-Not
-returns-in-Not c = search givens
+pub returns-in-None : goal.returns-in-None
+returns-in-None c = search givens
 
-pub returns-in-Given : goal.returns-in-Given
-returns-in-Given c = search givens
+pub returns-in-Some : goal.returns-in-Some
+returns-in-Some c = search givens

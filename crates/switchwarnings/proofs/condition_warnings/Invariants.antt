@@ -11,8 +11,8 @@ use Rattle.conditions.specs.Controls.{scope_setting}
 use Rattle.switchwarnings.proofs.Words.{Warns}
 use Rattle.switchwarnings.proofs.condition_warnings.Given as goal
 
-abbrev pub invariant-loop-o : goal.invariant-loop-o
-invariant-loop-o l = (length l.out ≡ length l.initial.out) × Warns (scope_setting (parts l.over l.from)) (controls_of (table_names (l.files ++ l.area) l.controls l.count)) (l.files ++ l.area) l.initial.x (l.initial.out ▸ l.initial.o.at) l.initial.o.count (l.out ▸ l.o.at) l.o.count l.x
+abbrev pub invariant-loop-b : goal.invariant-loop-b
+invariant-loop-b l = (length l.out ≡ length l.initial.out) × Warns (scope_setting (parts l.over l.from)) (controls_of (table_names (l.files ++ l.area) l.controls l.count)) (l.files ++ l.area) l.initial.x (l.initial.out ▸ l.initial.o.at) l.initial.o.count (l.out ▸ l.o.at) l.o.count l.x
 
-abbrev pub decreases-loop-o : goal.decreases-loop-o
-decreases-loop-o l = length (name_of (l.files ++ l.area) l.x)
+abbrev pub decreases-loop-b : goal.decreases-loop-b
+decreases-loop-b l = length (name_of (l.files ++ l.area) l.x)

@@ -16,6 +16,3 @@ use Rattle.switchwarnings.proofs.ons_warnings.Given as goal
 
 abbrev pub invariant-loop-k : goal.invariant-loop-k
 invariant-loop-k l = (length l.out ≡ length l.initial.out) × ((l.k ≤ l.n) × OnsTold (on_remarks (scope_setting (parts l.over l.from)) (string (l.files ++ l.area) l.w.name) (nth 0 (list (string (l.files ++ l.area) l.w.input))) (controls_of (table_names (l.files ++ l.area) l.controls l.count))) (l.files ++ l.area) l.nums l.first l.n (l.initial.out ▸ l.initial.o.at) l.initial.o.count (l.out ▸ l.o.at) l.o.count l.k)
-
-abbrev pub decreases-loop-k : goal.decreases-loop-k
-decreases-loop-k l = l.n - l.k

@@ -10,7 +10,4 @@ use Rattle.switchwarnings.proofs.States.{AllTold}
 use Rattle.switchwarnings.proofs.switch_warnings.Given as goal
 
 abbrev pub invariant-loop-i : goal.invariant-loop-i
-invariant-loop-i l = (length l.out ≡ length l.initial.out) × ((l.i ≤ l.m) × AllTold (scope_setting (parts l.over l.from)) (l.files ++ l.area) l.nums l.t (l.initial.out ▸ l.initial.o.at) l.initial.o.count (l.out ▸ l.o.at) l.o.count l.i)
-
-abbrev pub decreases-loop-i : goal.decreases-loop-i
-decreases-loop-i l = l.m - l.i
+invariant-loop-i l = (length l.out ≡ length l.initial.out) × ((l.i ≤ l.t.n) × AllTold (scope_setting (parts l.over l.from)) (l.files ++ l.area) l.nums l.t (l.initial.out ▸ l.initial.o.at) l.initial.o.count (l.out ▸ l.o.at) l.o.count l.i)

@@ -9,14 +9,14 @@ loop-i-init c = (refl, (search rules, search joins_start))
 pub row_at-r-requires : goal.row_at-r-requires
 row_at-r-requires c = search row_few
 
-pub put_state-o-requires : goal.put_state-o-requires
-put_state-o-requires c = search joins_state
-
-pub loop-i-preserved-then-is_state : goal.loop-i-preserved-then-is_state
-loop-i-preserved-then-is_state c = (search rules, (search rules, search joins_next))
+pub put_state-requires : goal.put_state-requires
+put_state-requires c = search joins_state
 
 pub loop-i-preserved : goal.loop-i-preserved
-loop-i-preserved c = (search rules, (search rules, search joins_other))
+loop-i-preserved c = (search rules, (search rules, search joins_next))
+
+pub loop-i-preserved-then-not-is_state : goal.loop-i-preserved-then-not-is_state
+loop-i-preserved-then-not-is_state c = (search rules, (search rules, search joins_other))
 
 pub returns : goal.returns
 returns c = search joins_done

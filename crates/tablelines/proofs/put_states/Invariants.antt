@@ -3,7 +3,8 @@ use Prim.Native.Nat.{◌≤◌, ◌-◌}
 use mathlib.Core.Path.{◌≡◌}
 use mathlib.Core.List.{◌++◌, map, flat_map}
 use lib.ListN.{length}
-use Rattle.out.specs.Emit.{emit, ◌▸◌}
+use Rattle.out.specs.Emit.{emit}
+use Rattle.out.specs.Text.{shown, SameRoom}
 use Rattle.out.specs.Items.{joined}
 use Rattle.texts.specs.Texts.{table_state}
 use Rattle.store.specs.View.{states_of}
@@ -12,8 +13,5 @@ use Rattle.tablelines.proofs.States.{Joins}
 use Rattle.tablelines.proofs.put_states.Given as goal
 
 abbrev pub invariant-loop-i : goal.invariant-loop-i
-invariant-loop-i l = (length l.out ≡ length l.initial.out)
-    × ((l.n ≤ l.i) × Joins l.sep (l.files ++ l.area) l.nums l.rows l.k (emit (l.initial.out ▸ l.at) (joined l.sep (map table_state (flat_map (states_of (l.files ++ l.area) l.k) (rows_in l.nums l.rows))))) (l.out ▸ l.o) l.n l.i)
-
-abbrev pub decreases-loop-i : goal.decreases-loop-i
-decreases-loop-i l = l.rows - l.i
+invariant-loop-i l = SameRoom l.initial.to l.to
+    × ((l.n ≤ l.i) × Joins l.sep (l.files ++ l.area) l.nums l.rows l.k (emit (shown l.initial.to) (joined l.sep (map table_state (flat_map (states_of (l.files ++ l.area) l.k) (rows_in l.nums l.rows))))) (shown l.to) l.n l.i)

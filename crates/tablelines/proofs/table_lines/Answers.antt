@@ -9,8 +9,8 @@ loop-i-init c = (refl, search lines_start)
 pub bounds-t-i : goal.bounds-t-i
 bounds-t-i c = search indices
 
-pub table_line-o-requires : goal.table_line-o-requires
-table_line-o-requires c = search lines_table
+pub table_line-requires : goal.table_line-requires
+table_line-requires c = search lines_table
 
 pub loop-i-preserved : goal.loop-i-preserved
 loop-i-preserved c = (search rules, search lines_next)

@@ -3,7 +3,8 @@ use Prim.Native.Nat.{◌-◌}
 use mathlib.Core.Path.{◌≡◌}
 use mathlib.Core.List.{◌++◌}
 use lib.ListN.{length, take}
-use Rattle.out.specs.Emit.{emit, ◌▸◌}
+use Rattle.out.specs.Emit.{emit}
+use Rattle.out.specs.Text.{shown, SameRoom}
 use Rattle.out.specs.Items.{each}
 use Rattle.texts.specs.Texts.{table_line}
 use Rattle.store.specs.View.{table_of, numbered}
@@ -12,7 +13,4 @@ use Rattle.tablelines.proofs.Lines.{Lines}
 use Rattle.tablelines.proofs.table_lines.Given as goal
 
 abbrev pub invariant-loop-i : goal.invariant-loop-i
-invariant-loop-i l = (length l.out ≡ length l.initial.out) × Lines (l.files ++ l.area) l.nums l.rows l.t (emit (l.initial.out ▸ l.at) (each table_line (numbered (table_of (l.files ++ l.area) (rows_in l.nums l.rows)) 0 (take l.t.n l.t.all)))) (l.out ▸ l.o) l.i
-
-abbrev pub decreases-loop-i : goal.decreases-loop-i
-decreases-loop-i l = l.m - l.i
+invariant-loop-i l = SameRoom l.initial.to l.to × Lines (l.files ++ l.area) l.nums l.rows l.t (emit (shown l.initial.to) (each table_line (numbered (table_of (l.files ++ l.area) (rows_in l.nums l.rows)) 0 (take l.t.n l.t.all)))) (shown l.to) l.i

@@ -5,8 +5,8 @@ use Rattle.refs.specs.Text.{text_of}
 use Rattle.targets.proofs.Turns.{Seeks}
 use Rattle.targets.proofs.find_by.Given as goal
 
-abbrev pub invariant-loop-kind : goal.invariant-loop-kind
-invariant-loop-kind l = Seeks l.job l.index l.count l.initial.m (text_of l.job (l.files ++ l.area) l.initial.x) l.m (text_of l.job (l.files ++ l.area) l.x) l.upto l.memo
+abbrev pub invariant-loop-d : goal.invariant-loop-d
+invariant-loop-d l = Seeks l.job l.index l.count l.initial.m (text_of l.job (l.files ++ l.area) l.initial.x) l.m (text_of l.job (l.files ++ l.area) l.x) l.upto l.memo
 
-abbrev pub decreases-loop-kind : goal.decreases-loop-kind
-decreases-loop-kind l = length (text_of l.job (l.files ++ l.area) l.x)
+abbrev pub decreases-loop-d : goal.decreases-loop-d
+decreases-loop-d l = length (text_of l.job (l.files ++ l.area) l.x)

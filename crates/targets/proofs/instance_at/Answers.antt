@@ -1,47 +1,15 @@
-use Rattle.targets.proofs.Turns.{downs}
+use Rattle.std.proofs.Common.{refl}
+use Rattle.targets.proofs.Turns.{down_last, down_more, down_none, down_other}
 use Rattle.targets.proofs.instance_at.Goals as goal
 
-pub insts_end-end-requires : goal.insts_end-end-requires
-insts_end-end-requires c = search downs
-
-pub loop-name-init : goal.loop-name-init
-loop-name-init c = search downs
-
-pub next_inst-x-requires : goal.next_inst-x-requires
-next_inst-x-requires c = search downs
-
-pub enum_known-x : goal.enum_known-x
-enum_known-x c = search downs
-
-pub enum_told-1 : goal.enum_told-1
-enum_told-1 c = search downs
-
-pub returns-in_default : goal.returns-in_default
-returns-in_default c = search downs
-
-pub part_of-w-requires : goal.part_of-w-requires
-part_of-w-requires c = search downs
-
-pub first_part-requires : goal.first_part-requires
-first_part-requires c = search downs
-
-pub enum_told-in-Last : goal.enum_told-in-Last
-enum_told-in-Last c = search downs
-
 pub returns-in-Last : goal.returns-in-Last
-returns-in-Last c = search downs
-
-pub enum_known-rest : goal.enum_known-rest
-enum_known-rest c = search downs
+returns-in-Last c = down_last _ _ _ _ _ _ c.insts_end-end.ensures _ c.loop-inst.invariant _ c.in-Some.ensures _ c.part_of-w.ensures _ c.first_part.ensures c.in-Last.is
 
 pub returns-in-More : goal.returns-in-More
-returns-in-More c = search downs
+returns-in-More c = down_more _ _ _ _ _ _ c.insts_end-end.ensures _ c.loop-inst.invariant _ c.in-Some.ensures _ c.part_of-w.ensures _ c.first_part.ensures _ _ refl c.in-More.is
 
-pub enum_told-in-Other : goal.enum_told-in-Other
-enum_told-in-Other c = search downs
+pub loop-inst-preserved : goal.loop-inst-preserved
+loop-inst-preserved c = down_other _ _ _ _ _ _ c.insts_end-end.ensures _ c.loop-inst.invariant _ c.in-Some.ensures _ c.part_of-w.ensures _ c.first_part.ensures c.in-Other.is
 
-pub loop-name-smaller : goal.loop-name-smaller
-loop-name-smaller c = search downs
-
-pub loop-name-preserved : goal.loop-name-preserved
-loop-name-preserved c = search downs
+pub returns : goal.returns
+returns c = down_none _ _ _ _ _ _ c.insts_end-end.ensures _ c.loop-inst.invariant c.in_default.ensures

@@ -1,32 +1,17 @@
-use Rattle.targets.proofs.Slashes.{slashes}
+use Rattle.targets.proofs.Slashes.{scan_end, scan_fits, scan_slash, scan_start, scan_step}
 use Rattle.targets.proofs.last_slash.Goals as goal
 
-pub loop-s-init : goal.loop-s-init
-loop-s-init c = search slashes
+pub loop-b-init : goal.loop-b-init
+loop-b-init c = scan_start _ _ _ c.requires
 
-pub next-requires : goal.next-requires
-next-requires c = search slashes
+pub loop-b-preserved-then-b-eq47 : goal.loop-b-preserved-then-b-eq47
+loop-b-preserved-then-b-eq47 c = scan_slash _ _ _ _ _ _ c.loop-b.invariant _ _ c.in-Some.ensures c.if-b-eq47.true
 
-pub enum_told-1 : goal.enum_told-1
-enum_told-1 c = search slashes
+pub loop-b-preserved : goal.loop-b-preserved
+loop-b-preserved c = scan_step _ _ _ _ _ _ c.loop-b.invariant _ _ c.in-Some.ensures c.if-b-eq47.false
 
-pub returns-in-End : goal.returns-in-End
-returns-in-End c = search slashes
-
-pub enum_known-b : goal.enum_known-b
-enum_known-b c = search slashes
+pub returns : goal.returns
+returns c = scan_end _ _ _ _ _ _ c.loop-b.invariant c.in_default.ensures
 
 pub overflow_add-n : goal.overflow_add-n
-overflow_add-n c = search slashes
-
-pub loop-s-smaller-then-b-eq47 : goal.loop-s-smaller-then-b-eq47
-loop-s-smaller-then-b-eq47 c = search slashes
-
-pub loop-s-preserved-then-b-eq47 : goal.loop-s-preserved-then-b-eq47
-loop-s-preserved-then-b-eq47 c = search slashes
-
-pub loop-s-smaller : goal.loop-s-smaller
-loop-s-smaller c = search slashes
-
-pub loop-s-preserved : goal.loop-s-preserved
-loop-s-preserved c = search slashes
+overflow_add-n c = record { fits = scan_fits _ _ _ _ _ _ c.loop-b.invariant _ _ c.in-Some.ensures }

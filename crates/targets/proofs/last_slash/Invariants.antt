@@ -5,8 +5,8 @@ use Rattle.names.specs.Name.{name_of}
 use Rattle.targets.proofs.Slashes.{Scans}
 use Rattle.targets.proofs.last_slash.Given as goal
 
-abbrev pub invariant-loop-s : goal.invariant-loop-s
-invariant-loop-s l = Scans l.files l.area l.initial.x l.s l.x l.n
+abbrev pub invariant-loop-b : goal.invariant-loop-b
+invariant-loop-b l = Scans l.files l.area l.initial.x l.s l.x l.n
 
-abbrev pub decreases-loop-s : goal.decreases-loop-s
-decreases-loop-s l = length (name_of (l.files ++ l.area) l.x)
+abbrev pub decreases-loop-b : goal.decreases-loop-b
+decreases-loop-b l = length (name_of (l.files ++ l.area) l.x)

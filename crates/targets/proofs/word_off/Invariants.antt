@@ -5,8 +5,5 @@ use lib.ListN.{length}
 use Rattle.targets.proofs.Off.{Goes}
 use Rattle.targets.proofs.word_off.Given as goal
 
-abbrev pub invariant-loop-i : goal.invariant-loop-i
-invariant-loop-i l = Goes (l.files ++ l.area) l.initial.x l.w l.x l.i
-
-abbrev pub decreases-loop-i : goal.decreases-loop-i
-decreases-loop-i l = length l.w - l.i
+abbrev pub invariant-loop-own : goal.invariant-loop-own
+invariant-loop-own l = Goes (l.files ++ l.area) l.initial.x l.w l.x l.own-index

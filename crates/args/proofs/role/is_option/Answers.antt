@@ -8,8 +8,8 @@ returns-in_default c = search optionals
 pub returns-then-a-ne45 : goal.returns-then-a-ne45
 returns-then-a-ne45 c = search optionals
 
-pub returns-in-No : goal.returns-in-No
-returns-in-No c = search optionals
+pub returns-in_default-first : goal.returns-in_default-first
+returns-in_default-first c = search optionals
 
-pub returns-in-Yes-first : goal.returns-in-Yes-first
-returns-in-Yes-first c = search optionals
+pub returns : goal.returns
+returns c = search optionals

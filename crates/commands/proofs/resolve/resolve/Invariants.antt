@@ -1,5 +1,4 @@
 -- `commands::resolve::resolve` meets its contract. What the words come to that are resolved and those that are left is what all come to. Assumes nothing.
-use Prim.Native.Nat.{◌-◌}
 use mathlib.Core.List.{◌++◌}
 use lib.ListN.{take}
 use Rattle.commands.proofs.Resolving.{Resolving, Room}
@@ -8,6 +7,3 @@ use Rattle.commands.proofs.resolve.resolve.Given as goal
 
 abbrev pub invariant-loop-k : goal.invariant-loop-k
 invariant-loop-k l = Room l.files l.initial.area l.initial.words l.limit l.n l.o × Resolving l.files l.text (variables (l.files ++ take l.at l.initial.area) l.vars l.nv) l.initial.area l.area l.initial.words l.words l.at l.n l.k l.o
-
-abbrev pub decreases-loop-k : goal.decreases-loop-k
-decreases-loop-k l = l.n - l.k

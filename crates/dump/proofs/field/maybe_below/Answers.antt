@@ -2,8 +2,8 @@
 use Rattle.dump.proofs.Fielding.{fields}
 use Rattle.dump.proofs.field.maybe_below.Goals as goal
 
-pub returns-in-Not : goal.returns-in-Not
-returns-in-Not c = search fields
+pub returns-in-None : goal.returns-in-None
+returns-in-None c = search fields
 
-pub returns-in-Given : goal.returns-in-Given
-returns-in-Given c = search fields
+pub returns-in-Some : goal.returns-in-Some
+returns-in-Some c = search fields

@@ -1,14 +1,13 @@
--- `dump::record::table` meets its contract. Assumes nothing.
+use Rattle.std.proofs.Common.{◌∙◌}
 use Rattle.dump.specs.Records.{table_text}
-use Rattle.out.specs.Emit.{wrote, ◌then◌, kept}
+use Rattle.out.specs.Emit.{wrote, ◌then◌}
 use Rattle.dump.proofs.record.table.Goals as goal
 
 pub returns : goal.returns
 unfolding table_text
-returns c =
-    (wrote c.stored-o1.ensures then
-    wrote c.stored-o2.ensures then
-    wrote c.stored.ensures).is
-
-pub shape_of-out : goal.shape_of-out
-shape_of-out c = kept (wrote (returns c))
+returns c = (
+  c.stored-3.ensures.0 ∙ c.stored-2.ensures.0 ∙ c.stored.ensures.0,
+  (wrote c.stored.ensures.1 then
+      wrote c.stored-2.ensures.1 then
+      wrote c.stored-3.ensures.1).is,
+)

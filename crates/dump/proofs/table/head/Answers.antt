@@ -1,14 +1,13 @@
--- `dump::table::head` meets its contract. Assumes nothing.
+use Rattle.std.proofs.Common.{◌∙◌}
 use Rattle.dump.specs.Tables.{head_text}
-use Rattle.out.specs.Emit.{wrote, ◌then◌, kept}
+use Rattle.out.specs.Emit.{wrote, ◌then◌}
 use Rattle.dump.proofs.table.head.Goals as goal
 
 pub returns : goal.returns
 unfolding head_text
-returns c =
-    (wrote c.maybe-o1.ensures then
-    wrote c.stored-o2.ensures then
-    wrote c.number.ensures).is
-
-pub shape_of-out : goal.shape_of-out
-shape_of-out c = kept (wrote (returns c))
+returns c = (
+  c.number.ensures.0 ∙ c.stored.ensures.0 ∙ c.maybe.ensures.0,
+  (wrote c.maybe.ensures.1 then
+      wrote c.stored.ensures.1 then
+      wrote c.number.ensures.1).is,
+)

@@ -4,8 +4,8 @@ use Rattle.entries.specs.Entry.{entries_left}
 use Rattle.entries.proofs.Items.{Counts}
 use Rattle.entries.proofs.item.count.Given as goal
 
-abbrev pub invariant-loop-e : goal.invariant-loop-e
-invariant-loop-e l = Counts l.v l.n l.at l.f
+abbrev pub invariant-loop-item : goal.invariant-loop-item
+invariant-loop-item l = Counts l.v l.n l.at l.f
 
-abbrev pub decreases-loop-e : goal.decreases-loop-e
-decreases-loop-e l = length (entries_left l.f (drop l.at l.v))
+abbrev pub decreases-loop-item : goal.decreases-loop-item
+decreases-loop-item l = length (entries_left l.f (drop l.at l.v))

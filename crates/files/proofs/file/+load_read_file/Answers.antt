@@ -8,7 +8,8 @@ use Rattle.deeds.specs.Dones.{variable_fits, variable_done, top_done, domain_fit
 use native.Mathlib.Omega.{arith}
 use Prim.Native.Nat.{ℕ}
 use borrow.Author.Rules.{rules}
-use mathlib.Core.Path.{refl}
+use mathlib.Core.Path.{refl, ap, ◌∙◌}
+use Rattle.std.specs.Prelude.{Ok}
 use Rattle.loads.specs.Behind.{asked_by}
 use Rattle.files.proofs.file.+load_read_file.Goals as goal
 use Rattle.files.proofs.file.+load_read_file.Goals.{read_file-After-warnings_with-warnings}
@@ -53,180 +54,180 @@ load-returns t c =
     let b = c.before_load-b in
     behind c.args.job.now c.args.files.now c.args.area.now c.args.nums.now c.args.words.now c.args.count c.args.n c.args.k c.args.left c.args.s h c.if-s-gt1024.false _ _ _ (b.ensures _ (load_asks c.args.job.now c.args.files.now c.args.area.now c.args.nums.now c.args.words.now c.args.count c.args.n c.args.k c.args.left c.args.s h c.if-s-gt1024.false) refl) c.if-w-ne0.false _ _ _ _ _ (placed_reads c.args.s _ b.result.went c.in_scope-u.ensures _ _ _ _ _ _ _ _ _ _ _ _ c.read_file-r.ensures) c.if-r-ne0.false _ (head_back_lem c.args.s c.read_file-r.result.state _ c.back-u.ensures)
 
-pub read_file-loop-v-init : goal.read_file-loop-v-init
-read_file-loop-v-init t c =
+pub read_file-loop-n-init : goal.read_file-loop-n-init
+read_file-loop-n-init t c =
     let b = c.place-base in let z = c.place-len in
     going_start c.args.job.now c.args.files.now c.args.area.now c.args.nums.now c.args.log.now c.args.count c.args.k c.args.left c.args.s b.result z.result c.requires b.ensures z.ensures _ refl
 
 pub read_file-next_command-requires : goal.read_file-next_command-requires
 read_file-next_command-requires t c =
-    let l = c.loop-v in let b = c.place-base in let z = c.place-len in
+    let l = c.loop-n in let b = c.place-base in let z = c.place-len in
     next_asks c.args.job.now c.args.files.now c.args.area.now c.args.nums.now c.args.log.now c.args.count c.args.k c.args.left c.args.s b.result z.result c.requires b.ensures z.ensures l.area l.nums l.log l.words l.at l.u l.invariant
 
-pub read_file-returns-in-None : goal.read_file-returns-in-None
-read_file-returns-in-None t c =
-    let h = c.requires in let l = c.loop-v in let b = c.place-base in let z = c.place-len in let d = c.next_command in
-    turn_none c.args.job.now c.args.files.now c.args.area.now c.args.nums.now c.args.log.now c.args.count c.args.k c.args.left c.args.s b.result z.result h b.ensures z.ensures l.area l.nums l.log l.words l.at l.u l.invariant _ _ d.result d.ensures c.in-None.is
+pub read_file-returns-in-Ok-None : goal.read_file-returns-in-Ok-None
+read_file-returns-in-Ok-None t c =
+    let h = c.requires in let l = c.loop-n in let b = c.place-base in let z = c.place-len in let d = c.next_command in
+    turn_none c.args.job.now c.args.files.now c.args.area.now c.args.nums.now c.args.log.now c.args.count c.args.k c.args.left c.args.s b.result z.result h b.ensures z.ensures l.area l.nums l.log l.words l.at l.u l.invariant _ _ d.result d.ensures (c.in-Ok-None.is ∙ ap Ok c.in-Ok-None.field-0-is)
 
-pub read_file-returns-in-Full : goal.read_file-returns-in-Full
-read_file-returns-in-Full t c =
-    let h = c.requires in let l = c.loop-v in let b = c.place-base in let z = c.place-len in let d = c.next_command in
-    turn_full c.args.job.now c.args.files.now c.args.area.now c.args.nums.now c.args.log.now c.args.count c.args.k c.args.left c.args.s b.result z.result h b.ensures z.ensures l.area l.nums l.log l.words l.at l.u l.invariant _ _ d.result d.ensures c.in-Full.is _ c.begun-v.ensures
+pub read_file-returns-in-Err : goal.read_file-returns-in-Err
+read_file-returns-in-Err t c =
+    let h = c.requires in let l = c.loop-n in let b = c.place-base in let z = c.place-len in let d = c.next_command in
+    turn_full c.args.job.now c.args.files.now c.args.area.now c.args.nums.now c.args.log.now c.args.count c.args.k c.args.left c.args.s b.result z.result h b.ensures z.ensures l.area l.nums l.log l.words l.at l.u l.invariant _ _ d.result d.ensures c.in-Err.is _ c.begun-v.ensures
 
 pub read_file-overflow_add-commands : goal.read_file-overflow_add-commands
 read_file-overflow_add-commands t c =
-    let h = c.requires in let l = c.loop-v in let b = c.place-base in let z = c.place-len in let d = c.next_command in
-    omega (arith, (begun_asks c.args.job.now c.args.files.now c.args.area.now c.args.nums.now c.args.log.now c.args.count c.args.k c.args.left c.args.s b.result z.result h b.ensures z.ensures l.area l.nums l.log l.words l.at l.u l.invariant _ _ d.result d.ensures _ _ _ c.in-Words.is).0)
+    let h = c.requires in let l = c.loop-n in let b = c.place-base in let z = c.place-len in let d = c.next_command in
+    omega (arith, (begun_asks c.args.job.now c.args.files.now c.args.area.now c.args.nums.now c.args.log.now c.args.count c.args.k c.args.left c.args.s b.result z.result h b.ensures z.ensures l.area l.nums l.log l.words l.at l.u l.invariant _ _ d.result d.ensures _ _ _ (c.in-Ok-Some.is ∙ ap Ok c.in-Ok-Some.field-0-is)).0)
 
 pub read_file-overflow_sub-substituted : goal.read_file-overflow_sub-substituted
 read_file-overflow_sub-substituted t c =
-    let h = c.requires in let l = c.loop-v in let b = c.place-base in let z = c.place-len in let d = c.next_command in
-    (begun_asks c.args.job.now c.args.files.now c.args.area.now c.args.nums.now c.args.log.now c.args.count c.args.k c.args.left c.args.s b.result z.result h b.ensures z.ensures l.area l.nums l.log l.words l.at l.u l.invariant _ _ d.result d.ensures _ _ _ c.in-Words.is).1.0
+    let h = c.requires in let l = c.loop-n in let b = c.place-base in let z = c.place-len in let d = c.next_command in
+    (begun_asks c.args.job.now c.args.files.now c.args.area.now c.args.nums.now c.args.log.now c.args.count c.args.k c.args.left c.args.s b.result z.result h b.ensures z.ensures l.area l.nums l.log l.words l.at l.u l.invariant _ _ d.result d.ensures _ _ _ (c.in-Ok-Some.is ∙ ap Ok c.in-Ok-Some.field-0-is)).1.0
 
 pub read_file-overflow_add-substituted : goal.read_file-overflow_add-substituted
 read_file-overflow_add-substituted t c =
-    let h = c.requires in let l = c.loop-v in let b = c.place-base in let z = c.place-len in let d = c.next_command in
-    omega (arith, (begun_asks c.args.job.now c.args.files.now c.args.area.now c.args.nums.now c.args.log.now c.args.count c.args.k c.args.left c.args.s b.result z.result h b.ensures z.ensures l.area l.nums l.log l.words l.at l.u l.invariant _ _ d.result d.ensures _ _ _ c.in-Words.is).1.1)
+    let h = c.requires in let l = c.loop-n in let b = c.place-base in let z = c.place-len in let d = c.next_command in
+    omega (arith, (begun_asks c.args.job.now c.args.files.now c.args.area.now c.args.nums.now c.args.log.now c.args.count c.args.k c.args.left c.args.s b.result z.result h b.ensures z.ensures l.area l.nums l.log l.words l.at l.u l.invariant _ _ d.result d.ensures _ _ _ (c.in-Ok-Some.is ∙ ap Ok c.in-Ok-Some.field-0-is)).1.1)
 
 pub read_file-slice_bounds-number-end : goal.read_file-slice_bounds-number-end
 read_file-slice_bounds-number-end t c =
-    let h = c.requires in let l = c.loop-v in let b = c.place-base in let z = c.place-len in let d = c.next_command in
-    end_in_lem c.args.job.now c.args.files.now _ l.nums _ c.args.count _ c.args.k c.args.left _ (turn_doing c.args.job.now c.args.files.now c.args.area.now c.args.nums.now c.args.log.now c.args.count c.args.k c.args.left c.args.s b.result z.result h b.ensures z.ensures l.area l.nums l.log l.words l.at l.u l.invariant _ _ d.result d.ensures _ _ _ c.in-Words.is d.auto.area _ refl)
+    let h = c.requires in let l = c.loop-n in let b = c.place-base in let z = c.place-len in let d = c.next_command in
+    end_in_lem c.args.job.now c.args.files.now _ l.nums _ c.args.count _ c.args.k c.args.left _ (turn_doing c.args.job.now c.args.files.now c.args.area.now c.args.nums.now c.args.log.now c.args.count c.args.k c.args.left c.args.s b.result z.result h b.ensures z.ensures l.area l.nums l.log l.words l.at l.u l.invariant _ _ d.result d.ensures _ _ _ (c.in-Ok-Some.is ∙ ap Ok c.in-Ok-Some.field-0-is) d.auto.area _ refl)
 
-pub read_file-slice_bounds-number-end-in-Words : goal.read_file-slice_bounds-number-end-in-Words
-read_file-slice_bounds-number-end-in-Words t c =
-    let h = c.requires in let l = c.loop-v in let b = c.place-base in let z = c.place-len in let d = c.next_command in
-    front_long c.args.job.now c.args.files.now _ l.nums _ c.args.count _ c.args.k c.args.left _ (turn_doing c.args.job.now c.args.files.now c.args.area.now c.args.nums.now c.args.log.now c.args.count c.args.k c.args.left c.args.s b.result z.result h b.ensures z.ensures l.area l.nums l.log l.words l.at l.u l.invariant _ _ d.result d.ensures _ _ _ c.in-Words.is d.auto.area _ refl)
+pub read_file-slice_bounds-number-end-in-Ok-Some : goal.read_file-slice_bounds-number-end-in-Ok-Some
+read_file-slice_bounds-number-end-in-Ok-Some t c =
+    let h = c.requires in let l = c.loop-n in let b = c.place-base in let z = c.place-len in let d = c.next_command in
+    front_long c.args.job.now c.args.files.now _ l.nums _ c.args.count _ c.args.k c.args.left _ (turn_doing c.args.job.now c.args.files.now c.args.area.now c.args.nums.now c.args.log.now c.args.count c.args.k c.args.left c.args.s b.result z.result h b.ensures z.ensures l.area l.nums l.log l.words l.at l.u l.invariant _ _ d.result d.ensures _ _ _ (c.in-Ok-Some.is ∙ ap Ok c.in-Ok-Some.field-0-is) d.auto.area _ refl)
 
 pub read_file-load-r-requires : goal.read_file-load-r-requires
 read_file-load-r-requires t c =
-    let h = c.requires in let l = c.loop-v in let b = c.place-base in let z = c.place-len in let d = c.next_command in
+    let h = c.requires in let l = c.loop-n in let b = c.place-base in let z = c.place-len in let d = c.next_command in
     let p = c.pair in let m = c.number-c in
-    (omega (arith, c.decreases), (record { doing = (turn_doing c.args.job.now c.args.files.now c.args.area.now c.args.nums.now c.args.log.now c.args.count c.args.k c.args.left c.args.s b.result z.result h b.ensures z.ensures l.area l.nums l.log l.words l.at l.u l.invariant _ _ d.result d.ensures _ _ _ c.in-Words.is d.auto.area _ refl); is = named_at _ _ _ m.result 2 p.ensures m.ensures.is c.if-c-eq2.true }))
+    (omega (arith, c.decreases), (record { doing = (turn_doing c.args.job.now c.args.files.now c.args.area.now c.args.nums.now c.args.log.now c.args.count c.args.k c.args.left c.args.s b.result z.result h b.ensures z.ensures l.area l.nums l.log l.words l.at l.u l.invariant _ _ d.result d.ensures _ _ _ (c.in-Ok-Some.is ∙ ap Ok c.in-Ok-Some.field-0-is) d.auto.area _ refl); is = named_at _ _ _ m.result 2 p.ensures m.ensures.is c.if-c-eq2.true }))
 
 pub read_file-returns-then-r-ne0 : goal.read_file-returns-then-r-ne0
 read_file-returns-then-r-ne0 t c =
-    let h = c.requires in let l = c.loop-v in let b = c.place-base in let z = c.place-len in let d = c.next_command in
-    turn_failed c.args.job.now c.args.files.now c.args.area.now c.args.nums.now c.args.log.now c.args.count c.args.k c.args.left c.args.s b.result z.result h b.ensures z.ensures l.area l.nums l.log l.words l.at l.u l.invariant _ _ d.result d.ensures _ _ _ c.in-Words.is d.auto.area _ refl _ _ _ _ c.load-r.ensures c.if-r-ne0.true
+    let h = c.requires in let l = c.loop-n in let b = c.place-base in let z = c.place-len in let d = c.next_command in
+    turn_failed c.args.job.now c.args.files.now c.args.area.now c.args.nums.now c.args.log.now c.args.count c.args.k c.args.left c.args.s b.result z.result h b.ensures z.ensures l.area l.nums l.log l.words l.at l.u l.invariant _ _ d.result d.ensures _ _ _ (c.in-Ok-Some.is ∙ ap Ok c.in-Ok-Some.field-0-is) d.auto.area _ refl _ _ _ _ c.load-r.ensures c.if-r-ne0.true
 
-pub read_file-loop-v-smaller-then-c-eq2 : goal.read_file-loop-v-smaller-then-c-eq2
-read_file-loop-v-smaller-then-c-eq2 t c =
-    let h = c.requires in let l = c.loop-v in let b = c.place-base in let z = c.place-len in let d = c.next_command in
-    turn_less c.args.job.now c.args.files.now c.args.area.now c.args.nums.now c.args.log.now c.args.count c.args.k c.args.left c.args.s b.result z.result h b.ensures z.ensures l.area l.nums l.log l.words l.at l.u l.invariant _ _ d.result d.ensures _ _ _ c.in-Words.is
+pub read_file-loop-n-smaller-then-c-eq2 : goal.read_file-loop-n-smaller-then-c-eq2
+read_file-loop-n-smaller-then-c-eq2 t c =
+    let h = c.requires in let l = c.loop-n in let b = c.place-base in let z = c.place-len in let d = c.next_command in
+    turn_less c.args.job.now c.args.files.now c.args.area.now c.args.nums.now c.args.log.now c.args.count c.args.k c.args.left c.args.s b.result z.result h b.ensures z.ensures l.area l.nums l.log l.words l.at l.u l.invariant _ _ d.result d.ensures _ _ _ (c.in-Ok-Some.is ∙ ap Ok c.in-Ok-Some.field-0-is)
 
-pub read_file-loop-v-preserved-then-c-eq2 : goal.read_file-loop-v-preserved-then-c-eq2
-read_file-loop-v-preserved-then-c-eq2 t c =
-    let h = c.requires in let l = c.loop-v in let b = c.place-base in let z = c.place-len in let d = c.next_command in
-    turn_again c.args.job.now c.args.files.now c.args.area.now c.args.nums.now c.args.log.now c.args.count c.args.k c.args.left c.args.s b.result z.result h b.ensures z.ensures l.area l.nums l.log l.words l.at l.u l.invariant _ _ d.result d.ensures _ _ _ c.in-Words.is d.auto.area _ refl _ _ _ _ c.load-r.ensures c.if-r-ne0.false d.auto.words c.load-r.auto.area c.load-r.auto.nums c.load-r.auto.log
+pub read_file-loop-n-preserved-then-c-eq2 : goal.read_file-loop-n-preserved-then-c-eq2
+read_file-loop-n-preserved-then-c-eq2 t c =
+    let h = c.requires in let l = c.loop-n in let b = c.place-base in let z = c.place-len in let d = c.next_command in
+    turn_again c.args.job.now c.args.files.now c.args.area.now c.args.nums.now c.args.log.now c.args.count c.args.k c.args.left c.args.s b.result z.result h b.ensures z.ensures l.area l.nums l.log l.words l.at l.u l.invariant _ _ d.result d.ensures _ _ _ (c.in-Ok-Some.is ∙ ap Ok c.in-Ok-Some.field-0-is) d.auto.area _ refl _ _ _ _ c.load-r.ensures c.if-r-ne0.false d.auto.words c.load-r.auto.area c.load-r.auto.nums c.load-r.auto.log
 
 pub read_file-slice_bounds-counted-end : goal.read_file-slice_bounds-counted-end
 read_file-slice_bounds-counted-end t c =
-    let h = c.requires in let l = c.loop-v in let b = c.place-base in let z = c.place-len in let d = c.next_command in
-    end_in_lem c.args.job.now c.args.files.now _ l.nums _ c.args.count _ c.args.k c.args.left _ (turn_doing c.args.job.now c.args.files.now c.args.area.now c.args.nums.now c.args.log.now c.args.count c.args.k c.args.left c.args.s b.result z.result h b.ensures z.ensures l.area l.nums l.log l.words l.at l.u l.invariant _ _ d.result d.ensures _ _ _ c.in-Words.is d.auto.area _ refl)
+    let h = c.requires in let l = c.loop-n in let b = c.place-base in let z = c.place-len in let d = c.next_command in
+    end_in_lem c.args.job.now c.args.files.now _ l.nums _ c.args.count _ c.args.k c.args.left _ (turn_doing c.args.job.now c.args.files.now c.args.area.now c.args.nums.now c.args.log.now c.args.count c.args.k c.args.left c.args.s b.result z.result h b.ensures z.ensures l.area l.nums l.log l.words l.at l.u l.invariant _ _ d.result d.ensures _ _ _ (c.in-Ok-Some.is ∙ ap Ok c.in-Ok-Some.field-0-is) d.auto.area _ refl)
 
-pub read_file-slice_bounds-counted-end-in-Words : goal.read_file-slice_bounds-counted-end-in-Words
-read_file-slice_bounds-counted-end-in-Words t c =
-    let h = c.requires in let l = c.loop-v in let b = c.place-base in let z = c.place-len in let d = c.next_command in
-    front_long c.args.job.now c.args.files.now _ l.nums _ c.args.count _ c.args.k c.args.left _ (turn_doing c.args.job.now c.args.files.now c.args.area.now c.args.nums.now c.args.log.now c.args.count c.args.k c.args.left c.args.s b.result z.result h b.ensures z.ensures l.area l.nums l.log l.words l.at l.u l.invariant _ _ d.result d.ensures _ _ _ c.in-Words.is d.auto.area _ refl)
+pub read_file-slice_bounds-counted-end-in-Ok-Some : goal.read_file-slice_bounds-counted-end-in-Ok-Some
+read_file-slice_bounds-counted-end-in-Ok-Some t c =
+    let h = c.requires in let l = c.loop-n in let b = c.place-base in let z = c.place-len in let d = c.next_command in
+    front_long c.args.job.now c.args.files.now _ l.nums _ c.args.count _ c.args.k c.args.left _ (turn_doing c.args.job.now c.args.files.now c.args.area.now c.args.nums.now c.args.log.now c.args.count c.args.k c.args.left c.args.s b.result z.result h b.ensures z.ensures l.area l.nums l.log l.words l.at l.u l.invariant _ _ d.result d.ensures _ _ _ (c.in-Ok-Some.is ∙ ap Ok c.in-Ok-Some.field-0-is) d.auto.area _ refl)
 
 pub read_file-counted-requires : goal.read_file-counted-requires
 read_file-counted-requires t c =
-    let h = c.requires in let l = c.loop-v in let b = c.place-base in let z = c.place-len in let d = c.next_command in
-    lists c.args.job.now c.args.files.now _ l.nums _ c.args.count _ c.args.k c.args.left _ (turn_doing c.args.job.now c.args.files.now c.args.area.now c.args.nums.now c.args.log.now c.args.count c.args.k c.args.left c.args.s b.result z.result h b.ensures z.ensures l.area l.nums l.log l.words l.at l.u l.invariant _ _ d.result d.ensures _ _ _ c.in-Words.is d.auto.area _ refl)
+    let h = c.requires in let l = c.loop-n in let b = c.place-base in let z = c.place-len in let d = c.next_command in
+    lists c.args.job.now c.args.files.now _ l.nums _ c.args.count _ c.args.k c.args.left _ (turn_doing c.args.job.now c.args.files.now c.args.area.now c.args.nums.now c.args.log.now c.args.count c.args.k c.args.left c.args.s b.result z.result h b.ensures z.ensures l.area l.nums l.log l.words l.at l.u l.invariant _ _ d.result d.ensures _ _ _ (c.in-Ok-Some.is ∙ ap Ok c.in-Ok-Some.field-0-is) d.auto.area _ refl)
 
 pub read_file-returns-in_default : goal.read_file-returns-in_default
 read_file-returns-in_default t c =
-    let h = c.requires in let l = c.loop-v in let b = c.place-base in let z = c.place-len in let d = c.next_command in
+    let h = c.requires in let l = c.loop-n in let b = c.place-base in let z = c.place-len in let d = c.next_command in
     let p = c.pair in let m = c.number-c in let x = c.counted in
-    turn_failed c.args.job.now c.args.files.now c.args.area.now c.args.nums.now c.args.log.now c.args.count c.args.k c.args.left c.args.s b.result z.result h b.ensures z.ensures l.area l.nums l.log l.words l.at l.u l.invariant _ _ d.result d.ensures _ _ _ c.in-Words.is d.auto.area _ refl _ _ _ _ (past c.args.job.now c.args.files.now _ l.nums _ c.args.count _ c.args.k c.args.left _ (turn_doing c.args.job.now c.args.files.now c.args.area.now c.args.nums.now c.args.log.now c.args.count c.args.k c.args.left c.args.s b.result z.result h b.ensures z.ensures l.area l.nums l.log l.words l.at l.u l.invariant _ _ d.result d.ensures _ _ _ c.in-Words.is d.auto.area _ refl) m.result (named_at _ _ _ m.result m.result p.ensures m.ensures.is refl) x.result x.ensures c.in_default.is _) (λ q. absurd (omega (arith, q)))
+    turn_failed c.args.job.now c.args.files.now c.args.area.now c.args.nums.now c.args.log.now c.args.count c.args.k c.args.left c.args.s b.result z.result h b.ensures z.ensures l.area l.nums l.log l.words l.at l.u l.invariant _ _ d.result d.ensures _ _ _ (c.in-Ok-Some.is ∙ ap Ok c.in-Ok-Some.field-0-is) d.auto.area _ refl _ _ _ _ (past c.args.job.now c.args.files.now _ l.nums _ c.args.count _ c.args.k c.args.left _ (turn_doing c.args.job.now c.args.files.now c.args.area.now c.args.nums.now c.args.log.now c.args.count c.args.k c.args.left c.args.s b.result z.result h b.ensures z.ensures l.area l.nums l.log l.words l.at l.u l.invariant _ _ d.result d.ensures _ _ _ (c.in-Ok-Some.is ∙ ap Ok c.in-Ok-Some.field-0-is) d.auto.area _ refl) m.result (named_at _ _ _ m.result m.result p.ensures m.ensures.is refl) x.result x.ensures c.in_default.is _) (λ q. absurd (omega (arith, q)))
 
 pub read_file-slice_bounds-puts-end : goal.read_file-slice_bounds-puts-end
 read_file-slice_bounds-puts-end t c =
-    let h = c.requires in let l = c.loop-v in let b = c.place-base in let z = c.place-len in let d = c.next_command in
-    end_in_lem c.args.job.now c.args.files.now _ l.nums _ c.args.count _ c.args.k c.args.left _ (turn_doing c.args.job.now c.args.files.now c.args.area.now c.args.nums.now c.args.log.now c.args.count c.args.k c.args.left c.args.s b.result z.result h b.ensures z.ensures l.area l.nums l.log l.words l.at l.u l.invariant _ _ d.result d.ensures _ _ _ c.in-Words.is d.auto.area _ refl)
+    let h = c.requires in let l = c.loop-n in let b = c.place-base in let z = c.place-len in let d = c.next_command in
+    end_in_lem c.args.job.now c.args.files.now _ l.nums _ c.args.count _ c.args.k c.args.left _ (turn_doing c.args.job.now c.args.files.now c.args.area.now c.args.nums.now c.args.log.now c.args.count c.args.k c.args.left c.args.s b.result z.result h b.ensures z.ensures l.area l.nums l.log l.words l.at l.u l.invariant _ _ d.result d.ensures _ _ _ (c.in-Ok-Some.is ∙ ap Ok c.in-Ok-Some.field-0-is) d.auto.area _ refl)
 
 pub read_file-slice_bounds-puts-end-then-c-eq1 : goal.read_file-slice_bounds-puts-end-then-c-eq1
 read_file-slice_bounds-puts-end-then-c-eq1 t c =
-    let h = c.requires in let l = c.loop-v in let b = c.place-base in let z = c.place-len in let d = c.next_command in
-    front_long c.args.job.now c.args.files.now _ l.nums _ c.args.count _ c.args.k c.args.left _ (turn_doing c.args.job.now c.args.files.now c.args.area.now c.args.nums.now c.args.log.now c.args.count c.args.k c.args.left c.args.s b.result z.result h b.ensures z.ensures l.area l.nums l.log l.words l.at l.u l.invariant _ _ d.result d.ensures _ _ _ c.in-Words.is d.auto.area _ refl)
+    let h = c.requires in let l = c.loop-n in let b = c.place-base in let z = c.place-len in let d = c.next_command in
+    front_long c.args.job.now c.args.files.now _ l.nums _ c.args.count _ c.args.k c.args.left _ (turn_doing c.args.job.now c.args.files.now c.args.area.now c.args.nums.now c.args.log.now c.args.count c.args.k c.args.left c.args.s b.result z.result h b.ensures z.ensures l.area l.nums l.log l.words l.at l.u l.invariant _ _ d.result d.ensures _ _ _ (c.in-Ok-Some.is ∙ ap Ok c.in-Ok-Some.field-0-is) d.auto.area _ refl)
 
-pub read_file-loop-v-smaller-then-c-eq1 : goal.read_file-loop-v-smaller-then-c-eq1
-read_file-loop-v-smaller-then-c-eq1 t c =
-    let h = c.requires in let l = c.loop-v in let b = c.place-base in let z = c.place-len in let d = c.next_command in
-    turn_less c.args.job.now c.args.files.now c.args.area.now c.args.nums.now c.args.log.now c.args.count c.args.k c.args.left c.args.s b.result z.result h b.ensures z.ensures l.area l.nums l.log l.words l.at l.u l.invariant _ _ d.result d.ensures _ _ _ c.in-Words.is
+pub read_file-loop-n-smaller-then-c-eq1 : goal.read_file-loop-n-smaller-then-c-eq1
+read_file-loop-n-smaller-then-c-eq1 t c =
+    let h = c.requires in let l = c.loop-n in let b = c.place-base in let z = c.place-len in let d = c.next_command in
+    turn_less c.args.job.now c.args.files.now c.args.area.now c.args.nums.now c.args.log.now c.args.count c.args.k c.args.left c.args.s b.result z.result h b.ensures z.ensures l.area l.nums l.log l.words l.at l.u l.invariant _ _ d.result d.ensures _ _ _ (c.in-Ok-Some.is ∙ ap Ok c.in-Ok-Some.field-0-is)
 
-pub read_file-loop-v-preserved-then-c-eq1 : goal.read_file-loop-v-preserved-then-c-eq1
-read_file-loop-v-preserved-then-c-eq1 t c =
-    let h = c.requires in let l = c.loop-v in let b = c.place-base in let z = c.place-len in let d = c.next_command in
+pub read_file-loop-n-preserved-then-c-eq1 : goal.read_file-loop-n-preserved-then-c-eq1
+read_file-loop-n-preserved-then-c-eq1 t c =
+    let h = c.requires in let l = c.loop-n in let b = c.place-base in let z = c.place-len in let d = c.next_command in
     let p = c.pair in let m = c.number-c in let x = c.counted in
-    turn_again c.args.job.now c.args.files.now c.args.area.now c.args.nums.now c.args.log.now c.args.count c.args.k c.args.left c.args.s b.result z.result h b.ensures z.ensures l.area l.nums l.log l.words l.at l.u l.invariant _ _ d.result d.ensures _ _ _ c.in-Words.is d.auto.area _ refl _ _ _ _ (does c.args.job.now c.args.files.now _ l.nums _ c.args.count _ c.args.k c.args.left _ (turn_doing c.args.job.now c.args.files.now c.args.area.now c.args.nums.now c.args.log.now c.args.count c.args.k c.args.left c.args.s b.result z.result h b.ensures z.ensures l.area l.nums l.log l.words l.at l.u l.invariant _ _ d.result d.ensures _ _ _ c.in-Words.is d.auto.area _ refl) m.result (named_at _ _ _ m.result m.result p.ensures m.ensures.is refl) x.result x.ensures _ c.in-Of.is c.if-c-eq2.false _ _ _ _ _ (said _ _ _ _ _ _ _ c.if-c-eq1.true (asks c.args.job.now c.args.files.now _ l.nums _ c.args.count _ c.args.k c.args.left _ (turn_doing c.args.job.now c.args.files.now c.args.area.now c.args.nums.now c.args.log.now c.args.count c.args.k c.args.left c.args.s b.result z.result h b.ensures z.ensures l.area l.nums l.log l.words l.at l.u l.invariant _ _ d.result d.ensures _ _ _ c.in-Words.is d.auto.area _ refl) m.result (named_at _ _ _ m.result m.result p.ensures m.ensures.is refl) x.result x.ensures _ c.in-Of.is c.if-c-eq2.false m.ensures.known) _ _ _ c.puts-end.ensures)) refl d.auto.words refl refl c.puts-end.auto.log
+    turn_again c.args.job.now c.args.files.now c.args.area.now c.args.nums.now c.args.log.now c.args.count c.args.k c.args.left c.args.s b.result z.result h b.ensures z.ensures l.area l.nums l.log l.words l.at l.u l.invariant _ _ d.result d.ensures _ _ _ (c.in-Ok-Some.is ∙ ap Ok c.in-Ok-Some.field-0-is) d.auto.area _ refl _ _ _ _ (does c.args.job.now c.args.files.now _ l.nums _ c.args.count _ c.args.k c.args.left _ (turn_doing c.args.job.now c.args.files.now c.args.area.now c.args.nums.now c.args.log.now c.args.count c.args.k c.args.left c.args.s b.result z.result h b.ensures z.ensures l.area l.nums l.log l.words l.at l.u l.invariant _ _ d.result d.ensures _ _ _ (c.in-Ok-Some.is ∙ ap Ok c.in-Ok-Some.field-0-is) d.auto.area _ refl) m.result (named_at _ _ _ m.result m.result p.ensures m.ensures.is refl) x.result x.ensures _ c.in-Some.is c.if-c-eq2.false _ _ _ _ _ (said _ _ _ _ _ _ _ c.if-c-eq1.true (asks c.args.job.now c.args.files.now _ l.nums _ c.args.count _ c.args.k c.args.left _ (turn_doing c.args.job.now c.args.files.now c.args.area.now c.args.nums.now c.args.log.now c.args.count c.args.k c.args.left c.args.s b.result z.result h b.ensures z.ensures l.area l.nums l.log l.words l.at l.u l.invariant _ _ d.result d.ensures _ _ _ (c.in-Ok-Some.is ∙ ap Ok c.in-Ok-Some.field-0-is) d.auto.area _ refl) m.result (named_at _ _ _ m.result m.result p.ensures m.ensures.is refl) x.result x.ensures _ c.in-Some.is c.if-c-eq2.false m.ensures.known) _ _ _ c.puts-end.ensures)) refl d.auto.words refl refl c.puts-end.auto.log
 
 pub read_file-set_scope-w-requires : goal.read_file-set_scope-w-requires
 read_file-set_scope-w-requires t c =
-    let h = c.requires in let l = c.loop-v in let b = c.place-base in let z = c.place-len in let d = c.next_command in
+    let h = c.requires in let l = c.loop-n in let b = c.place-base in let z = c.place-len in let d = c.next_command in
     let p = c.pair in let m = c.number-c in let x = c.counted in
-    scope_asks _ _ _ _ _ _ _ (asks c.args.job.now c.args.files.now _ l.nums _ c.args.count _ c.args.k c.args.left _ (turn_doing c.args.job.now c.args.files.now c.args.area.now c.args.nums.now c.args.log.now c.args.count c.args.k c.args.left c.args.s b.result z.result h b.ensures z.ensures l.area l.nums l.log l.words l.at l.u l.invariant _ _ d.result d.ensures _ _ _ c.in-Words.is d.auto.area _ refl) m.result (named_at _ _ _ m.result m.result p.ensures m.ensures.is refl) x.result x.ensures _ c.in-Of.is c.if-c-eq2.false m.ensures.known)
+    scope_asks _ _ _ _ _ _ _ (asks c.args.job.now c.args.files.now _ l.nums _ c.args.count _ c.args.k c.args.left _ (turn_doing c.args.job.now c.args.files.now c.args.area.now c.args.nums.now c.args.log.now c.args.count c.args.k c.args.left c.args.s b.result z.result h b.ensures z.ensures l.area l.nums l.log l.words l.at l.u l.invariant _ _ d.result d.ensures _ _ _ (c.in-Ok-Some.is ∙ ap Ok c.in-Ok-Some.field-0-is) d.auto.area _ refl) m.result (named_at _ _ _ m.result m.result p.ensures m.ensures.is refl) x.result x.ensures _ c.in-Some.is c.if-c-eq2.false m.ensures.known)
 
 pub read_file-returns-then-w-ne0 : goal.read_file-returns-then-w-ne0
 read_file-returns-then-w-ne0 t c =
-    let h = c.requires in let l = c.loop-v in let b = c.place-base in let z = c.place-len in let d = c.next_command in
+    let h = c.requires in let l = c.loop-n in let b = c.place-base in let z = c.place-len in let d = c.next_command in
     let p = c.pair in let m = c.number-c in let x = c.counted in
-    turn_failed c.args.job.now c.args.files.now c.args.area.now c.args.nums.now c.args.log.now c.args.count c.args.k c.args.left c.args.s b.result z.result h b.ensures z.ensures l.area l.nums l.log l.words l.at l.u l.invariant _ _ d.result d.ensures _ _ _ c.in-Words.is d.auto.area _ refl _ _ _ _ (does c.args.job.now c.args.files.now _ l.nums _ c.args.count _ c.args.k c.args.left _ (turn_doing c.args.job.now c.args.files.now c.args.area.now c.args.nums.now c.args.log.now c.args.count c.args.k c.args.left c.args.s b.result z.result h b.ensures z.ensures l.area l.nums l.log l.words l.at l.u l.invariant _ _ d.result d.ensures _ _ _ c.in-Words.is d.auto.area _ refl) m.result (named_at _ _ _ m.result m.result p.ensures m.ensures.is refl) x.result x.ensures _ c.in-Of.is c.if-c-eq2.false _ _ _ _ _ (placed_ran _ _ c.set_scope-w.result c.in_scope-u.ensures _ _ _ _ _ _ _ _ (scoped _ _ _ _ _ _ _ c.if-c-eq4.true (asks c.args.job.now c.args.files.now _ l.nums _ c.args.count _ c.args.k c.args.left _ (turn_doing c.args.job.now c.args.files.now c.args.area.now c.args.nums.now c.args.log.now c.args.count c.args.k c.args.left c.args.s b.result z.result h b.ensures z.ensures l.area l.nums l.log l.words l.at l.u l.invariant _ _ d.result d.ensures _ _ _ c.in-Words.is d.auto.area _ refl) m.result (named_at _ _ _ m.result m.result p.ensures m.ensures.is refl) x.result x.ensures _ c.in-Of.is c.if-c-eq2.false m.ensures.known) _ _ _ c.set_scope-w.auto.area (c.set_scope-w.ensures _ refl)))) c.if-w-ne0.true
+    turn_failed c.args.job.now c.args.files.now c.args.area.now c.args.nums.now c.args.log.now c.args.count c.args.k c.args.left c.args.s b.result z.result h b.ensures z.ensures l.area l.nums l.log l.words l.at l.u l.invariant _ _ d.result d.ensures _ _ _ (c.in-Ok-Some.is ∙ ap Ok c.in-Ok-Some.field-0-is) d.auto.area _ refl _ _ _ _ (does c.args.job.now c.args.files.now _ l.nums _ c.args.count _ c.args.k c.args.left _ (turn_doing c.args.job.now c.args.files.now c.args.area.now c.args.nums.now c.args.log.now c.args.count c.args.k c.args.left c.args.s b.result z.result h b.ensures z.ensures l.area l.nums l.log l.words l.at l.u l.invariant _ _ d.result d.ensures _ _ _ (c.in-Ok-Some.is ∙ ap Ok c.in-Ok-Some.field-0-is) d.auto.area _ refl) m.result (named_at _ _ _ m.result m.result p.ensures m.ensures.is refl) x.result x.ensures _ c.in-Some.is c.if-c-eq2.false _ _ _ _ _ (placed_ran _ _ c.set_scope-w.result c.in_scope-u.ensures _ _ _ _ _ _ _ _ (scoped _ _ _ _ _ _ _ c.if-c-eq4.true (asks c.args.job.now c.args.files.now _ l.nums _ c.args.count _ c.args.k c.args.left _ (turn_doing c.args.job.now c.args.files.now c.args.area.now c.args.nums.now c.args.log.now c.args.count c.args.k c.args.left c.args.s b.result z.result h b.ensures z.ensures l.area l.nums l.log l.words l.at l.u l.invariant _ _ d.result d.ensures _ _ _ (c.in-Ok-Some.is ∙ ap Ok c.in-Ok-Some.field-0-is) d.auto.area _ refl) m.result (named_at _ _ _ m.result m.result p.ensures m.ensures.is refl) x.result x.ensures _ c.in-Some.is c.if-c-eq2.false m.ensures.known) _ _ _ c.set_scope-w.auto.area (c.set_scope-w.ensures _ refl)))) c.if-w-ne0.true
 
-pub read_file-loop-v-smaller-then-c-eq4 : goal.read_file-loop-v-smaller-then-c-eq4
-read_file-loop-v-smaller-then-c-eq4 t c =
-    let h = c.requires in let l = c.loop-v in let b = c.place-base in let z = c.place-len in let d = c.next_command in
-    turn_less c.args.job.now c.args.files.now c.args.area.now c.args.nums.now c.args.log.now c.args.count c.args.k c.args.left c.args.s b.result z.result h b.ensures z.ensures l.area l.nums l.log l.words l.at l.u l.invariant _ _ d.result d.ensures _ _ _ c.in-Words.is
+pub read_file-loop-n-smaller-then-c-eq4 : goal.read_file-loop-n-smaller-then-c-eq4
+read_file-loop-n-smaller-then-c-eq4 t c =
+    let h = c.requires in let l = c.loop-n in let b = c.place-base in let z = c.place-len in let d = c.next_command in
+    turn_less c.args.job.now c.args.files.now c.args.area.now c.args.nums.now c.args.log.now c.args.count c.args.k c.args.left c.args.s b.result z.result h b.ensures z.ensures l.area l.nums l.log l.words l.at l.u l.invariant _ _ d.result d.ensures _ _ _ (c.in-Ok-Some.is ∙ ap Ok c.in-Ok-Some.field-0-is)
 
-pub read_file-loop-v-preserved-then-c-eq4 : goal.read_file-loop-v-preserved-then-c-eq4
-read_file-loop-v-preserved-then-c-eq4 t c =
-    let h = c.requires in let l = c.loop-v in let b = c.place-base in let z = c.place-len in let d = c.next_command in
+pub read_file-loop-n-preserved-then-c-eq4 : goal.read_file-loop-n-preserved-then-c-eq4
+read_file-loop-n-preserved-then-c-eq4 t c =
+    let h = c.requires in let l = c.loop-n in let b = c.place-base in let z = c.place-len in let d = c.next_command in
     let p = c.pair in let m = c.number-c in let x = c.counted in
-    turn_again c.args.job.now c.args.files.now c.args.area.now c.args.nums.now c.args.log.now c.args.count c.args.k c.args.left c.args.s b.result z.result h b.ensures z.ensures l.area l.nums l.log l.words l.at l.u l.invariant _ _ d.result d.ensures _ _ _ c.in-Words.is d.auto.area _ refl _ _ _ _ (does c.args.job.now c.args.files.now _ l.nums _ c.args.count _ c.args.k c.args.left _ (turn_doing c.args.job.now c.args.files.now c.args.area.now c.args.nums.now c.args.log.now c.args.count c.args.k c.args.left c.args.s b.result z.result h b.ensures z.ensures l.area l.nums l.log l.words l.at l.u l.invariant _ _ d.result d.ensures _ _ _ c.in-Words.is d.auto.area _ refl) m.result (named_at _ _ _ m.result m.result p.ensures m.ensures.is refl) x.result x.ensures _ c.in-Of.is c.if-c-eq2.false _ _ _ _ _ (placed_ran _ _ c.set_scope-w.result c.in_scope-u.ensures _ _ _ _ _ _ _ _ (scoped _ _ _ _ _ _ _ c.if-c-eq4.true (asks c.args.job.now c.args.files.now _ l.nums _ c.args.count _ c.args.k c.args.left _ (turn_doing c.args.job.now c.args.files.now c.args.area.now c.args.nums.now c.args.log.now c.args.count c.args.k c.args.left c.args.s b.result z.result h b.ensures z.ensures l.area l.nums l.log l.words l.at l.u l.invariant _ _ d.result d.ensures _ _ _ c.in-Words.is d.auto.area _ refl) m.result (named_at _ _ _ m.result m.result p.ensures m.ensures.is refl) x.result x.ensures _ c.in-Of.is c.if-c-eq2.false m.ensures.known) _ _ _ c.set_scope-w.auto.area (c.set_scope-w.ensures _ refl)))) c.if-w-ne0.false d.auto.words c.set_scope-w.auto.area refl refl
+    turn_again c.args.job.now c.args.files.now c.args.area.now c.args.nums.now c.args.log.now c.args.count c.args.k c.args.left c.args.s b.result z.result h b.ensures z.ensures l.area l.nums l.log l.words l.at l.u l.invariant _ _ d.result d.ensures _ _ _ (c.in-Ok-Some.is ∙ ap Ok c.in-Ok-Some.field-0-is) d.auto.area _ refl _ _ _ _ (does c.args.job.now c.args.files.now _ l.nums _ c.args.count _ c.args.k c.args.left _ (turn_doing c.args.job.now c.args.files.now c.args.area.now c.args.nums.now c.args.log.now c.args.count c.args.k c.args.left c.args.s b.result z.result h b.ensures z.ensures l.area l.nums l.log l.words l.at l.u l.invariant _ _ d.result d.ensures _ _ _ (c.in-Ok-Some.is ∙ ap Ok c.in-Ok-Some.field-0-is) d.auto.area _ refl) m.result (named_at _ _ _ m.result m.result p.ensures m.ensures.is refl) x.result x.ensures _ c.in-Some.is c.if-c-eq2.false _ _ _ _ _ (placed_ran _ _ c.set_scope-w.result c.in_scope-u.ensures _ _ _ _ _ _ _ _ (scoped _ _ _ _ _ _ _ c.if-c-eq4.true (asks c.args.job.now c.args.files.now _ l.nums _ c.args.count _ c.args.k c.args.left _ (turn_doing c.args.job.now c.args.files.now c.args.area.now c.args.nums.now c.args.log.now c.args.count c.args.k c.args.left c.args.s b.result z.result h b.ensures z.ensures l.area l.nums l.log l.words l.at l.u l.invariant _ _ d.result d.ensures _ _ _ (c.in-Ok-Some.is ∙ ap Ok c.in-Ok-Some.field-0-is) d.auto.area _ refl) m.result (named_at _ _ _ m.result m.result p.ensures m.ensures.is refl) x.result x.ensures _ c.in-Some.is c.if-c-eq2.false m.ensures.known) _ _ _ c.set_scope-w.auto.area (c.set_scope-w.ensures _ refl)))) c.if-w-ne0.false d.auto.words c.set_scope-w.auto.area refl refl
 
 pub read_file-slice_bounds-act-end : goal.read_file-slice_bounds-act-end
 read_file-slice_bounds-act-end t c =
-    let h = c.requires in let l = c.loop-v in let b = c.place-base in let z = c.place-len in let d = c.next_command in
-    end_in_lem c.args.job.now c.args.files.now _ l.nums _ c.args.count _ c.args.k c.args.left _ (turn_doing c.args.job.now c.args.files.now c.args.area.now c.args.nums.now c.args.log.now c.args.count c.args.k c.args.left c.args.s b.result z.result h b.ensures z.ensures l.area l.nums l.log l.words l.at l.u l.invariant _ _ d.result d.ensures _ _ _ c.in-Words.is d.auto.area _ refl)
+    let h = c.requires in let l = c.loop-n in let b = c.place-base in let z = c.place-len in let d = c.next_command in
+    end_in_lem c.args.job.now c.args.files.now _ l.nums _ c.args.count _ c.args.k c.args.left _ (turn_doing c.args.job.now c.args.files.now c.args.area.now c.args.nums.now c.args.log.now c.args.count c.args.k c.args.left c.args.s b.result z.result h b.ensures z.ensures l.area l.nums l.log l.words l.at l.u l.invariant _ _ d.result d.ensures _ _ _ (c.in-Ok-Some.is ∙ ap Ok c.in-Ok-Some.field-0-is) d.auto.area _ refl)
 
-pub read_file-slice_bounds-act-end-in-Words : goal.read_file-slice_bounds-act-end-in-Words
-read_file-slice_bounds-act-end-in-Words t c =
-    let h = c.requires in let l = c.loop-v in let b = c.place-base in let z = c.place-len in let d = c.next_command in
-    front_long c.args.job.now c.args.files.now _ l.nums _ c.args.count _ c.args.k c.args.left _ (turn_doing c.args.job.now c.args.files.now c.args.area.now c.args.nums.now c.args.log.now c.args.count c.args.k c.args.left c.args.s b.result z.result h b.ensures z.ensures l.area l.nums l.log l.words l.at l.u l.invariant _ _ d.result d.ensures _ _ _ c.in-Words.is d.auto.area _ refl)
+pub read_file-slice_bounds-act-end-in-Ok-Some : goal.read_file-slice_bounds-act-end-in-Ok-Some
+read_file-slice_bounds-act-end-in-Ok-Some t c =
+    let h = c.requires in let l = c.loop-n in let b = c.place-base in let z = c.place-len in let d = c.next_command in
+    front_long c.args.job.now c.args.files.now _ l.nums _ c.args.count _ c.args.k c.args.left _ (turn_doing c.args.job.now c.args.files.now c.args.area.now c.args.nums.now c.args.log.now c.args.count c.args.k c.args.left c.args.s b.result z.result h b.ensures z.ensures l.area l.nums l.log l.words l.at l.u l.invariant _ _ d.result d.ensures _ _ _ (c.in-Ok-Some.is ∙ ap Ok c.in-Ok-Some.field-0-is) d.auto.area _ refl)
 
 pub read_file-act-d-requires : goal.read_file-act-d-requires
 read_file-act-d-requires t c =
-    let h = c.requires in let l = c.loop-v in let b = c.place-base in let z = c.place-len in let d = c.next_command in
+    let h = c.requires in let l = c.loop-n in let b = c.place-base in let z = c.place-len in let d = c.next_command in
     let p = c.pair in let m = c.number-c in let x = c.counted in
-    (acting _ _ _ _ _ _ _ (asks c.args.job.now c.args.files.now _ l.nums _ c.args.count _ c.args.k c.args.left _ (turn_doing c.args.job.now c.args.files.now c.args.area.now c.args.nums.now c.args.log.now c.args.count c.args.k c.args.left c.args.s b.result z.result h b.ensures z.ensures l.area l.nums l.log l.words l.at l.u l.invariant _ _ d.result d.ensures _ _ _ c.in-Words.is d.auto.area _ refl) m.result (named_at _ _ _ m.result m.result p.ensures m.ensures.is refl) x.result x.ensures _ c.in-Of.is c.if-c-eq2.false m.ensures.known) c.brief_of-b.result c.brief_of-b.ensures c.if-c-eq1.false c.if-c-eq4.false)
+    (acting _ _ _ _ _ _ _ (asks c.args.job.now c.args.files.now _ l.nums _ c.args.count _ c.args.k c.args.left _ (turn_doing c.args.job.now c.args.files.now c.args.area.now c.args.nums.now c.args.log.now c.args.count c.args.k c.args.left c.args.s b.result z.result h b.ensures z.ensures l.area l.nums l.log l.words l.at l.u l.invariant _ _ d.result d.ensures _ _ _ (c.in-Ok-Some.is ∙ ap Ok c.in-Ok-Some.field-0-is) d.auto.area _ refl) m.result (named_at _ _ _ m.result m.result p.ensures m.ensures.is refl) x.result x.ensures _ c.in-Some.is c.if-c-eq2.false m.ensures.known) c.brief_of-b.result c.brief_of-b.ensures c.if-c-eq1.false c.if-c-eq4.false)
 
 pub read_file-returns-then-refused : goal.read_file-returns-then-refused
 read_file-returns-then-refused t c =
-    let h = c.requires in let l = c.loop-v in let b = c.place-base in let z = c.place-len in let d = c.next_command in
+    let h = c.requires in let l = c.loop-n in let b = c.place-base in let z = c.place-len in let d = c.next_command in
     let p = c.pair in let m = c.number-c in let x = c.counted in
-    turn_failed c.args.job.now c.args.files.now c.args.area.now c.args.nums.now c.args.log.now c.args.count c.args.k c.args.left c.args.s b.result z.result h b.ensures z.ensures l.area l.nums l.log l.words l.at l.u l.invariant _ _ d.result d.ensures _ _ _ c.in-Words.is d.auto.area _ refl _ _ _ _ (does c.args.job.now c.args.files.now _ l.nums _ c.args.count _ c.args.k c.args.left _ (turn_doing c.args.job.now c.args.files.now c.args.area.now c.args.nums.now c.args.log.now c.args.count c.args.k c.args.left c.args.s b.result z.result h b.ensures z.ensures l.area l.nums l.log l.words l.at l.u l.invariant _ _ d.result d.ensures _ _ _ c.in-Words.is d.auto.area _ refl) m.result (named_at _ _ _ m.result m.result p.ensures m.ensures.is refl) x.result x.ensures _ c.in-Of.is c.if-c-eq2.false _ _ _ _ _ (deed_refused _ _ _ _ _ _ _ _ c.act-d.result (acts_of _ _ _ _ _ _ _ (asks c.args.job.now c.args.files.now _ l.nums _ c.args.count _ c.args.k c.args.left _ (turn_doing c.args.job.now c.args.files.now c.args.area.now c.args.nums.now c.args.log.now c.args.count c.args.k c.args.left c.args.s b.result z.result h b.ensures z.ensures l.area l.nums l.log l.words l.at l.u l.invariant _ _ d.result d.ensures _ _ _ c.in-Words.is d.auto.area _ refl) m.result (named_at _ _ _ m.result m.result p.ensures m.ensures.is refl) x.result x.ensures _ c.in-Of.is c.if-c-eq2.false m.ensures.known) c.brief_of-b.result c.brief_of-b.ensures c.if-c-eq1.false c.if-c-eq4.false _ _ c.act-d.ensures) l.log (told _ _ _ c.refused.ensures c.if-refused.true))) (λ q. absurd (omega (arith, q)))
+    turn_failed c.args.job.now c.args.files.now c.args.area.now c.args.nums.now c.args.log.now c.args.count c.args.k c.args.left c.args.s b.result z.result h b.ensures z.ensures l.area l.nums l.log l.words l.at l.u l.invariant _ _ d.result d.ensures _ _ _ (c.in-Ok-Some.is ∙ ap Ok c.in-Ok-Some.field-0-is) d.auto.area _ refl _ _ _ _ (does c.args.job.now c.args.files.now _ l.nums _ c.args.count _ c.args.k c.args.left _ (turn_doing c.args.job.now c.args.files.now c.args.area.now c.args.nums.now c.args.log.now c.args.count c.args.k c.args.left c.args.s b.result z.result h b.ensures z.ensures l.area l.nums l.log l.words l.at l.u l.invariant _ _ d.result d.ensures _ _ _ (c.in-Ok-Some.is ∙ ap Ok c.in-Ok-Some.field-0-is) d.auto.area _ refl) m.result (named_at _ _ _ m.result m.result p.ensures m.ensures.is refl) x.result x.ensures _ c.in-Some.is c.if-c-eq2.false _ _ _ _ _ (deed_refused _ _ _ _ _ _ _ _ c.act-d.result (acts_of _ _ _ _ _ _ _ (asks c.args.job.now c.args.files.now _ l.nums _ c.args.count _ c.args.k c.args.left _ (turn_doing c.args.job.now c.args.files.now c.args.area.now c.args.nums.now c.args.log.now c.args.count c.args.k c.args.left c.args.s b.result z.result h b.ensures z.ensures l.area l.nums l.log l.words l.at l.u l.invariant _ _ d.result d.ensures _ _ _ (c.in-Ok-Some.is ∙ ap Ok c.in-Ok-Some.field-0-is) d.auto.area _ refl) m.result (named_at _ _ _ m.result m.result p.ensures m.ensures.is refl) x.result x.ensures _ c.in-Some.is c.if-c-eq2.false m.ensures.known) c.brief_of-b.result c.brief_of-b.ensures c.if-c-eq1.false c.if-c-eq4.false _ _ c.act-d.ensures) l.log (told _ _ _ c.refused.ensures c.if-refused.true))) (λ q. absurd (omega (arith, q)))
 
 -- the deed, and the state when its rows and warnings are counted
 abbrev read_file-deed : (t : ℕ) → read_file-After-warnings_with-warnings t → Deed
 read_file-deed t c = c.act-d.result
 
 abbrev read_file-state : (t : ℕ) → read_file-After-warnings_with-warnings t → State
-read_file-state t c = with_counts (with_entries (begun_at c.loop-v.u c.in-Words.e) c.in-Of.t) c.rows_with-rows.result c.warnings_with-warnings.result
+read_file-state t c = with_counts (with_entries (begun_at c.loop-n.u c.in-Ok-Some.field-0-0.end) c.in-Some.t) c.rows_with-rows.result c.warnings_with-warnings.result
 
 abbrev read_file-Did : (t : ℕ) → read_file-After-warnings_with-warnings t → Type 0
 read_file-Did t c =
-    let a = c.args in let h = c.requires in let l = c.loop-v in let b = c.place-base in let z = c.place-len in let d = c.next_command in
-    Did a.job.now a.files.now a.area.now a.nums.now a.log.now a.count a.k a.left a.s b.result z.result l.at d.new.area c.act-d.new.nums l.log d.new.words c.in-Words.next (read_file-state t c) (read_file-deed t c)
+    let a = c.args in let h = c.requires in let l = c.loop-n in let b = c.place-base in let z = c.place-len in let d = c.next_command in
+    Did a.job.now a.files.now a.area.now a.nums.now a.log.now a.count a.k a.left a.s b.result z.result l.at d.new.area c.act-d.new.nums l.log d.new.words c.in-Ok-Some.field-0-0.next (read_file-state t c) (read_file-deed t c)
 
 -- a deed that is not refused: its place is in its table, and with its record the loop goes on
 read_file-did : (t : ℕ) (c : read_file-After-warnings_with-warnings t) → read_file-Did t c
 read_file-did t c =
-    let a = c.args in let h = c.requires in let l = c.loop-v in let b = c.place-base in let z = c.place-len in let d = c.next_command in
+    let a = c.args in let h = c.requires in let l = c.loop-n in let b = c.place-base in let z = c.place-len in let d = c.next_command in
     let p = c.pair in let m = c.number-c in let x = c.counted in
     record {
-      fits = deed_fits _ _ _ _ _ _ _ _ c.act-d.result (acts_of _ _ _ _ _ _ _ (asks a.job.now a.files.now _ l.nums _ a.count _ a.k a.left _ (turn_doing a.job.now a.files.now a.area.now a.nums.now a.log.now a.count a.k a.left a.s b.result z.result h b.ensures z.ensures l.area l.nums l.log l.words l.at l.u l.invariant _ _ d.result d.ensures _ _ _ c.in-Words.is d.auto.area _ refl) m.result (named_at _ _ _ m.result m.result p.ensures m.ensures.is refl) x.result x.ensures _ c.in-Of.is c.if-c-eq2.false m.ensures.known) c.brief_of-b.result c.brief_of-b.ensures c.if-c-eq1.false c.if-c-eq4.false _ _ c.act-d.ensures) l.log (told _ _ _ c.refused.ensures c.if-refused.false) c.rows_with-rows.result c.warnings_with-warnings.result c.rows_with-rows.ensures c.warnings_with-warnings.ensures;
-      less = turn_less a.job.now a.files.now a.area.now a.nums.now a.log.now a.count a.k a.left a.s b.result z.result h b.ensures z.ensures l.area l.nums l.log l.words l.at l.u l.invariant _ _ d.result d.ensures _ _ _ c.in-Words.is;
-      again = λ v e. turn_again a.job.now a.files.now a.area.now a.nums.now a.log.now a.count a.k a.left a.s b.result z.result h b.ensures z.ensures l.area l.nums l.log l.words l.at l.u l.invariant _ _ d.result d.ensures _ _ _ c.in-Words.is d.auto.area _ refl _ _ _ _ (does a.job.now a.files.now _ l.nums _ a.count _ a.k a.left _ (turn_doing a.job.now a.files.now a.area.now a.nums.now a.log.now a.count a.k a.left a.s b.result z.result h b.ensures z.ensures l.area l.nums l.log l.words l.at l.u l.invariant _ _ d.result d.ensures _ _ _ c.in-Words.is d.auto.area _ refl) m.result (named_at _ _ _ m.result m.result p.ensures m.ensures.is refl) x.result x.ensures _ c.in-Of.is c.if-c-eq2.false _ _ _ _ _ (deed_done _ _ _ _ _ _ _ _ c.act-d.result (acts_of _ _ _ _ _ _ _ (asks a.job.now a.files.now _ l.nums _ a.count _ a.k a.left _ (turn_doing a.job.now a.files.now a.area.now a.nums.now a.log.now a.count a.k a.left a.s b.result z.result h b.ensures z.ensures l.area l.nums l.log l.words l.at l.u l.invariant _ _ d.result d.ensures _ _ _ c.in-Words.is d.auto.area _ refl) m.result (named_at _ _ _ m.result m.result p.ensures m.ensures.is refl) x.result x.ensures _ c.in-Of.is c.if-c-eq2.false m.ensures.known) c.brief_of-b.result c.brief_of-b.ensures c.if-c-eq1.false c.if-c-eq4.false _ _ c.act-d.ensures) l.log (told _ _ _ c.refused.ensures c.if-refused.false) c.rows_with-rows.result c.warnings_with-warnings.result c.rows_with-rows.ensures c.warnings_with-warnings.ensures v e)) refl d.auto.words refl c.act-d.auto.nums refl;
+      fits = deed_fits _ _ _ _ _ _ _ _ c.act-d.result (acts_of _ _ _ _ _ _ _ (asks a.job.now a.files.now _ l.nums _ a.count _ a.k a.left _ (turn_doing a.job.now a.files.now a.area.now a.nums.now a.log.now a.count a.k a.left a.s b.result z.result h b.ensures z.ensures l.area l.nums l.log l.words l.at l.u l.invariant _ _ d.result d.ensures _ _ _ (c.in-Ok-Some.is ∙ ap Ok c.in-Ok-Some.field-0-is) d.auto.area _ refl) m.result (named_at _ _ _ m.result m.result p.ensures m.ensures.is refl) x.result x.ensures _ c.in-Some.is c.if-c-eq2.false m.ensures.known) c.brief_of-b.result c.brief_of-b.ensures c.if-c-eq1.false c.if-c-eq4.false _ _ c.act-d.ensures) l.log (told _ _ _ c.refused.ensures c.if-refused.false) c.rows_with-rows.result c.warnings_with-warnings.result c.rows_with-rows.ensures c.warnings_with-warnings.ensures;
+      less = turn_less a.job.now a.files.now a.area.now a.nums.now a.log.now a.count a.k a.left a.s b.result z.result h b.ensures z.ensures l.area l.nums l.log l.words l.at l.u l.invariant _ _ d.result d.ensures _ _ _ (c.in-Ok-Some.is ∙ ap Ok c.in-Ok-Some.field-0-is);
+      again = λ v e. turn_again a.job.now a.files.now a.area.now a.nums.now a.log.now a.count a.k a.left a.s b.result z.result h b.ensures z.ensures l.area l.nums l.log l.words l.at l.u l.invariant _ _ d.result d.ensures _ _ _ (c.in-Ok-Some.is ∙ ap Ok c.in-Ok-Some.field-0-is) d.auto.area _ refl _ _ _ _ (does a.job.now a.files.now _ l.nums _ a.count _ a.k a.left _ (turn_doing a.job.now a.files.now a.area.now a.nums.now a.log.now a.count a.k a.left a.s b.result z.result h b.ensures z.ensures l.area l.nums l.log l.words l.at l.u l.invariant _ _ d.result d.ensures _ _ _ (c.in-Ok-Some.is ∙ ap Ok c.in-Ok-Some.field-0-is) d.auto.area _ refl) m.result (named_at _ _ _ m.result m.result p.ensures m.ensures.is refl) x.result x.ensures _ c.in-Some.is c.if-c-eq2.false _ _ _ _ _ (deed_done _ _ _ _ _ _ _ _ c.act-d.result (acts_of _ _ _ _ _ _ _ (asks a.job.now a.files.now _ l.nums _ a.count _ a.k a.left _ (turn_doing a.job.now a.files.now a.area.now a.nums.now a.log.now a.count a.k a.left a.s b.result z.result h b.ensures z.ensures l.area l.nums l.log l.words l.at l.u l.invariant _ _ d.result d.ensures _ _ _ (c.in-Ok-Some.is ∙ ap Ok c.in-Ok-Some.field-0-is) d.auto.area _ refl) m.result (named_at _ _ _ m.result m.result p.ensures m.ensures.is refl) x.result x.ensures _ c.in-Some.is c.if-c-eq2.false m.ensures.known) c.brief_of-b.result c.brief_of-b.ensures c.if-c-eq1.false c.if-c-eq4.false _ _ c.act-d.ensures) l.log (told _ _ _ c.refused.ensures c.if-refused.false) c.rows_with-rows.result c.warnings_with-warnings.result c.rows_with-rows.ensures c.warnings_with-warnings.ensures v e)) refl d.auto.words refl c.act-d.auto.nums refl;
     }
 
 pub read_file-add_variable-u-requires : goal.read_file-add_variable-u-requires
@@ -234,169 +235,169 @@ read_file-add_variable-u-requires t c =
     let e = (goal.at.read_file-add_variable-u-requires t c).After-warnings_with-warnings in
     variable_fits (read_file-state t e) (read_file-deed t e) _ _ c.in-Variable.is (read_file-did t e).fits
 
-pub read_file-loop-v-smaller-in-Variable : goal.read_file-loop-v-smaller-in-Variable
-read_file-loop-v-smaller-in-Variable t c = (read_file-did t (goal.at.read_file-loop-v-smaller-in-Variable t c).After-warnings_with-warnings).less
+pub read_file-loop-n-smaller-in-Variable : goal.read_file-loop-n-smaller-in-Variable
+read_file-loop-n-smaller-in-Variable t c = (read_file-did t (goal.at.read_file-loop-n-smaller-in-Variable t c).After-warnings_with-warnings).less
 
-pub read_file-loop-v-preserved-in-Variable : goal.read_file-loop-v-preserved-in-Variable
-read_file-loop-v-preserved-in-Variable t c =
-    let e = (goal.at.read_file-loop-v-preserved-in-Variable t c).After-warnings_with-warnings in
+pub read_file-loop-n-preserved-in-Variable : goal.read_file-loop-n-preserved-in-Variable
+read_file-loop-n-preserved-in-Variable t c =
+    let e = (goal.at.read_file-loop-n-preserved-in-Variable t c).After-warnings_with-warnings in
     (read_file-did t e).again _ (variable_done (read_file-state t e) (read_file-deed t e) _ _ _ c.in-Variable.is c.add_variable-u.ensures)
 
-pub read_file-loop-v-smaller-in-Top : goal.read_file-loop-v-smaller-in-Top
-read_file-loop-v-smaller-in-Top t c = (read_file-did t (goal.at.read_file-loop-v-smaller-in-Top t c).After-warnings_with-warnings).less
+pub read_file-loop-n-smaller-in-Top : goal.read_file-loop-n-smaller-in-Top
+read_file-loop-n-smaller-in-Top t c = (read_file-did t (goal.at.read_file-loop-n-smaller-in-Top t c).After-warnings_with-warnings).less
 
-pub read_file-loop-v-preserved-in-Top : goal.read_file-loop-v-preserved-in-Top
-read_file-loop-v-preserved-in-Top t c =
-    let e = (goal.at.read_file-loop-v-preserved-in-Top t c).After-warnings_with-warnings in
+pub read_file-loop-n-preserved-in-Top : goal.read_file-loop-n-preserved-in-Top
+read_file-loop-n-preserved-in-Top t c =
+    let e = (goal.at.read_file-loop-n-preserved-in-Top t c).After-warnings_with-warnings in
     (read_file-did t e).again _ (top_done (read_file-state t e) (read_file-deed t e) _ _ c.in-Top.is c.with_top-u.ensures)
 
-pub read_file-add_domain-u-requires : goal.read_file-add_domain-u-requires
-read_file-add_domain-u-requires t c =
-    let e = (goal.at.read_file-add_domain-u-requires t c).After-warnings_with-warnings in
-    domain_fits_lem (read_file-state t e) (read_file-deed t e) _ c.in-Domain.is (read_file-did t e).fits
+pub read_file-add-u-requires : goal.read_file-add-u-requires
+read_file-add-u-requires t c =
+    let e = (goal.at.read_file-add-u-requires t c).After-warnings_with-warnings in
+    (omega arith, domain_fits_lem (read_file-state t e) (read_file-deed t e) _ c.in-Domain.is (read_file-did t e).fits)
 
-pub read_file-loop-v-smaller-in-Domain : goal.read_file-loop-v-smaller-in-Domain
-read_file-loop-v-smaller-in-Domain t c = (read_file-did t (goal.at.read_file-loop-v-smaller-in-Domain t c).After-warnings_with-warnings).less
+pub read_file-loop-n-smaller-in-Domain : goal.read_file-loop-n-smaller-in-Domain
+read_file-loop-n-smaller-in-Domain t c = (read_file-did t (goal.at.read_file-loop-n-smaller-in-Domain t c).After-warnings_with-warnings).less
 
-pub read_file-loop-v-preserved-in-Domain : goal.read_file-loop-v-preserved-in-Domain
-read_file-loop-v-preserved-in-Domain t c =
-    let e = (goal.at.read_file-loop-v-preserved-in-Domain t c).After-warnings_with-warnings in
-    (read_file-did t e).again _ (domain_done (read_file-state t e) (read_file-deed t e) _ _ c.in-Domain.is c.add_domain-u.ensures)
+pub read_file-loop-n-preserved-in-Domain : goal.read_file-loop-n-preserved-in-Domain
+read_file-loop-n-preserved-in-Domain t c =
+    let e = (goal.at.read_file-loop-n-preserved-in-Domain t c).After-warnings_with-warnings in
+    (read_file-did t e).again _ (domain_done (read_file-state t e) (read_file-deed t e) _ _ c.in-Domain.is c.add-u.ensures)
 
-pub read_file-set_domain-u-requires : goal.read_file-set_domain-u-requires
-read_file-set_domain-u-requires t c =
-    let e = (goal.at.read_file-set_domain-u-requires t c).After-warnings_with-warnings in
-    supplied_fits (read_file-state t e) (read_file-deed t e) _ _ c.in-Supplied.is (read_file-did t e).fits
+pub read_file-replace-u-requires : goal.read_file-replace-u-requires
+read_file-replace-u-requires t c =
+    let e = (goal.at.read_file-replace-u-requires t c).After-warnings_with-warnings in
+    (omega arith, supplied_fits (read_file-state t e) (read_file-deed t e) _ _ c.in-Supplied.is (read_file-did t e).fits)
 
-pub read_file-loop-v-smaller-in-Supplied : goal.read_file-loop-v-smaller-in-Supplied
-read_file-loop-v-smaller-in-Supplied t c = (read_file-did t (goal.at.read_file-loop-v-smaller-in-Supplied t c).After-warnings_with-warnings).less
+pub read_file-loop-n-smaller-in-Supplied : goal.read_file-loop-n-smaller-in-Supplied
+read_file-loop-n-smaller-in-Supplied t c = (read_file-did t (goal.at.read_file-loop-n-smaller-in-Supplied t c).After-warnings_with-warnings).less
 
-pub read_file-loop-v-preserved-in-Supplied : goal.read_file-loop-v-preserved-in-Supplied
-read_file-loop-v-preserved-in-Supplied t c =
-    let e = (goal.at.read_file-loop-v-preserved-in-Supplied t c).After-warnings_with-warnings in
-    (read_file-did t e).again _ (supplied_done (read_file-state t e) (read_file-deed t e) _ _ _ c.in-Supplied.is c.set_domain-u.ensures)
+pub read_file-loop-n-preserved-in-Supplied : goal.read_file-loop-n-preserved-in-Supplied
+read_file-loop-n-preserved-in-Supplied t c =
+    let e = (goal.at.read_file-loop-n-preserved-in-Supplied t c).After-warnings_with-warnings in
+    (read_file-did t e).again _ (supplied_done (read_file-state t e) (read_file-deed t e) _ _ _ c.in-Supplied.is c.replace-u.ensures)
 
-pub read_file-add_net-u-requires : goal.read_file-add_net-u-requires
-read_file-add_net-u-requires t c =
-    let e = (goal.at.read_file-add_net-u-requires t c).After-warnings_with-warnings in
-    net_fits (read_file-state t e) (read_file-deed t e) _ c.in-Net.is (read_file-did t e).fits
+pub read_file-add-u-requires-in-Net : goal.read_file-add-u-requires-in-Net
+read_file-add-u-requires-in-Net t c =
+    let e = (goal.at.read_file-add-u-requires-in-Net t c).After-warnings_with-warnings in
+    (omega arith, net_fits (read_file-state t e) (read_file-deed t e) _ c.in-Net.is (read_file-did t e).fits)
 
-pub read_file-loop-v-smaller-in-Net : goal.read_file-loop-v-smaller-in-Net
-read_file-loop-v-smaller-in-Net t c = (read_file-did t (goal.at.read_file-loop-v-smaller-in-Net t c).After-warnings_with-warnings).less
+pub read_file-loop-n-smaller-in-Net : goal.read_file-loop-n-smaller-in-Net
+read_file-loop-n-smaller-in-Net t c = (read_file-did t (goal.at.read_file-loop-n-smaller-in-Net t c).After-warnings_with-warnings).less
 
-pub read_file-loop-v-preserved-in-Net : goal.read_file-loop-v-preserved-in-Net
-read_file-loop-v-preserved-in-Net t c =
-    let e = (goal.at.read_file-loop-v-preserved-in-Net t c).After-warnings_with-warnings in
-    (read_file-did t e).again _ (net_done (read_file-state t e) (read_file-deed t e) _ _ c.in-Net.is c.add_net-u.ensures)
+pub read_file-loop-n-preserved-in-Net : goal.read_file-loop-n-preserved-in-Net
+read_file-loop-n-preserved-in-Net t c =
+    let e = (goal.at.read_file-loop-n-preserved-in-Net t c).After-warnings_with-warnings in
+    (read_file-did t e).again _ (net_done (read_file-state t e) (read_file-deed t e) _ _ c.in-Net.is c.add-u-in-Net.ensures)
 
-pub read_file-add_port-u-requires : goal.read_file-add_port-u-requires
-read_file-add_port-u-requires t c =
-    let e = (goal.at.read_file-add_port-u-requires t c).After-warnings_with-warnings in
-    port_fits (read_file-state t e) (read_file-deed t e) _ c.in-Port.is (read_file-did t e).fits
+pub read_file-add-u-requires-in-Port : goal.read_file-add-u-requires-in-Port
+read_file-add-u-requires-in-Port t c =
+    let e = (goal.at.read_file-add-u-requires-in-Port t c).After-warnings_with-warnings in
+    (omega arith, port_fits (read_file-state t e) (read_file-deed t e) _ c.in-Port.is (read_file-did t e).fits)
 
-pub read_file-loop-v-smaller-in-Port : goal.read_file-loop-v-smaller-in-Port
-read_file-loop-v-smaller-in-Port t c = (read_file-did t (goal.at.read_file-loop-v-smaller-in-Port t c).After-warnings_with-warnings).less
+pub read_file-loop-n-smaller-in-Port : goal.read_file-loop-n-smaller-in-Port
+read_file-loop-n-smaller-in-Port t c = (read_file-did t (goal.at.read_file-loop-n-smaller-in-Port t c).After-warnings_with-warnings).less
 
-pub read_file-loop-v-preserved-in-Port : goal.read_file-loop-v-preserved-in-Port
-read_file-loop-v-preserved-in-Port t c =
-    let e = (goal.at.read_file-loop-v-preserved-in-Port t c).After-warnings_with-warnings in
-    (read_file-did t e).again _ (port_done (read_file-state t e) (read_file-deed t e) _ _ c.in-Port.is c.add_port-u.ensures)
+pub read_file-loop-n-preserved-in-Port : goal.read_file-loop-n-preserved-in-Port
+read_file-loop-n-preserved-in-Port t c =
+    let e = (goal.at.read_file-loop-n-preserved-in-Port t c).After-warnings_with-warnings in
+    (read_file-did t e).again _ (port_done (read_file-state t e) (read_file-deed t e) _ _ c.in-Port.is c.add-u-in-Port.ensures)
 
-pub read_file-add_isolation-u-requires : goal.read_file-add_isolation-u-requires
-read_file-add_isolation-u-requires t c =
-    let e = (goal.at.read_file-add_isolation-u-requires t c).After-warnings_with-warnings in
-    isolation_fits (read_file-state t e) (read_file-deed t e) _ c.in-Isolation.is (read_file-did t e).fits
+pub read_file-add-u-requires-in-Isolation : goal.read_file-add-u-requires-in-Isolation
+read_file-add-u-requires-in-Isolation t c =
+    let e = (goal.at.read_file-add-u-requires-in-Isolation t c).After-warnings_with-warnings in
+    (omega arith, isolation_fits (read_file-state t e) (read_file-deed t e) _ c.in-Isolation.is (read_file-did t e).fits)
 
-pub read_file-loop-v-smaller-in-Isolation : goal.read_file-loop-v-smaller-in-Isolation
-read_file-loop-v-smaller-in-Isolation t c = (read_file-did t (goal.at.read_file-loop-v-smaller-in-Isolation t c).After-warnings_with-warnings).less
+pub read_file-loop-n-smaller-in-Isolation : goal.read_file-loop-n-smaller-in-Isolation
+read_file-loop-n-smaller-in-Isolation t c = (read_file-did t (goal.at.read_file-loop-n-smaller-in-Isolation t c).After-warnings_with-warnings).less
 
-pub read_file-loop-v-preserved-in-Isolation : goal.read_file-loop-v-preserved-in-Isolation
-read_file-loop-v-preserved-in-Isolation t c =
-    let e = (goal.at.read_file-loop-v-preserved-in-Isolation t c).After-warnings_with-warnings in
-    (read_file-did t e).again _ (isolation_done (read_file-state t e) (read_file-deed t e) _ _ c.in-Isolation.is c.add_isolation-u.ensures)
+pub read_file-loop-n-preserved-in-Isolation : goal.read_file-loop-n-preserved-in-Isolation
+read_file-loop-n-preserved-in-Isolation t c =
+    let e = (goal.at.read_file-loop-n-preserved-in-Isolation t c).After-warnings_with-warnings in
+    (read_file-did t e).again _ (isolation_done (read_file-state t e) (read_file-deed t e) _ _ c.in-Isolation.is c.add-u-in-Isolation.ensures)
 
-pub read_file-set_isolation-u-requires : goal.read_file-set_isolation-u-requires
-read_file-set_isolation-u-requires t c =
-    let e = (goal.at.read_file-set_isolation-u-requires t c).After-warnings_with-warnings in
-    controlled_fits (read_file-state t e) (read_file-deed t e) _ _ c.in-Controlled.is (read_file-did t e).fits
+pub read_file-replace-u-requires-in-Controlled : goal.read_file-replace-u-requires-in-Controlled
+read_file-replace-u-requires-in-Controlled t c =
+    let e = (goal.at.read_file-replace-u-requires-in-Controlled t c).After-warnings_with-warnings in
+    (omega arith, controlled_fits (read_file-state t e) (read_file-deed t e) _ _ c.in-Controlled.is (read_file-did t e).fits)
 
-pub read_file-loop-v-smaller-in-Controlled : goal.read_file-loop-v-smaller-in-Controlled
-read_file-loop-v-smaller-in-Controlled t c = (read_file-did t (goal.at.read_file-loop-v-smaller-in-Controlled t c).After-warnings_with-warnings).less
+pub read_file-loop-n-smaller-in-Controlled : goal.read_file-loop-n-smaller-in-Controlled
+read_file-loop-n-smaller-in-Controlled t c = (read_file-did t (goal.at.read_file-loop-n-smaller-in-Controlled t c).After-warnings_with-warnings).less
 
-pub read_file-loop-v-preserved-in-Controlled : goal.read_file-loop-v-preserved-in-Controlled
-read_file-loop-v-preserved-in-Controlled t c =
-    let e = (goal.at.read_file-loop-v-preserved-in-Controlled t c).After-warnings_with-warnings in
-    (read_file-did t e).again _ (controlled_done (read_file-state t e) (read_file-deed t e) _ _ _ c.in-Controlled.is c.set_isolation-u.ensures)
+pub read_file-loop-n-preserved-in-Controlled : goal.read_file-loop-n-preserved-in-Controlled
+read_file-loop-n-preserved-in-Controlled t c =
+    let e = (goal.at.read_file-loop-n-preserved-in-Controlled t c).After-warnings_with-warnings in
+    (read_file-did t e).again _ (controlled_done (read_file-state t e) (read_file-deed t e) _ _ _ c.in-Controlled.is c.replace-u-in-Controlled.ensures)
 
-pub read_file-add_retention-u-requires : goal.read_file-add_retention-u-requires
-read_file-add_retention-u-requires t c =
-    let e = (goal.at.read_file-add_retention-u-requires t c).After-warnings_with-warnings in
-    retention_fits (read_file-state t e) (read_file-deed t e) _ c.in-Retention.is (read_file-did t e).fits
+pub read_file-add-u-requires-in-Retention : goal.read_file-add-u-requires-in-Retention
+read_file-add-u-requires-in-Retention t c =
+    let e = (goal.at.read_file-add-u-requires-in-Retention t c).After-warnings_with-warnings in
+    (omega arith, retention_fits (read_file-state t e) (read_file-deed t e) _ c.in-Retention.is (read_file-did t e).fits)
 
-pub read_file-loop-v-smaller-in-Retention : goal.read_file-loop-v-smaller-in-Retention
-read_file-loop-v-smaller-in-Retention t c = (read_file-did t (goal.at.read_file-loop-v-smaller-in-Retention t c).After-warnings_with-warnings).less
+pub read_file-loop-n-smaller-in-Retention : goal.read_file-loop-n-smaller-in-Retention
+read_file-loop-n-smaller-in-Retention t c = (read_file-did t (goal.at.read_file-loop-n-smaller-in-Retention t c).After-warnings_with-warnings).less
 
-pub read_file-loop-v-preserved-in-Retention : goal.read_file-loop-v-preserved-in-Retention
-read_file-loop-v-preserved-in-Retention t c =
-    let e = (goal.at.read_file-loop-v-preserved-in-Retention t c).After-warnings_with-warnings in
-    (read_file-did t e).again _ (retention_done (read_file-state t e) (read_file-deed t e) _ _ c.in-Retention.is c.add_retention-u.ensures)
+pub read_file-loop-n-preserved-in-Retention : goal.read_file-loop-n-preserved-in-Retention
+read_file-loop-n-preserved-in-Retention t c =
+    let e = (goal.at.read_file-loop-n-preserved-in-Retention t c).After-warnings_with-warnings in
+    (read_file-did t e).again _ (retention_done (read_file-state t e) (read_file-deed t e) _ _ c.in-Retention.is c.add-u-in-Retention.ensures)
 
-pub read_file-add_shifter-u-requires : goal.read_file-add_shifter-u-requires
-read_file-add_shifter-u-requires t c =
-    let e = (goal.at.read_file-add_shifter-u-requires t c).After-warnings_with-warnings in
-    shifter_fits (read_file-state t e) (read_file-deed t e) _ c.in-Shifter.is (read_file-did t e).fits
+pub read_file-add-u-requires-in-Shifter : goal.read_file-add-u-requires-in-Shifter
+read_file-add-u-requires-in-Shifter t c =
+    let e = (goal.at.read_file-add-u-requires-in-Shifter t c).After-warnings_with-warnings in
+    (omega arith, shifter_fits (read_file-state t e) (read_file-deed t e) _ c.in-Shifter.is (read_file-did t e).fits)
 
-pub read_file-loop-v-smaller-in-Shifter : goal.read_file-loop-v-smaller-in-Shifter
-read_file-loop-v-smaller-in-Shifter t c = (read_file-did t (goal.at.read_file-loop-v-smaller-in-Shifter t c).After-warnings_with-warnings).less
+pub read_file-loop-n-smaller-in-Shifter : goal.read_file-loop-n-smaller-in-Shifter
+read_file-loop-n-smaller-in-Shifter t c = (read_file-did t (goal.at.read_file-loop-n-smaller-in-Shifter t c).After-warnings_with-warnings).less
 
-pub read_file-loop-v-preserved-in-Shifter : goal.read_file-loop-v-preserved-in-Shifter
-read_file-loop-v-preserved-in-Shifter t c =
-    let e = (goal.at.read_file-loop-v-preserved-in-Shifter t c).After-warnings_with-warnings in
-    (read_file-did t e).again _ (shifter_done (read_file-state t e) (read_file-deed t e) _ _ c.in-Shifter.is c.add_shifter-u.ensures)
+pub read_file-loop-n-preserved-in-Shifter : goal.read_file-loop-n-preserved-in-Shifter
+read_file-loop-n-preserved-in-Shifter t c =
+    let e = (goal.at.read_file-loop-n-preserved-in-Shifter t c).After-warnings_with-warnings in
+    (read_file-did t e).again _ (shifter_done (read_file-state t e) (read_file-deed t e) _ _ c.in-Shifter.is c.add-u-in-Shifter.ensures)
 
-pub read_file-add_table-u-requires : goal.read_file-add_table-u-requires
-read_file-add_table-u-requires t c =
-    let e = (goal.at.read_file-add_table-u-requires t c).After-warnings_with-warnings in
-    table_fits (read_file-state t e) (read_file-deed t e) _ c.in-Table.is (read_file-did t e).fits
+pub read_file-add-u-requires-in-Table : goal.read_file-add-u-requires-in-Table
+read_file-add-u-requires-in-Table t c =
+    let e = (goal.at.read_file-add-u-requires-in-Table t c).After-warnings_with-warnings in
+    (omega arith, table_fits (read_file-state t e) (read_file-deed t e) _ c.in-Table.is (read_file-did t e).fits)
 
-pub read_file-loop-v-smaller-in-Table : goal.read_file-loop-v-smaller-in-Table
-read_file-loop-v-smaller-in-Table t c = (read_file-did t (goal.at.read_file-loop-v-smaller-in-Table t c).After-warnings_with-warnings).less
+pub read_file-loop-n-smaller-in-Table : goal.read_file-loop-n-smaller-in-Table
+read_file-loop-n-smaller-in-Table t c = (read_file-did t (goal.at.read_file-loop-n-smaller-in-Table t c).After-warnings_with-warnings).less
 
-pub read_file-loop-v-preserved-in-Table : goal.read_file-loop-v-preserved-in-Table
-read_file-loop-v-preserved-in-Table t c =
-    let e = (goal.at.read_file-loop-v-preserved-in-Table t c).After-warnings_with-warnings in
-    (read_file-did t e).again _ (table_done (read_file-state t e) (read_file-deed t e) _ _ c.in-Table.is c.add_table-u.ensures)
+pub read_file-loop-n-preserved-in-Table : goal.read_file-loop-n-preserved-in-Table
+read_file-loop-n-preserved-in-Table t c =
+    let e = (goal.at.read_file-loop-n-preserved-in-Table t c).After-warnings_with-warnings in
+    (read_file-did t e).again _ (table_done (read_file-state t e) (read_file-deed t e) _ _ c.in-Table.is c.add-u-in-Table.ensures)
 
-pub read_file-add_switch-u-requires : goal.read_file-add_switch-u-requires
-read_file-add_switch-u-requires t c =
-    let e = (goal.at.read_file-add_switch-u-requires t c).After-warnings_with-warnings in
-    switch_fits (read_file-state t e) (read_file-deed t e) _ _ c.in-Switch.is (read_file-did t e).fits
+pub read_file-add-u-requires-in-Switch : goal.read_file-add-u-requires-in-Switch
+read_file-add-u-requires-in-Switch t c =
+    let e = (goal.at.read_file-add-u-requires-in-Switch t c).After-warnings_with-warnings in
+    (omega arith, switch_fits (read_file-state t e) (read_file-deed t e) _ _ c.in-Switch.is (read_file-did t e).fits)
 
-pub read_file-loop-v-smaller-in-Switch : goal.read_file-loop-v-smaller-in-Switch
-read_file-loop-v-smaller-in-Switch t c = (read_file-did t (goal.at.read_file-loop-v-smaller-in-Switch t c).After-warnings_with-warnings).less
+pub read_file-loop-n-smaller-in-Switch : goal.read_file-loop-n-smaller-in-Switch
+read_file-loop-n-smaller-in-Switch t c = (read_file-did t (goal.at.read_file-loop-n-smaller-in-Switch t c).After-warnings_with-warnings).less
 
-pub read_file-loop-v-preserved-in-Switch : goal.read_file-loop-v-preserved-in-Switch
-read_file-loop-v-preserved-in-Switch t c =
-    let e = (goal.at.read_file-loop-v-preserved-in-Switch t c).After-warnings_with-warnings in
-    (read_file-did t e).again _ (switch_done (read_file-state t e) (read_file-deed t e) _ _ _ c.in-Switch.is c.add_switch-u.ensures)
+pub read_file-loop-n-preserved-in-Switch : goal.read_file-loop-n-preserved-in-Switch
+read_file-loop-n-preserved-in-Switch t c =
+    let e = (goal.at.read_file-loop-n-preserved-in-Switch t c).After-warnings_with-warnings in
+    (read_file-did t e).again _ (switch_done (read_file-state t e) (read_file-deed t e) _ _ _ c.in-Switch.is c.add-u-in-Switch.ensures)
 
-pub read_file-add_port_state-u-requires : goal.read_file-add_port_state-u-requires
-read_file-add_port_state-u-requires t c =
-    let e = (goal.at.read_file-add_port_state-u-requires t c).After-warnings_with-warnings in
-    portstate_fits (read_file-state t e) (read_file-deed t e) _ _ c.in-PortState.is (read_file-did t e).fits
+pub read_file-add-u-requires-in-PortState : goal.read_file-add-u-requires-in-PortState
+read_file-add-u-requires-in-PortState t c =
+    let e = (goal.at.read_file-add-u-requires-in-PortState t c).After-warnings_with-warnings in
+    (omega arith, portstate_fits (read_file-state t e) (read_file-deed t e) _ _ c.in-PortState.is (read_file-did t e).fits)
 
-pub read_file-loop-v-smaller-in-PortState : goal.read_file-loop-v-smaller-in-PortState
-read_file-loop-v-smaller-in-PortState t c = (read_file-did t (goal.at.read_file-loop-v-smaller-in-PortState t c).After-warnings_with-warnings).less
+pub read_file-loop-n-smaller-in-PortState : goal.read_file-loop-n-smaller-in-PortState
+read_file-loop-n-smaller-in-PortState t c = (read_file-did t (goal.at.read_file-loop-n-smaller-in-PortState t c).After-warnings_with-warnings).less
 
-pub read_file-loop-v-preserved-in-PortState : goal.read_file-loop-v-preserved-in-PortState
-read_file-loop-v-preserved-in-PortState t c =
-    let e = (goal.at.read_file-loop-v-preserved-in-PortState t c).After-warnings_with-warnings in
-    (read_file-did t e).again _ (portstate_done (read_file-state t e) (read_file-deed t e) _ _ _ c.in-PortState.is c.add_port_state-u.ensures)
+pub read_file-loop-n-preserved-in-PortState : goal.read_file-loop-n-preserved-in-PortState
+read_file-loop-n-preserved-in-PortState t c =
+    let e = (goal.at.read_file-loop-n-preserved-in-PortState t c).After-warnings_with-warnings in
+    (read_file-did t e).again _ (portstate_done (read_file-state t e) (read_file-deed t e) _ _ _ c.in-PortState.is c.add-u-in-PortState.ensures)
 
-pub read_file-loop-v-smaller : goal.read_file-loop-v-smaller
-read_file-loop-v-smaller t c = (read_file-did t (goal.at.read_file-loop-v-smaller t c).After-warnings_with-warnings).less
+pub read_file-loop-n-smaller : goal.read_file-loop-n-smaller
+read_file-loop-n-smaller t c = (read_file-did t (goal.at.read_file-loop-n-smaller t c).After-warnings_with-warnings).less
 
-pub read_file-loop-v-preserved : goal.read_file-loop-v-preserved
-read_file-loop-v-preserved t c =
-    let e = (goal.at.read_file-loop-v-preserved t c).After-warnings_with-warnings in
+pub read_file-loop-n-preserved : goal.read_file-loop-n-preserved
+read_file-loop-n-preserved t c =
+    let e = (goal.at.read_file-loop-n-preserved t c).After-warnings_with-warnings in
     (read_file-did t e).again _ (done_other (read_file-state t e) (read_file-deed t e) (search rules))

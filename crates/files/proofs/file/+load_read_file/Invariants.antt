@@ -12,8 +12,8 @@ decreases-load l = 2 * l.left
 abbrev pub decreases-read_file : goal.decreases-read_file
 decreases-read_file l = 2 * l.left + 1
 
-abbrev pub invariant-read_file-loop-v : goal.invariant-read_file-loop-v
-invariant-read_file-loop-v l = Going l.job l.files l.initial.area l.initial.nums l.initial.log l.count l.k l.left l.initial.u l.base l.len l.area l.nums l.log l.words l.at l.u
+abbrev pub invariant-read_file-loop-n : goal.invariant-read_file-loop-n
+invariant-read_file-loop-n l = Going l.job l.files l.initial.area l.initial.nums l.initial.log l.count l.k l.left l.initial.u l.base l.len l.area l.nums l.log l.words l.at l.u
 
-abbrev pub decreases-read_file-loop-v : goal.decreases-read_file-loop-v
-decreases-read_file-loop-v l = length (commands (drop l.at (take l.len (drop l.base l.files))))
+abbrev pub decreases-read_file-loop-n : goal.decreases-read_file-loop-n
+decreases-read_file-loop-n l = length (commands (drop l.at (take l.len (drop l.base l.files))))

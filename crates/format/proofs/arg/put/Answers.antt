@@ -2,20 +2,20 @@
 use Rattle.format.proofs.Arguments.{wraps}
 use Rattle.format.proofs.arg.put.Goals as goal
 
-pub returns-then-a-eq0 : goal.returns-then-a-eq0
-returns-then-a-eq0 c = search wraps
+pub returns-in-0 : goal.returns-in-0
+returns-in-0 c = search wraps
 
-pub returns-then-a-eq1 : goal.returns-then-a-eq1
-returns-then-a-eq1 c = search wraps
+pub returns-in-1 : goal.returns-in-1
+returns-in-1 c = search wraps
 
-pub returns-then-a-eq2 : goal.returns-then-a-eq2
-returns-then-a-eq2 c = search wraps
+pub returns-in-2 : goal.returns-in-2
+returns-in-2 c = search wraps
 
-pub returns-then-a-eq3 : goal.returns-then-a-eq3
-returns-then-a-eq3 c = search wraps
+pub returns-in-3 : goal.returns-in-3
+returns-in-3 c = search wraps
 
-pub returns-then-a-eq4 : goal.returns-then-a-eq4
-returns-then-a-eq4 c = search wraps
+pub returns-in-4 : goal.returns-in-4
+returns-in-4 c = search wraps
 
-pub returns : goal.returns
-returns c = search wraps
+pub returns-in_default : goal.returns-in_default
+returns-in_default c = search wraps

@@ -3,14 +3,15 @@ use Prim.Native.Nat.{◌-◌}
 use mathlib.Core.Path.{◌≡◌}
 use lib.ListN.{length}
 use Rattle.out.specs.Bytewise.{flat, becomes}
-use Rattle.out.specs.Emit.{emit, ◌▸◌}
+use Rattle.out.specs.Emit.{emit}
+use Rattle.out.specs.Text.{shown, SameRoom}
 use Rattle.scope.specs.Parts.{parts}
 use Rattle.format.specs.Args.{led}
 use Rattle.format.proofs.Scopes.{Leads}
 use Rattle.format.proofs.path.put_parts.Given as goal
 
-abbrev pub invariant-loop-a : goal.invariant-loop-a
-invariant-loop-a l = (length l.out ≡ length l.initial.out) × Leads (becomes l.m) l.sep l.dots l.over (emit (l.initial.out ▸ l.at) (flat (becomes l.m) (led l.sep l.dots (parts l.over l.from)))) (l.out ▸ l.o) l.i
+abbrev pub invariant-loop-p : goal.invariant-loop-p
+invariant-loop-p l = SameRoom l.initial.to l.to × Leads (becomes l.m) l.sep l.dots l.over (emit (shown l.initial.to) (flat (becomes l.m) (led l.sep l.dots (parts l.over l.from)))) (shown l.to) l.i
 
-abbrev pub decreases-loop-a : goal.decreases-loop-a
-decreases-loop-a l = length l.over - l.i
+abbrev pub decreases-loop-p : goal.decreases-loop-p
+decreases-loop-p l = length l.over - l.i

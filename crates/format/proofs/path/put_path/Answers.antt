@@ -2,8 +2,8 @@
 use Rattle.format.proofs.Scopes.{leads}
 use Rattle.format.proofs.path.put_path.Goals as goal
 
-pub returns-in-End : goal.returns-in-End
-returns-in-End c = search leads
+pub returns-in_default : goal.returns-in_default
+returns-in_default c = search leads
 
-pub returns-in-Part : goal.returns-in-Part
-returns-in-Part c = search leads
+pub returns-in-Some : goal.returns-in-Some
+returns-in-Some c = search leads

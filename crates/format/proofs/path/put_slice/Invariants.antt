@@ -3,13 +3,11 @@ use Prim.Native.Nat.{◌-◌}
 use mathlib.Core.Path.{◌≡◌}
 use lib.ListN.{length}
 use Rattle.out.specs.Bytewise.{flat, becomes}
-use Rattle.out.specs.Emit.{emit, ◌▸◌}
+use Rattle.out.specs.Emit.{emit}
+use Rattle.out.specs.Text.{shown, SameRoom}
 use Rattle.refs.specs.Text.{as_dots}
 use Rattle.format.proofs.Scopes.{Slices}
 use Rattle.format.proofs.path.put_slice.Given as goal
 
-abbrev pub invariant-loop-i : goal.invariant-loop-i
-invariant-loop-i l = (length l.out ≡ length l.initial.out) × Slices (becomes l.m) l.dots l.p (emit (l.initial.out ▸ l.at) (flat (becomes l.m) (as_dots l.dots l.p))) (l.out ▸ l.o) l.i
-
-abbrev pub decreases-loop-i : goal.decreases-loop-i
-decreases-loop-i l = length l.p - l.i
+abbrev pub invariant-loop-b : goal.invariant-loop-b
+invariant-loop-b l = SameRoom l.initial.to l.to × Slices (becomes l.m) l.dots l.p (emit (shown l.initial.to) (flat (becomes l.m) (as_dots l.dots l.p))) (shown l.to) l.b-index

@@ -1,14 +1,8 @@
 -- `generate::front::glue_front` meets its contract. Assumes nothing.
-use mathlib.Core.Path.{refl}
-use Rattle.switches.specs.Asked.{orders_switches}
-use Rattle.generate.proofs.Fronts.{glue_front_told}
+use Rattle.std.proofs.Common.{rules, sym}
+use Rattle.generate.specs.Steps.{GlueFronts}
+use Rattle.generate.proofs.Bridged.{bridged}
 use Rattle.generate.proofs.front.glue_front.Goals as goal
 
-pub switches_glue-c-requires : goal.switches_glue-c-requires
-switches_glue-c-requires c = orders_switches c.args.files.now c.args.area.now c.args.nums.now c.args.s c.requires.0
-
-pub processes-requires : goal.processes-requires
-processes-requires c = c.requires.1.1
-
 pub returns : goal.returns
-returns c = glue_front_told c.args.job.now c.args.nums.now c.args.files.now c.args.area.now c.args.path.now c.args.from c.args.top.now c.args.s c.args.nets.now c.args.n c.requires.1.0 c.requires.0 c.args.ports.now c.args.m c.args.s.switches c.args.s.isolations _ _ _ _ _ c.processes.ensures c.switches_glue-c.ensures c.net_blocks-b.ensures c.put-a.ensures refl refl
+returns c = bridged (GlueFronts c.args.job.now c.args.nums.now c.args.files.now c.args.area.now c.args.path.now c.args.from c.args.top.now c.args.s c.args.ports.now c.args.m) _ _ _ _ c.put_glue.ensures.front (sym c.over-to.ensures.from) (search rules)

@@ -1,11 +1,8 @@
 -- `generate::front::report_front` meets its contract. Assumes nothing.
-use mathlib.Core.Path.{refl}
-use Rattle.switches.specs.Asked.{orders_names}
-use Rattle.generate.proofs.Fronts.{report_front_told}
+use Rattle.std.proofs.Common.{rules, sym}
+use Rattle.generate.specs.Steps.{ReportFronts}
+use Rattle.generate.proofs.Bridged.{bridged}
 use Rattle.generate.proofs.front.report_front.Goals as goal
 
-pub switch_lines-requires : goal.switch_lines-requires
-switch_lines-requires c = orders_names c.args.files.now c.args.area.now c.args.nums.now c.args.s c.requires.1.0
-
 pub returns : goal.returns
-returns c = report_front_told c.args.job.now c.args.nums.now c.args.files.now c.args.area.now c.args.path.now c.args.from c.args.top.now c.args.s c.args.nets.now c.args.n c.requires.1.1 c.args.k _ _ c.place-name.ensures c.place-len.ensures c.args.s.switches _ _ _ c.switch_lines.ensures refl c.scope_line-a.ensures
+returns c = bridged (ReportFronts c.args.job.now c.args.nums.now c.args.k c.args.files.now c.args.area.now c.args.path.now c.args.from c.args.top.now c.args.s) _ _ _ _ c.put_report.ensures.front (sym c.over-to.ensures.from) (search rules)

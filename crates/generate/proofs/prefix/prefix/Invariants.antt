@@ -4,8 +4,8 @@ use lib.ListN.{length}
 use Rattle.generate.proofs.Prefixes.{Adding}
 use Rattle.generate.proofs.prefix.prefix.Given as goal
 
-abbrev pub invariant-loop-at : goal.invariant-loop-at
-invariant-loop-at l = Adding l.path l.from l.n l.i
+abbrev pub invariant-loop-part : goal.invariant-loop-part
+invariant-loop-part l = Adding l.path l.from l.n l.i
 
-abbrev pub decreases-loop-at : goal.decreases-loop-at
-decreases-loop-at l = length l.path - l.i
+abbrev pub decreases-loop-part : goal.decreases-loop-part
+decreases-loop-part l = length l.path - l.i

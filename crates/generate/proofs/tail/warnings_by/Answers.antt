@@ -3,6 +3,7 @@ use mathlib.Core.Path.{refl}
 use mathlib.Core.Bool.{true}
 use native.Mathlib.Omega.{arith}
 use Rattle.generate.proofs.Isolates.{asks_isolates, isolated_few}
+use Rattle.std.proofs.Common.{rules}
 use Rattle.generate.proofs.Tails.{switches_asked, warned_low, domains_asked, sum_low, warned_over, all_warned}
 use Rattle.generate.proofs.tail.warnings_by.Goals as goal
 
@@ -22,4 +23,4 @@ pub domain_warnings-requires : goal.domain_warnings-requires
 domain_warnings-requires c = ((c.requires.0.few, c.requires.0.row), (domains_asked c.args.job.now c.args.nums.now c.args.count c.args.k c.args.files.now c.args.area.now c.args.path.now c.args.s c.requires.0 c.args.s.domains refl, sum_low _ _ _ _ _ _ c.switch_warnings-b.ensures (warned_low c.args.job.now c.args.nums.now c.args.count c.args.k c.args.files.now c.args.area.now c.args.path.now c.args.s c.requires.0 c.args.s.fill refl) (isolated_few c.args.job.now c.args.nums.now c.args.count c.args.k c.args.files.now c.args.area.now c.args.s true _ _ _ _ c.isolate-c.ensures c.if-c.false)))
 
 pub returns : goal.returns
-returns c = all_warned c.args.job.now c.args.nums.now c.args.count c.args.k c.args.files.now c.args.area.now c.args.path.now c.args.from c.args.top.now c.args.s c.requires.0 c.args.s.fill refl c.args.s.switches refl c.args.s.domains refl _ _ _ _ _ _ _ _ _ c.read_warnings-a.ensures c.switch_warnings-b.ensures c.isolate-c.ensures c.if-c.false c.domain_warnings.ensures
+returns c = all_warned c.args.job.now c.args.nums.now c.args.count c.args.k c.args.files.now c.args.area.now c.args.path.now c.args.from c.args.top.now c.args.s c.requires.0 c.args.s.fill refl c.args.s.switches refl c.args.s.domains refl _ _ _ _ _ _ _ _ _ (search rules) c.switch_warnings-b.ensures c.isolate-c.ensures c.if-c.false c.domain_warnings.ensures

@@ -1,5 +1,4 @@
 -- `modtable::inputs::is_listed` meets its contract: whether the name is one of those left. Assumes nothing.
-use Prim.Native.Nat.{◌-◌}
 use Rattle.jobindex.specs.Index.{rows}
 use Rattle.design.specs.Lists.{is_in}
 use Rattle.modtable.specs.Table.{input_in}
@@ -8,6 +7,3 @@ use Rattle.modtable.proofs.inputs.is_listed.Given as goal
 
 abbrev pub invariant-loop-i : goal.invariant-loop-i
 invariant-loop-i l = Among l.job l.inputs l.n l.name (is_in l.name (rows (input_in l.job l.inputs) l.n)) l.i
-
-abbrev pub decreases-loop-i : goal.decreases-loop-i
-decreases-loop-i l = l.n - l.i

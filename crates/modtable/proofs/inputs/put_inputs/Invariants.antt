@@ -1,11 +1,11 @@
 -- `modtable::inputs::put_inputs` meets its contract: the ports stored so far, and those behind the cursor, are all. Assumes nothing.
 use lib.ListN.{length}
 use Rattle.ports.specs.Cursors.{inputs_from}
-use Rattle.modtable.proofs.Listed.{InputsOn, inputs}
+use Rattle.modtable.proofs.Listed.{InputsOn}
 use Rattle.modtable.proofs.inputs.put_inputs.Given as goal
 
-abbrev pub invariant-loop-name : goal.invariant-loop-name
-invariant-loop-name l = InputsOn l.job l.index l.k l.initial.inputs l.inputs l.i l.c
+abbrev pub invariant-loop-own : goal.invariant-loop-own
+invariant-loop-own l = InputsOn l.job l.index l.k l.initial.inputs l.inputs l.i l.c
 
-abbrev pub decreases-loop-name : goal.decreases-loop-name
-decreases-loop-name l = length (inputs_from l.job l.index l.k l.c)
+abbrev pub decreases-loop-own : goal.decreases-loop-own
+decreases-loop-own l = length (inputs_from l.job l.index l.k l.c)

@@ -1,10 +1,6 @@
 -- `modtable::make::make` meets its contract: the modules before k are stored. Assumes nothing.
-use Prim.Native.Nat.{◌-◌}
 use Rattle.modtable.proofs.Modules.{Made}
 use Rattle.modtable.proofs.make.make.Given as goal
 
 abbrev pub invariant-loop-k : goal.invariant-loop-k
 invariant-loop-k l = Made l.job l.index l.count l.initial.inputs l.inputs l.initial.table l.table l.k
-
-abbrev pub decreases-loop-k : goal.decreases-loop-k
-decreases-loop-k l = l.count - l.k

@@ -4,8 +4,8 @@ use Rattle.ports.specs.Cursors.{candidates_from}
 use Rattle.modtable.proofs.Names.{NamesOn}
 use Rattle.modtable.proofs.make.put_names.Given as goal
 
-abbrev pub invariant-loop-name : goal.invariant-loop-name
-invariant-loop-name l = NamesOn l.job l.index l.k l.inputs l.n l.initial.table l.table l.i l.c
+abbrev pub invariant-loop-own : goal.invariant-loop-own
+invariant-loop-own l = NamesOn l.job l.index l.k l.inputs l.n l.initial.table l.table l.i l.c
 
-abbrev pub decreases-loop-name : goal.decreases-loop-name
-decreases-loop-name l = length (candidates_from l.job l.index l.k l.c)
+abbrev pub decreases-loop-own : goal.decreases-loop-own
+decreases-loop-own l = length (candidates_from l.job l.index l.k l.c)

@@ -1,51 +1,22 @@
-use mathlib.Core.Path.{refl}
-use Rattle.names.proofs.Streams.{dotteds}
+-- `names::compare::is_dotted` meets its contract. Assumes nothing.
+use Rattle.std.specs.Prelude.{◌≡◌, ◌++◌}
+use Rattle.std.proofs.Common.{refl, ◌∙◌, ap, sym, rules}
+use Rattle.std.specs.Iterator.Adapters.{copied_source}
+use Rattle.std.specs.Slice.Iter.{iter_rest}
+use Rattle.std.proofs.lemmas.Iterator.{YieldsList-from_map, YieldsList-from_slice}
+use Rattle.std.proofs.lemmas.Iterator.Consumers.{YieldsList-from_first, YieldsList-from_copied, YieldsList-at}
+use Rattle.text.specs.Classes.{dot_of}
+use Rattle.text.specs.Compare.{same}
+use Rattle.text.proofs.Streams.{same_from_yields_List}
+use Rattle.names.specs.Name.{name_of}
+use Rattle.names.specs.Laws.{dotted_map}
+use Rattle.names.specs.Stream.{left_of}
 use Rattle.names.proofs.compare.is_dotted.Goals as goal
 
-pub loop-i-init : goal.loop-i-init
-loop-i-init c = record { keeps = refl }
-
-pub next-requires : goal.next-requires
-next-requires c = search dotteds
-
-pub enum_told-1 : goal.enum_told-1
-enum_told-1 c = search dotteds
-
-pub returns-in-End : goal.returns-in-End
-returns-in-End c = search dotteds
-
-pub enum_known-b : goal.enum_known-b
-enum_known-b c = search dotteds
-
-pub dot-requires : goal.dot-requires
-dot-requires c = search dotteds
-
-pub bounds-w-i : goal.bounds-w-i
-bounds-w-i c = search dotteds
-
-pub returns-then-dot-w : goal.returns-then-dot-w
-returns-then-dot-w c = search dotteds
-
-pub overflow_add-i : goal.overflow_add-i
-overflow_add-i c = search dotteds
-
-pub loop-i-smaller : goal.loop-i-smaller
-loop-i-smaller c = search dotteds
-
-pub loop-i-preserved : goal.loop-i-preserved
-loop-i-preserved c = search dotteds
-
-pub next-requires-2 : goal.next-requires-2
-next-requires-2 c = search dotteds
-
-pub enum_told-in-End-next : goal.enum_told-in-End-next
-enum_told-in-End-next c = search dotteds
-
-pub enum_told-in-Byte-next : goal.enum_told-in-Byte-next
-enum_told-in-Byte-next c = search dotteds
-
-pub returns-in-End-next : goal.returns-in-End-next
-returns-in-End-next c = search dotteds
-
-pub returns-in-Byte-next : goal.returns-in-Byte-next
-returns-in-Byte-next c = search dotteds
+pub returns : goal.returns
+returns c =
+    let name = name_of (c.args.files.now ++ c.args.area.now) c.args.n in
+    same_from_yields_List (λ x t. t ≡ x) c.copied.result c.eq.result c.eq.ensures.ran
+    (YieldsList-from_map _ dot_of (YieldsList-at c.map.ensures.source (YieldsList-from_first (λ x. x) left_of name refl)) c.map.ensures.closure (λ x r q k. search rules))
+    (λ t e. YieldsList-from_copied (YieldsList-from_slice c.args.w.now (ap (λ u. iter_rest (copied_source u)) e ∙ ap iter_rest c.copied.ensures.source ∙ c.iter.ensures.rest)))
+    ∙ ap (λ p. same p c.args.w.now) (sym (dotted_map name))

@@ -1,39 +1,7 @@
-use mathlib.Core.Path.{refl}
-use Rattle.names.proofs.Streams.{lesses}
+-- `names::compare::less_streams` meets its contract. Assumes nothing.
+use Rattle.text.proofs.Streams.{streams_less}
+use Rattle.names.specs.Stream.{left_of}
 use Rattle.names.proofs.compare.less_streams.Goals as goal
 
-pub loop-q-init : goal.loop-q-init
-loop-q-init c = record { keeps = refl }
-
-pub next-requires : goal.next-requires
-next-requires c = search lesses
-
-pub enum_told-1 : goal.enum_told-1
-enum_told-1 c = search lesses
-
-pub returns-in-End : goal.returns-in-End
-returns-in-End c = search lesses
-
-pub enum_known-q : goal.enum_known-q
-enum_known-q c = search lesses
-
-pub next-requires-in-Byte : goal.next-requires-in-Byte
-next-requires-in-Byte c = search lesses
-
-pub enum_told-in-End-next : goal.enum_told-in-End-next
-enum_told-in-End-next c = search lesses
-
-pub returns-in-End-next : goal.returns-in-End-next
-returns-in-End-next c = search lesses
-
-pub enum_known-p : goal.enum_known-p
-enum_known-p c = search lesses
-
-pub returns-then-p-q : goal.returns-then-p-q
-returns-then-p-q c = search lesses
-
-pub loop-q-smaller : goal.loop-q-smaller
-loop-q-smaller c = search lesses
-
-pub loop-q-preserved : goal.loop-q-preserved
-loop-q-preserved c = search lesses
+pub returns : goal.returns
+returns c = streams_less left_of left_of _ _ c.lt.result c.lt.ensures.ran

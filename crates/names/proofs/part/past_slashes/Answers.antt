@@ -2,26 +2,14 @@ use mathlib.Core.Path.{refl}
 use Rattle.names.proofs.Parted.{trims}
 use Rattle.names.proofs.part.past_slashes.Goals as goal
 
-pub loop-x-init : goal.loop-x-init
-loop-x-init c = record { keeps = refl }
-
-pub next-requires : goal.next-requires
-next-requires c = search trims
-
-pub enum_told-1 : goal.enum_told-1
-enum_told-1 c = search trims
-
-pub returns-in-End : goal.returns-in-End
-returns-in-End c = search trims
-
-pub enum_known-b : goal.enum_known-b
-enum_known-b c = search trims
+pub loop-b-init : goal.loop-b-init
+loop-b-init c = record { keeps = refl }
 
 pub returns-then-b-ne47 : goal.returns-then-b-ne47
 returns-then-b-ne47 c = search trims
 
-pub loop-x-smaller : goal.loop-x-smaller
-loop-x-smaller c = search trims
+pub loop-b-preserved : goal.loop-b-preserved
+loop-b-preserved c = search trims
 
-pub loop-x-preserved : goal.loop-x-preserved
-loop-x-preserved c = search trims
+pub returns : goal.returns
+returns c = search trims

@@ -6,8 +6,8 @@ use Rattle.names.specs.Parts.{unslashed}
 use Rattle.names.proofs.Parted.{Trims}
 use Rattle.names.proofs.part.past_slashes.Given as goal
 
-abbrev pub invariant-loop-x : goal.invariant-loop-x
-invariant-loop-x l = Trims (l.files ++ l.area) (unslashed (name_of (l.files ++ l.area) l.initial.x)) l.x
+abbrev pub invariant-loop-b : goal.invariant-loop-b
+invariant-loop-b l = Trims (l.files ++ l.area) (unslashed (name_of (l.files ++ l.area) l.initial.x)) l.x
 
-abbrev pub decreases-loop-x : goal.decreases-loop-x
-decreases-loop-x l = length (name_of (l.files ++ l.area) l.x)
+abbrev pub decreases-loop-b : goal.decreases-loop-b
+decreases-loop-b l = length (name_of (l.files ++ l.area) l.x)

@@ -1,14 +1,9 @@
 -- `names::part::stepped_part` meets its contract: what is left of the first part is what is left of w. Assumes nothing.
-use Prim.Native.Nat.{◌-◌}
 use mathlib.Core.List.{◌++◌}
-use lib.ListN.{length}
 use Rattle.names.specs.Name.{name_of}
 use Rattle.names.specs.Parts.{parts, behind}
 use Rattle.names.proofs.Parted.{Takes}
 use Rattle.names.proofs.part.stepped_part.Given as goal
 
-abbrev pub invariant-loop-i : goal.invariant-loop-i
-invariant-loop-i l = Takes (l.files ++ l.area) l.w (behind l.w (parts (name_of (l.files ++ l.area) l.initial.x))) l.x l.i
-
-abbrev pub decreases-loop-i : goal.decreases-loop-i
-decreases-loop-i l = length l.w - l.i
+abbrev pub invariant-loop-c : goal.invariant-loop-c
+invariant-loop-c l = Takes (l.files ++ l.area) l.w (behind l.w (parts (name_of (l.files ++ l.area) l.initial.x))) l.x l.c-index

@@ -5,5 +5,5 @@ use Rattle.names.proofs.put.put_span.Goals as goal
 pub returns-then-s-eq0 : goal.returns-then-s-eq0
 returns-then-s-eq0 c = search written
 
-pub returns-then-s-minus : goal.returns-then-s-minus
-returns-then-s-minus c = search written
+pub returns-then-s-saturating_sub : goal.returns-then-s-saturating_sub
+returns-then-s-saturating_sub c = search written

@@ -1,22 +1,22 @@
 use Rattle.text.specs.Cases.{cases}
 use Rattle.out.proofs.template.picked.Goals as goal
 
-pub returns-then-j-eq0 : goal.returns-then-j-eq0
+pub returns-in-0 : goal.returns-in-0
 unfolding Rattle.out.specs.Fill.pick
-returns-then-j-eq0 c = search cases
+returns-in-0 c = search cases
 
-pub returns-then-j-eq1 : goal.returns-then-j-eq1
+pub returns-in-1 : goal.returns-in-1
 unfolding Rattle.out.specs.Fill.pick
-returns-then-j-eq1 c = search cases
+returns-in-1 c = search cases
 
-pub returns-then-j-eq2 : goal.returns-then-j-eq2
+pub returns-in-2 : goal.returns-in-2
 unfolding Rattle.out.specs.Fill.pick
-returns-then-j-eq2 c = search cases
+returns-in-2 c = search cases
 
-pub returns-then-j-eq3 : goal.returns-then-j-eq3
+pub returns-in-3 : goal.returns-in-3
 unfolding Rattle.out.specs.Fill.pick
-returns-then-j-eq3 c = search cases
+returns-in-3 c = search cases
 
-pub returns : goal.returns
+pub returns-in_default : goal.returns-in_default
 unfolding Rattle.out.specs.Fill.pick
-returns c = search cases
+returns-in_default c = search cases

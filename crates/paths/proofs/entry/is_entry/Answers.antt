@@ -1,47 +1,22 @@
-use Rattle.paths.proofs.Entries.{entries}
+-- `paths::entry::is_entry` meets its contract. Assumes nothing.
+use Rattle.std.specs.Prelude.{◌≡◌, ◌++◌}
+use Rattle.std.proofs.Common.{refl, ◌∙◌, ap, rules}
+use Rattle.std.specs.Iterator.Adapters.{copied_source}
+use Rattle.std.specs.Slice.Iter.{iter_rest}
+use Rattle.std.proofs.lemmas.Iterator.{YieldsList-from_map, YieldsList-from_slice}
+use Rattle.std.proofs.lemmas.Iterator.Consumers.{YieldsList-from_first, YieldsList-from_copied, YieldsList-from_chain, YieldsList-at}
+use Rattle.text.specs.Classes.{dot_of}
+use Rattle.text.proofs.Streams.{same_from_yields_List}
+use Rattle.names.specs.Name.{name_of}
+use Rattle.names.specs.Stream.{left_of}
 use Rattle.paths.proofs.entry.is_entry.Goals as goal
 
-pub loop-p-init : goal.loop-p-init
-loop-p-init c = search entries
-
-pub next-requires : goal.next-requires
-next-requires c = search entries
-
-pub enum_told-1 : goal.enum_told-1
-enum_told-1 c = search entries
-
-pub is_dotted-requires : goal.is_dotted-requires
-is_dotted-requires c = search entries
-
-pub returns-in-End : goal.returns-in-End
-returns-in-End c = search entries
-
-pub enum_known-p : goal.enum_known-p
-enum_known-p c = search entries
-
-pub next-requires-in-Byte : goal.next-requires-in-Byte
-next-requires-in-Byte c = search entries
-
-pub enum_told-in-End-next : goal.enum_told-in-End-next
-enum_told-in-End-next c = search entries
-
-pub returns-in-End-next : goal.returns-in-End-next
-returns-in-End-next c = search entries
-
-pub enum_known-q : goal.enum_known-q
-enum_known-q c = search entries
-
-pub dot-requires : goal.dot-requires
-dot-requires c = search entries
-
-pub dot-requires-in-Byte-next : goal.dot-requires-in-Byte-next
-dot-requires-in-Byte-next c = search entries
-
-pub returns-then-dot : goal.returns-then-dot
-returns-then-dot c = search entries
-
-pub loop-p-smaller : goal.loop-p-smaller
-loop-p-smaller c = search entries
-
-pub loop-p-preserved : goal.loop-p-preserved
-loop-p-preserved c = search entries
+pub returns : goal.returns
+returns c =
+    let mem = c.args.files.now ++ c.args.area.now in
+    same_from_yields_List (λ x t. t ≡ x) c.map-entry.result c.eq.result c.eq.ensures.ran
+    (YieldsList-from_chain
+    (YieldsList-at c.chain.ensures.first (YieldsList-from_map _ dot_of (YieldsList-at c.map-element.ensures.source (YieldsList-from_first (λ x. x) left_of (name_of mem c.args.e) refl)) c.map-element.ensures.closure (λ x r q k. search rules)))
+    (YieldsList-at c.chain.ensures.second (YieldsList-from_copied (YieldsList-from_slice c.args.tail.now (ap iter_rest c.copied.ensures.source ∙ c.iter.ensures.rest))))
+    (cc) (cc))
+    (λ t e. YieldsList-at e (YieldsList-from_map _ dot_of (YieldsList-at c.map-entry.ensures.source (YieldsList-from_first (λ x. x) left_of (name_of mem c.args.y) refl)) c.map-entry.ensures.closure (λ x r q k. search rules)))

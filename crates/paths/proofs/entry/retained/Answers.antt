@@ -16,12 +16,6 @@ is_entry-requires c = search amongs
 pub returns-then-is_entry : goal.returns-then-is_entry
 returns-then-is_entry c = search amongs
 
-pub overflow_add-k : goal.overflow_add-k
-overflow_add-k c = search amongs
-
-pub loop-k-smaller : goal.loop-k-smaller
-loop-k-smaller c = search amongs
-
 pub loop-k-preserved : goal.loop-k-preserved
 loop-k-preserved c = search amongs
 

@@ -12,6 +12,3 @@ use Rattle.paths.proofs.entry.retained.Given as goal
 
 abbrev pub invariant-loop-k : goal.invariant-loop-k
 invariant-loop-k l = Among (l.files ++ l.area) (dotted (name_of (l.files ++ l.area) l.e) ++ l.tail) l.table l.n (is_in (dotted (name_of (l.files ++ l.area) l.e) ++ l.tail) (retained_paths [] (entries_below l.below (table_names (l.files ++ l.area) l.table l.n)))) l.k
-
-abbrev pub decreases-loop-k : goal.decreases-loop-k
-decreases-loop-k l = l.n - l.k

@@ -1,26 +1,8 @@
-use Rattle.paths.proofs.Entries.{counts}
+-- `paths::entry::size` meets its contract: a name is not too long to count. Assumes nothing.
+use Rattle.std.specs.Prelude.{◌++◌}
+use Rattle.std.proofs.Common.{arith, length-append, inl}
+use Rattle.paths.specs.Sizes.{name_short}
 use Rattle.paths.proofs.entry.size.Goals as goal
 
-pub loop-u-init : goal.loop-u-init
-loop-u-init c = search counts
-
-pub next-requires : goal.next-requires
-next-requires c = search counts
-
-pub enum_told-1 : goal.enum_told-1
-enum_told-1 c = search counts
-
-pub returns-in-End : goal.returns-in-End
-returns-in-End c = search counts
-
-pub enum_known-u : goal.enum_known-u
-enum_known-u c = search counts
-
-pub overflow_add-i : goal.overflow_add-i
-overflow_add-i c = search counts
-
-pub loop-u-smaller : goal.loop-u-smaller
-loop-u-smaller c = search counts
-
-pub loop-u-preserved : goal.loop-u-preserved
-loop-u-preserved c = search counts
+pub count-requires-clause-fits : goal.count-requires-clause-fits
+count-requires-clause-fits c = inl (omega (arith, c.requires, name_short (c.args.files.now ++ c.args.area.now) c.args.n, length-append c.args.files.now c.args.area.now))

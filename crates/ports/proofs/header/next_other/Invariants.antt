@@ -7,8 +7,8 @@ use Prim.Native.Nat.{◌-◌}
 use mathlib.Core.Path.{◌≡◌}
 use Rattle.ports.proofs.header.next_other.Given as goal
 
-abbrev pub invariant-loop-dir : goal.invariant-loop-dir
-invariant-loop-dir l = others_by Bool.false (ports_in (section l.job l.at l.end)) ≡ others_by l.o (ports_in (section l.job l.i l.end))
+abbrev pub invariant-loop-port : goal.invariant-loop-port
+invariant-loop-port l = others_by Bool.false (ports_in (section l.job l.at l.end)) ≡ others_by l.o (ports_in (section l.job l.i l.end))
 
-abbrev pub decreases-loop-dir : goal.decreases-loop-dir
-decreases-loop-dir l = l.end - l.i
+abbrev pub decreases-loop-port : goal.decreases-loop-port
+decreases-loop-port l = l.end - l.i

@@ -6,8 +6,8 @@ use Prim.Native.Nat.{◌-◌}
 use mathlib.Core.Path.{◌≡◌}
 use Rattle.ports.proofs.header.next_output.Given as goal
 
-abbrev pub invariant-loop-dir : goal.invariant-loop-dir
-invariant-loop-dir l = Passed l.job l.at l.i × (outputs_by l.out (ports_in (section l.job l.at l.end)) ≡ outputs_by l.o (ports_in (section l.job l.i l.end)))
+abbrev pub invariant-loop-port : goal.invariant-loop-port
+invariant-loop-port l = Passed l.job l.at l.i × (outputs_by l.out (ports_in (section l.job l.at l.end)) ≡ outputs_by l.o (ports_in (section l.job l.i l.end)))
 
-abbrev pub decreases-loop-dir : goal.decreases-loop-dir
-decreases-loop-dir l = l.end - l.i
+abbrev pub decreases-loop-port : goal.decreases-loop-port
+decreases-loop-port l = l.end - l.i

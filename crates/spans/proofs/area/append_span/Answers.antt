@@ -2,26 +2,14 @@
 use Rattle.spans.proofs.Spans.{owns}
 use Rattle.spans.proofs.area.append_span.Goals as goal
 
-pub part-p-requires : goal.part-p-requires
-part-p-requires c = search owns
-
 pub append-e-requires : goal.append-e-requires
 append-e-requires c = search owns
-
-pub own-q-requires : goal.own-q-requires
-own-q-requires c = search owns
-
-pub shape_of-area-then-q-eq0 : goal.shape_of-area-then-q-eq0
-shape_of-area-then-q-eq0 c = search owns
 
 pub returns-then-q-eq0 : goal.returns-then-q-eq0
 returns-then-q-eq0 c = search owns
 
 pub append_own-requires : goal.append_own-requires
 append_own-requires c = search owns
-
-pub shape_of-area : goal.shape_of-area
-shape_of-area c = search owns
 
 pub returns : goal.returns
 returns c = search owns

@@ -28,9 +28,3 @@ shape_of-area-in-None c = search images
 
 pub returns-in-None : goal.returns-in-None
 returns-in-None c = search images
-
-pub shape_of-area-in-At : goal.shape_of-area-in-At
-shape_of-area-in-At c = search images
-
-pub returns-in-At : goal.returns-in-At
-returns-in-At c = search images

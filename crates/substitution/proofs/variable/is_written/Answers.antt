@@ -8,18 +8,6 @@ loop-b-init c = record { keeps = refl }
 pub first-requires : goal.first-requires
 first-requires c = search nameds
 
-pub enum_told-1 : goal.enum_told-1
-enum_told-1 c = search nameds
-
-pub returns-in-No : goal.returns-in-No
-returns-in-No c = search nameds
-
-pub enum_known-b : goal.enum_known-b
-enum_known-b c = search nameds
-
-pub returns-then-over : goal.returns-then-over
-returns-then-over c = search nameds
-
 pub dropped-e-requires : goal.dropped-e-requires
 dropped-e-requires c = search nameds
 
@@ -35,9 +23,6 @@ returns-then-body-k c = search nameds
 pub overflow_add-i : goal.overflow_add-i
 overflow_add-i c = search nameds
 
-pub overflow_add-i-in-Yes : goal.overflow_add-i-in-Yes
-overflow_add-i-in-Yes c = search nameds
-
 pub overflow_sub-left : goal.overflow_sub-left
 overflow_sub-left c = search nameds
 
@@ -46,3 +31,9 @@ loop-b-smaller c = search nameds
 
 pub loop-b-preserved : goal.loop-b-preserved
 loop-b-preserved c = search nameds
+
+pub returns-then-left-body : goal.returns-then-left-body
+returns-then-left-body c = search nameds
+
+pub returns : goal.returns
+returns c = search nameds

@@ -3,8 +3,6 @@ use mathlib.Core.List.{◌++◌}
 use lib.ListN.{drop, length, take}
 use Rattle.substitution.proofs.Names.{Named}
 use Rattle.substitution.specs.Written.{written}
-use Rattle.tcl.specs.Substitution.{known}
-use Rattle.substitution.proofs.Writing.{left}
 use Rattle.spans.specs.Span.{bytes}
 use Rattle.text.specs.Compare.{same}
 use Rattle.substitution.proofs.variable.is_written.Given as goal

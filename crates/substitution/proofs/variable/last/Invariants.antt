@@ -4,7 +4,7 @@ use mathlib.Core.List.{◌++◌}
 use lib.ListN.{drop, take}
 use Rattle.substitution.proofs.Names.{Looks}
 use Rattle.substitution.specs.Written.{written}
-use Rattle.tcl.specs.Substitution.{known, lookup}
+use Rattle.tcl.specs.Substitution.{lookup}
 use Rattle.substitution.specs.Stored.{variables}
 use Rattle.substitution.proofs.variable.last.Given as goal
 

@@ -2,8 +2,8 @@
 use Rattle.supplies.proofs.Tables.{named_none, named_some}
 use Rattle.supplies.proofs.nets.add_named.Goals as goal
 
-pub returns-in-End : goal.returns-in-End
-returns-in-End c = search named_none
+pub returns-in-None : goal.returns-in-None
+returns-in-None c = search named_none
 
-pub returns-in-Byte : goal.returns-in-Byte
-returns-in-Byte c = search named_some
+pub returns-in-Some : goal.returns-in-Some
+returns-in-Some c = search named_some

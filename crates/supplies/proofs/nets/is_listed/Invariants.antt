@@ -9,6 +9,3 @@ use Rattle.supplies.proofs.nets.is_listed.Given as goal
 
 abbrev pub invariant-loop-k : goal.invariant-loop-k
 invariant-loop-k l = Looks (l.files ++ l.area) l.table l.n (name_of (l.files ++ l.area) l.x) (is_in (name_of (l.files ++ l.area) l.x) (table_names (l.files ++ l.area) l.table l.n)) l.k
-
-abbrev pub decreases-loop-k : goal.decreases-loop-k
-decreases-loop-k l = l.n - l.k

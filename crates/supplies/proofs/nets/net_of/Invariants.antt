@@ -6,6 +6,3 @@ use Rattle.supplies.proofs.nets.net_of.Given as goal
 
 abbrev pub invariant-loop-k : goal.invariant-loop-k
 invariant-loop-k l = (l.k ≤ l.rows) × Nets (l.files ++ l.area) l.nums l.p l.net l.k
-
-abbrev pub decreases-loop-k : goal.decreases-loop-k
-decreases-loop-k l = l.rows - l.k

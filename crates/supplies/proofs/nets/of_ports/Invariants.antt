@@ -6,7 +6,4 @@ use Rattle.supplies.proofs.Tables.{Ported}
 use Rattle.supplies.proofs.nets.of_ports.Given as goal
 
 abbrev pub invariant-loop-i : goal.invariant-loop-i
-invariant-loop-i l = (l.i ≤ l.m) × Ported (l.files ++ l.area) (rows_in l.nums l.rows) l.t l.initial.table l.n l.table l.k l.i
-
-abbrev pub decreases-loop-i : goal.decreases-loop-i
-decreases-loop-i l = l.m - l.i
+invariant-loop-i l = (l.i ≤ l.t.n) × Ported (l.files ++ l.area) (rows_in l.nums l.rows) l.t l.initial.table l.n l.table l.k l.i

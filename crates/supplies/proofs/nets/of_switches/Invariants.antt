@@ -5,7 +5,4 @@ use Rattle.supplies.proofs.Tables.{Switched}
 use Rattle.supplies.proofs.nets.of_switches.Given as goal
 
 abbrev pub invariant-loop-i : goal.invariant-loop-i
-invariant-loop-i l = (l.i ≤ l.m) × Switched (l.files ++ l.area) l.t l.initial.table l.n l.table l.k l.i
-
-abbrev pub decreases-loop-i : goal.decreases-loop-i
-decreases-loop-i l = l.m - l.i
+invariant-loop-i l = (l.i ≤ l.t.n) × Switched (l.files ++ l.area) l.t l.initial.table l.n l.table l.k l.i

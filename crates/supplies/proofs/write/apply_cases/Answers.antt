@@ -3,4 +3,4 @@ use Rattle.supplies.proofs.Written.{cases_are}
 use Rattle.supplies.proofs.write.apply_cases.Goals as goal
 
 pub returns : goal.returns
-returns c = cases_are _ _ _ _ c.cases.ensures
+returns c = (c.cases.ensures.0, cases_are _ _ _ _ c.cases.ensures.1)

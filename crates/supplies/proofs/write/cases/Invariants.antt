@@ -3,7 +3,8 @@ use Prim.Native.Nat.{◌-◌}
 use mathlib.Core.Path.{◌≡◌}
 use lib.ListN.{length}
 use mathlib.Core.List.{◌++◌}
-use Rattle.out.specs.Emit.{emit, ◌▸◌}
+use Rattle.out.specs.Emit.{emit}
+use Rattle.out.specs.Text.{shown, SameRoom}
 use Rattle.out.specs.Items.{each}
 use Rattle.nametable.specs.Table.{table_names}
 use Rattle.scope.specs.Parts.{parts}
@@ -12,7 +13,4 @@ use Rattle.supplies.proofs.Written.{Each}
 use Rattle.supplies.proofs.write.cases.Given as goal
 
 abbrev pub invariant-loop-k : goal.invariant-loop-k
-invariant-loop-k l = (length l.out ≡ length l.initial.out) × Each (case_of l.t l.top (parts l.over l.from)) (l.files ++ l.area) l.table l.n (emit (l.initial.out ▸ l.at) (each (case_of l.t l.top (parts l.over l.from)) (table_names (l.files ++ l.area) l.table l.n))) (l.out ▸ l.o) l.k
-
-abbrev pub decreases-loop-k : goal.decreases-loop-k
-decreases-loop-k l = l.n - l.k
+invariant-loop-k l = SameRoom l.initial.to l.to × Each (case_of l.t l.top (parts l.over l.from)) (l.files ++ l.area) l.table l.n (emit (shown l.initial.to) (each (case_of l.t l.top (parts l.over l.from)) (table_names (l.files ++ l.area) l.table l.n))) (shown l.to) l.k

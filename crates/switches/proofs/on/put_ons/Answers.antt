@@ -11,11 +11,11 @@ overflow_add-first c = search ons_fits
 pub word_at-v-requires : goal.word_at-v-requires
 word_at-v-requires c = search ons_low
 
-pub put_one-o-requires : goal.put_one-o-requires
-put_one-o-requires c = search (ons_small, ons_rows, ons_whole)
+pub put_one-requires : goal.put_one-requires
+put_one-requires c = search (ons_small, ons_rows, ons_whole)
 
 pub loop-k-preserved : goal.loop-k-preserved
-loop-k-preserved c = (search rules, search ons_step)
+loop-k-preserved c = (cc, search ons_step)
 
 pub returns : goal.returns
 returns c = search ons_done

@@ -3,7 +3,8 @@ use Prim.Native.Nat.{◌-◌}
 use mathlib.Core.Path.{◌≡◌}
 use lib.ListN.{length}
 use mathlib.Core.List.{◌++◌, map}
-use Rattle.out.specs.Emit.{emit, ◌▸◌}
+use Rattle.out.specs.Emit.{emit}
+use Rattle.out.specs.Text.{shown, SameRoom}
 use Rattle.nametable.specs.Table.{table_names}
 use Rattle.model.specs.Commands.{controls_of}
 use Rattle.scope.specs.Parts.{parts}
@@ -15,7 +16,4 @@ use Rattle.switches.proofs.Ons.{OnLoop}
 use Rattle.switches.proofs.on.put_ons.Given as goal
 
 abbrev pub invariant-loop-k : goal.invariant-loop-k
-invariant-loop-k l = (length l.out ≡ length l.initial.out) × OnLoop (scope_setting (parts l.over l.from)) (controls_of (table_names (l.files ++ l.area) l.controls l.count)) (l.files ++ l.area) l.nums l.first l.n l.sep (emit (l.initial.out ▸ l.at) (joined l.sep (map (on_text (scope_setting (parts l.over l.from)) (controls_of (table_names (l.files ++ l.area) l.controls l.count))) (ons_from (l.files ++ l.area) l.nums l.first l.n)))) (l.out ▸ l.o) l.k
-
-abbrev pub decreases-loop-k : goal.decreases-loop-k
-decreases-loop-k l = l.n - l.k
+invariant-loop-k l = SameRoom l.initial.to l.to × OnLoop (scope_setting (parts l.over l.from)) (controls_of (table_names (l.files ++ l.area) l.controls l.count)) (l.files ++ l.area) l.nums l.first l.n l.sep (emit (shown l.initial.to) (joined l.sep (map (on_text (scope_setting (parts l.over l.from)) (controls_of (table_names (l.files ++ l.area) l.controls l.count))) (ons_from (l.files ++ l.area) l.nums l.first l.n)))) (shown l.to) l.k

@@ -9,8 +9,8 @@ net_arg-b-requires c = input_whole _ _ _ c.requires.0
 pub net_arg-c-requires : goal.net_arg-c-requires
 net_arg-c-requires c = output_whole _ _ _ c.requires.0
 
-pub put_controlled-p-requires : goal.put_controlled-p-requires
-put_controlled-p-requires c = few_rows _ _ _ _ c.requires.1
+pub put_controlled-requires : goal.put_controlled-requires
+put_controlled-requires c = few_rows _ _ _ _ c.requires.1
 
 pub returns : goal.returns
-returns c = line_all _ _ _ _ _ _ _ c.requires.1 _ _ _ _ _ _ _ c.put.ensures c.put_controlled-p.ensures c.fill3-o.ensures c.string_arg-a.ensures c.net_arg-b.ensures c.net_arg-c.ensures
+returns c = (cc, line_all _ _ _ _ _ _ _ c.requires.1 _ _ _ _ _ _ _ c.put.ensures.1 c.put_controlled.ensures.1 c.fill3.ensures.1 c.string_arg-a.ensures c.net_arg-b.ensures c.net_arg-c.ensures)

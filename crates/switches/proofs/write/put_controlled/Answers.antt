@@ -8,14 +8,14 @@ loop-i-init c = (search rules, search pairs_start)
 pub overflow_add-i : goal.overflow_add-i
 overflow_add-i c = search pairs_index
 
-pub pair_at-o-requires : goal.pair_at-o-requires
-pair_at-o-requires c = search pairs_row
+pub pair_at-requires : goal.pair_at-requires
+pair_at-requires c = search pairs_row
 
 pub overflow_add-i-in-loop-i : goal.overflow_add-i-in-loop-i
 overflow_add-i-in-loop-i c = search pairs_two
 
 pub loop-i-preserved : goal.loop-i-preserved
-loop-i-preserved c = (search rules, pairs_next _ _ _ _ _ _ _ c.loop-i.invariant.1 _ _ c.pair_at-o.ensures c.unless-o.ensures c.loop-i-test.true)
+loop-i-preserved c = (cc, pairs_next _ _ _ _ _ _ _ c.loop-i.invariant.1 _ _ c.pair_at.ensures.1 c.unless.ensures.1 c.loop-i-test.true)
 
 pub returns : goal.returns
 returns c = search pairs_done

@@ -3,7 +3,8 @@ use Prim.Native.Nat.{◌-◌}
 use mathlib.Core.Path.{◌≡◌}
 use lib.ListN.{length}
 use mathlib.Core.List.{◌++◌, map}
-use Rattle.out.specs.Emit.{emit, ◌▸◌}
+use Rattle.out.specs.Emit.{emit}
+use Rattle.out.specs.Text.{shown, SameRoom}
 use Rattle.nametable.specs.Table.{table_names}
 use Rattle.model.specs.Commands.{controls_of}
 use Rattle.out.specs.Items.{joined}
@@ -12,7 +13,7 @@ use Rattle.switches.proofs.Lines.{Pairs}
 use Rattle.switches.proofs.write.put_controlled.Given as goal
 
 abbrev pub invariant-loop-i : goal.invariant-loop-i
-invariant-loop-i l = (length l.out ≡ length l.initial.out) × Pairs l.sep (l.files ++ l.area) l.controls l.count (emit (l.initial.out ▸ l.at) (joined l.sep (map pair_text (controls_of (table_names (l.files ++ l.area) l.controls l.count))))) (l.out ▸ l.o) l.i
+invariant-loop-i l = SameRoom l.initial.to l.to × Pairs l.sep (l.files ++ l.area) l.controls l.count (emit (shown l.initial.to) (joined l.sep (map pair_text (controls_of (table_names (l.files ++ l.area) l.controls l.count))))) (shown l.to) l.i
 
 abbrev pub decreases-loop-i : goal.decreases-loop-i
 decreases-loop-i l = l.count - l.i

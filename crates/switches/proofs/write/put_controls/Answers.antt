@@ -9,14 +9,14 @@ loop-i-init c = (search rules, search turns_start)
 pub overflow_add-i : goal.overflow_add-i
 overflow_add-i c = search (turns_index, ons_rows)
 
-pub control_at-o-requires : goal.control_at-o-requires
-control_at-o-requires c = (c.requires, turn_row _ _ _ _ _ _ c.requires _ c.loop-i-test.true)
+pub control_at-requires : goal.control_at-requires
+control_at-requires c = (c.requires, turn_row _ _ _ _ _ _ c.requires _ c.loop-i-test.true)
 
 pub overflow_add-i-in-loop-i : goal.overflow_add-i-in-loop-i
 overflow_add-i-in-loop-i c = search turn_two
 
 pub loop-i-preserved : goal.loop-i-preserved
-loop-i-preserved c = (search rules, turns_next _ _ _ _ _ _ _ c.loop-i.invariant.1 _ c.control_at-o.ensures c.loop-i-test.true)
+loop-i-preserved c = (cc, turns_next _ _ _ _ _ _ _ c.loop-i.invariant.1 _ c.control_at.ensures.1 c.loop-i-test.true)
 
 pub returns : goal.returns
 returns c = search turns_done

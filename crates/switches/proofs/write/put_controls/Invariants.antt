@@ -3,7 +3,8 @@ use Prim.Native.Nat.{◌-◌}
 use mathlib.Core.Path.{◌≡◌}
 use lib.ListN.{length}
 use mathlib.Core.List.{◌++◌}
-use Rattle.out.specs.Emit.{emit, ◌▸◌}
+use Rattle.out.specs.Emit.{emit}
+use Rattle.out.specs.Text.{shown, SameRoom}
 use Rattle.nametable.specs.Table.{table_names}
 use Rattle.model.specs.Commands.{controls_of}
 use Rattle.scope.specs.Parts.{parts}
@@ -16,7 +17,7 @@ use Rattle.switches.proofs.Glue.{Turns}
 use Rattle.switches.proofs.write.put_controls.Given as goal
 
 abbrev pub invariant-loop-i : goal.invariant-loop-i
-invariant-loop-i l = (length l.out ≡ length l.initial.out) × Turns (control_text (parts l.over l.from) (ons_text (scope_setting (parts l.over l.from)) (controls_of (table_names (l.files ++ l.area) l.controls l.count)) (ons_from (l.files ++ l.area) l.nums l.first l.n)) (arg_of l.job (l.files ++ l.area) (parts l.over l.from) l.top l.c)) (l.files ++ l.area) l.controls l.count (emit (l.initial.out ▸ l.at) (each (control_text (parts l.over l.from) (ons_text (scope_setting (parts l.over l.from)) (controls_of (table_names (l.files ++ l.area) l.controls l.count)) (ons_from (l.files ++ l.area) l.nums l.first l.n)) (arg_of l.job (l.files ++ l.area) (parts l.over l.from) l.top l.c)) (controls_of (table_names (l.files ++ l.area) l.controls l.count)))) (l.out ▸ l.o) l.i
+invariant-loop-i l = SameRoom l.initial.to l.to × Turns (control_text (parts l.over l.from) (ons_text (scope_setting (parts l.over l.from)) (controls_of (table_names (l.files ++ l.area) l.controls l.count)) (ons_from (l.files ++ l.area) l.nums l.first l.n)) (arg_of l.job (l.files ++ l.area) (parts l.over l.from) l.top l.c)) (l.files ++ l.area) l.controls l.count (emit (shown l.initial.to) (each (control_text (parts l.over l.from) (ons_text (scope_setting (parts l.over l.from)) (controls_of (table_names (l.files ++ l.area) l.controls l.count)) (ons_from (l.files ++ l.area) l.nums l.first l.n)) (arg_of l.job (l.files ++ l.area) (parts l.over l.from) l.top l.c)) (controls_of (table_names (l.files ++ l.area) l.controls l.count)))) (shown l.to) l.i
 
 abbrev pub decreases-loop-i : goal.decreases-loop-i
 decreases-loop-i l = l.count - l.i

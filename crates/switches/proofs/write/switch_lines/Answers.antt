@@ -10,11 +10,11 @@ loop-i-init c = (search rules, record { keeps = refl })
 pub bounds-t-i : goal.bounds-t-i
 bounds-t-i c = omega (arith, c.loop-i-test.true, c.requires.sized.count)
 
-pub switch_line-o-requires : goal.switch_line-o-requires
-switch_line-o-requires c = search lines_one
+pub switch_line-requires : goal.switch_line-requires
+switch_line-requires c = search lines_one
 
 pub loop-i-preserved : goal.loop-i-preserved
-loop-i-preserved c = (search rules, search lines_next)
+loop-i-preserved c = (cc, search lines_next)
 
 pub returns : goal.returns
 returns c = search lines_done

@@ -3,7 +3,8 @@ use Prim.Native.Nat.{◌-◌}
 use mathlib.Core.Path.{◌≡◌}
 use lib.ListN.{length, take}
 use mathlib.Core.List.{[], ◌++◌, map}
-use Rattle.out.specs.Emit.{emit, ◌▸◌}
+use Rattle.out.specs.Emit.{emit}
+use Rattle.out.specs.Text.{shown, SameRoom}
 use Rattle.out.specs.Items.{each}
 use Rattle.texts.specs.Switches.{switch_line}
 use Rattle.store.specs.View.{switch_of}
@@ -11,7 +12,4 @@ use Rattle.switches.proofs.Glue.{Eaches}
 use Rattle.switches.proofs.write.switch_lines.Given as goal
 
 abbrev pub invariant-loop-i : goal.invariant-loop-i
-invariant-loop-i l = (length l.out ≡ length l.initial.out) × Eaches switch_line (switch_of (l.files ++ l.area) []) l.t.all l.t.n (emit (l.initial.out ▸ l.at) (each switch_line (map (switch_of (l.files ++ l.area) []) (take l.t.n l.t.all)))) (l.out ▸ l.o) l.i
-
-abbrev pub decreases-loop-i : goal.decreases-loop-i
-decreases-loop-i l = l.m - l.i
+invariant-loop-i l = SameRoom l.initial.to l.to × Eaches switch_line (switch_of (l.files ++ l.area) []) l.t.all l.t.n (emit (shown l.initial.to) (each switch_line (map (switch_of (l.files ++ l.area) []) (take l.t.n l.t.all)))) (shown l.to) l.i

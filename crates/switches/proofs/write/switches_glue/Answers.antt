@@ -10,11 +10,11 @@ loop-i-init c = (search rules, record { keeps = refl })
 pub bounds-t-i : goal.bounds-t-i
 bounds-t-i c = omega (arith, c.loop-i-test.true, c.requires.sized.count)
 
-pub switch_glue-o-requires : goal.switch_glue-o-requires
-switch_glue-o-requires c = search glues_one
+pub switch_glue-requires : goal.switch_glue-requires
+switch_glue-requires c = search glues_one
 
 pub loop-i-preserved : goal.loop-i-preserved
-loop-i-preserved c = (search rules, search glues_next)
+loop-i-preserved c = (cc, search glues_next)
 
 pub returns : goal.returns
 returns c = search glues_done

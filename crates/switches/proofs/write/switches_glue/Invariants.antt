@@ -3,7 +3,8 @@ use Prim.Native.Nat.{◌-◌}
 use mathlib.Core.Path.{◌≡◌}
 use lib.ListN.{length, take}
 use mathlib.Core.List.{◌++◌, map}
-use Rattle.out.specs.Emit.{emit, ◌▸◌}
+use Rattle.out.specs.Emit.{emit}
+use Rattle.out.specs.Text.{shown, SameRoom}
 use Rattle.out.specs.Items.{each}
 use Rattle.texts.specs.Switches.{switch_glue}
 use Rattle.switches.specs.Words.{switch_in}
@@ -13,7 +14,4 @@ use Rattle.switches.proofs.Glue.{Eaches}
 use Rattle.switches.proofs.write.switches_glue.Given as goal
 
 abbrev pub invariant-loop-i : goal.invariant-loop-i
-invariant-loop-i l = (length l.out ≡ length l.initial.out) × Eaches (switch_glue (scope_setting (parts l.over l.from))) (switch_in (l.files ++ l.area) l.nums) l.t.all l.t.n (emit (l.initial.out ▸ l.at) (each (switch_glue (scope_setting (parts l.over l.from))) (map (switch_in (l.files ++ l.area) l.nums) (take l.t.n l.t.all)))) (l.out ▸ l.o) l.i
-
-abbrev pub decreases-loop-i : goal.decreases-loop-i
-decreases-loop-i l = l.m - l.i
+invariant-loop-i l = SameRoom l.initial.to l.to × Eaches (switch_glue (scope_setting (parts l.over l.from))) (switch_in (l.files ++ l.area) l.nums) l.t.all l.t.n (emit (shown l.initial.to) (each (switch_glue (scope_setting (parts l.over l.from))) (map (switch_in (l.files ++ l.area) l.nums) (take l.t.n l.t.all)))) (shown l.to) l.i

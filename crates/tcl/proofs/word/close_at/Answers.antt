@@ -1,16 +1,18 @@
+use Rattle.std.specs.Prelude.{◌≤◌, length}
+use Rattle.std.proofs.Common.{arith}
 use mathlib.Core.Path.{refl}
 use borrow.Author.Rules.{rules}
-use Rattle.tcl.specs.Machines.{span_end_lem, span_stop, span_step}
+use Rattle.tcl.specs.Machines.{span_all, span_stop, span_step}
 use Rattle.tcl.proofs.word.close_at.Goals as goal
 
 pub loop-i-init : goal.loop-i-init
-loop-i-init c = (search rules, (search rules, (search rules, record { keeps = refl })))
+loop-i-init c = (search rules, (search rules, record { keeps = refl }))
 
 pub returns-then-d-eq0 : goal.returns-then-d-eq0
 returns-then-d-eq0 c = search span_stop
 
 pub loop-i-preserved : goal.loop-i-preserved
-loop-i-preserved c = (search rules, (search rules, (search rules, search span_step)))
+loop-i-preserved c = (search rules, (search rules, search span_step))
 
 pub returns : goal.returns
-returns c = search span_end_lem
+returns c = let h : c.loop-i.i ≤ length c.args.s.now = omega arith in search span_all

@@ -3,17 +3,9 @@ use Rattle.text.specs.Cases.{cases}
 use Rattle.tcl.specs.Words.{depth}
 use Rattle.tcl.proofs.word.deeper.Goals as goal
 
-pub overflow_add-result : goal.overflow_add-result
-unfolding depth
-overflow_add-result c = search cases
-
 pub returns-then-b-op : goal.returns-then-b-op
 unfolding depth
 returns-then-b-op c = search cases
-
-pub overflow_sub-result : goal.overflow_sub-result
-unfolding depth
-overflow_sub-result c = search cases
 
 pub returns-then-b-cl : goal.returns-then-b-cl
 unfolding depth

@@ -1,13 +1,10 @@
 -- `tcl::word::plain_end` meets its contract. Assumes nothing.
-use Prim.Native.Nat.{◌+◌, ◌-◌, ◌≤◌}
+use Prim.Native.Nat.{◌+◌}
 use mathlib.Core.Path.{◌≡◌}
-use lib.ListN.{drop, length}
+use lib.ListN.{drop}
 use Rattle.text.specs.Scan.{before}
 use Rattle.text.specs.Classes.{ends_plain}
 use Rattle.tcl.proofs.word.plain_end.Given as goal
 
 abbrev pub invariant-loop-i : goal.invariant-loop-i
-invariant-loop-i l = (l.i ≤ length l.s) × (l.at + before ends_plain (drop l.at l.s) ≡ l.i + before ends_plain (drop l.i l.s))
-
-abbrev pub decreases-loop-i : goal.decreases-loop-i
-decreases-loop-i l = length l.s - l.i
+invariant-loop-i l = l.at + before ends_plain (drop l.at l.s) ≡ l.i + before ends_plain (drop l.i l.s)

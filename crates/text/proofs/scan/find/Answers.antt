@@ -1,23 +1,13 @@
-use Rattle.text.specs.Scans.{scans}
+use Rattle.std.proofs.Common.{rules}
+use Rattle.std.proofs.lemmas.Iterator.{YieldsList-from_slice}
+use Rattle.std.proofs.lemmas.Iterator.Search.{position_from_yields_List}
+use Rattle.text.specs.Lists.{rest_some}
+use Rattle.text.specs.Scan.{is}
+use Rattle.text.proofs.Scanned.{ends_at, position_found}
 use Rattle.text.proofs.scan.find.Goals as goal
 
-pub loop-i-init : goal.loop-i-init
-loop-i-init c = search scans
-
-pub bounds-s-i : goal.bounds-s-i
-bounds-s-i c = search scans
-
-pub returns-then-s-i : goal.returns-then-s-i
-returns-then-s-i c = search scans
-
-pub overflow_add-i : goal.overflow_add-i
-overflow_add-i c = search scans
-
-pub loop-i-smaller : goal.loop-i-smaller
-loop-i-smaller c = search scans
-
-pub loop-i-preserved : goal.loop-i-preserved
-loop-i-preserved c = search scans
-
 pub returns : goal.returns
-returns c = search scans
+returns c =
+    let is_b = is c.args.b in
+    let first = position_from_yields_List is_b _ _ c.position.result c.position.ensures.ran (YieldsList-from_slice _ c.iter.ensures.rest) (λ x t q k. search rules) in
+    ends_at is_b c.args.at _ _ c.args.s.now _ c.requires (rest_some c.args.s.now c.args.at) c.unwrap_or.ensures (position_found is_b _ c.position.result first)

@@ -1,32 +1,7 @@
-use Rattle.text.specs.Scans.{frees}
+use Rattle.text.specs.Lists.{rest_some}
+use Rattle.text.specs.Scan.{is}
+use Rattle.text.proofs.Scanned.{ends_at, memchr_found}
 use Rattle.text.proofs.scan.find_far.Goals as goal
 
-pub loop-i-init : goal.loop-i-init
-loop-i-init c = search frees
-
-pub overflow_sub-s : goal.overflow_sub-s
-overflow_sub-s c = search frees
-
-pub sixteen-requires : goal.sixteen-requires
-sixteen-requires c = search frees
-
-pub find-requires : goal.find-requires
-find-requires c = search frees
-
-pub returns-then-not-sixteen : goal.returns-then-not-sixteen
-returns-then-not-sixteen c = search frees
-
-pub overflow_add-i : goal.overflow_add-i
-overflow_add-i c = search frees
-
-pub loop-i-smaller : goal.loop-i-smaller
-loop-i-smaller c = search frees
-
-pub loop-i-preserved : goal.loop-i-preserved
-loop-i-preserved c = search frees
-
-pub find-requires-2 : goal.find-requires-2
-find-requires-2 c = search frees
-
 pub returns : goal.returns
-returns c = search frees
+returns c = ends_at (is c.args.b) c.args.at _ _ c.args.s.now _ c.requires (rest_some c.args.s.now c.args.at) c.unwrap_or.ensures (memchr_found _ _ _ c.memchr.ensures)

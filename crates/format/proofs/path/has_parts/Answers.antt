@@ -1,9 +1,0 @@
--- `format::path::has_parts` meets its contract. Assumes nothing.
-use Rattle.format.proofs.Scopes.{leads}
-use Rattle.format.proofs.path.has_parts.Goals as goal
-
-pub returns-in-End : goal.returns-in-End
-returns-in-End c = search leads
-
-pub returns-in-Part : goal.returns-in-Part
-returns-in-Part c = search leads

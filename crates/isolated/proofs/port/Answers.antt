@@ -1,6 +1,0 @@
--- `isolated::port` meets its contract. Assumes nothing.
-use Rattle.isolated.proofs.Rows.{rows}
-use Rattle.isolated.proofs.port.Goals as goal
-
-pub returns : goal.returns
-returns c = search rows

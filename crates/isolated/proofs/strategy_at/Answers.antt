@@ -1,6 +1,0 @@
--- `isolated::strategy_at` meets its contract. Assumes nothing.
-use Rattle.isolated.proofs.Apart.{reads}
-use Rattle.isolated.proofs.strategy_at.Goals as goal
-
-pub returns : goal.returns
-returns c = search reads

@@ -1,6 +1,0 @@
--- `keep::warned` meets its contract. Assumes nothing.
-use Rattle.keep.proofs.Aims.{made}
-use Rattle.keep.proofs.warned.Goals as goal
-
-pub returns : goal.returns
-returns c = search made

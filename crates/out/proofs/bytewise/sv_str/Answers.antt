@@ -1,5 +1,0 @@
-use Rattle.out.proofs.bytewise.sv_str.Goals as goal
-
-pub returns : goal.returns
-unfolding Rattle.out.specs.Bytewise.becomes
-returns c = c.flat.ensures

@@ -1,0 +1,5 @@
+use Rattle.out.proofs.emit.Text.dotted.Goals as goal
+
+pub returns : goal.returns
+unfolding Rattle.out.specs.Bytewise.becomes
+returns c = c.flat.ensures

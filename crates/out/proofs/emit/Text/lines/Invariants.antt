@@ -1,0 +1,14 @@
+use mathlib.Core.List.{[]}
+use Rattle.out.specs.Emit.{emit}
+use Rattle.out.specs.Text.{shown, SameRoom}
+use Rattle.out.specs.Fill.{fill}
+use Rattle.out.specs.Items.{parts, each, Each}
+use Prim.Native.Nat.{◌≤◌, ◌-◌}
+use lib.ListN.{length}
+use Rattle.out.proofs.emit.Text.lines.Given as goal
+
+abbrev pub invariant-loop-i : goal.invariant-loop-i
+invariant-loop-i l = (l.i ≤ length l.spans) × (SameRoom l.initial.self l.self × Each (λ x. fill l.t x [] [] [] []) l.area l.spans (emit (shown l.initial.self) (each (λ x. fill l.t x [] [] [] []) (parts l.area l.spans))) (shown l.self) l.i)
+
+abbrev pub decreases-loop-i : goal.decreases-loop-i
+decreases-loop-i l = length l.spans - l.i

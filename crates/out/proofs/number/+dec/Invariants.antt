@@ -1,5 +1,0 @@
-use Rattle.out.proofs.number.+dec.Given as goal
-
--- the digits that may still come
-abbrev pub decreases-dec : goal.decreases-dec
-decreases-dec l = l.f

@@ -1,0 +1,17 @@
+-- The line that `puts` writes. Assumes nothing.
+use Rattle.std.specs.Prelude.{◌++◌}
+use Rattle.std.proofs.Common.{ap, ◌∙◌}
+use Rattle.text.specs.Ascii.{ascii}
+use Rattle.out.specs.Emit.{Out, emit}
+use Rattle.names.specs.Name.{name_of}
+use Rattle.plain.proofs.Logs.{puts_said}
+use Rattle.plain.proofs.say.Goals as goal
+
+pub returns : goal.returns
+returns c = (
+  cc,
+  c.put-2.ensures.1
+      ∙ ap (λ (o : Out). emit o (ascii "\n")) c.put_name.ensures.1
+      ∙ ap (λ (o : Out). emit (emit o (name_of (c.args.files.now ++ c.args.area.now) c.alone.result)) (ascii "\n")) c.put.ensures.1
+      ∙ puts_said (c.args.files.now ++ c.args.area.now) c.args.words.now c.args.n _ c.last_positional-w.ensures _ c.alone.ensures _,
+)

@@ -1,9 +1,0 @@
--- `store::stored::or_empty` meets its contract. Assumes nothing.
-use Rattle.store.proofs.Stores.{founds}
-use Rattle.store.proofs.stored.or_empty.Goals as goal
-
-pub narrow-requires : goal.narrow-requires
-narrow-requires c = search founds
-
-pub returns-in-At : goal.returns-in-At
-returns-in-At c = search founds

@@ -1,4 +1,0 @@
-use Rattle.text.proofs.compare.starts_with.Goals as goal
-
-pub returns : goal.returns
-returns c = cc
