@@ -1,20 +1,16 @@
 -- A strategy's name, signal and active value: laws as the needs ask them. Assumes nothing.
 use Rattle.store.specs.declared.state.Few.{Few}
-use Rattle.std.specs.Prelude.{Option, Some, None}
+use Rattle.std.specs.Prelude.{Option}
 use Prim.Native.Nat.{ℕ}
 use mathlib.Core.Path.{◌≡◌, refl, sym, ◌∙◌}
-use mathlib.Core.Bool.{Bool, true, false, cond, not, ◌&&◌}
-use native.Mathlib.Omega.{arith}
-use lib.Dec.{eqb}
+use mathlib.Core.Bool.{Bool, true, false, beq, cond, not}
 use borrow.Author.Rules.{rules}
-use borrow.Author.Tests.{eqb-true, eqb-false}
 use Rattle.text.specs.Ascii.{Bytes, ascii}
 use Rattle.text.specs.Compare.{same}
 use Rattle.text.specs.Sames.{same_refl, no_true}
 use Rattle.out.specs.Bytewise.{dotted}
 use Rattle.names.specs.Name.{name_of}
 use Rattle.names.specs.declared.name.Name.{Name}
-use Rattle.refs.specs.Text.{no_name}
 use Rattle.model.specs.Records.{Isolation as Isolationʳ}
 use Rattle.model.specs.Commands.{or_else}
 use Rattle.store.specs.Strings.{maybe_of}
@@ -22,59 +18,35 @@ use Rattle.store.specs.View.{isolation_of}
 use Rattle.store.specs.declared.stored.Stored.{Stored}
 use Rattle.store.specs.declared.state.Isolation.{Isolation}
 use Rattle.texts.specs.Isolation.{lowered, active_of}
-use Rattle.clamps.specs.Values.{stored_name, active_number}
+use Rattle.clamps.specs.Values.{stored_name, is_low}
 use Rattle.alike.specs.Strategies.{isolation_at, strategy_at, signal_name, signal_of, are_alike}
 use Rattle.alike.specs.Shown.{signal_text_lem}
 
 pub name_of_lem : (x y : Isolation) (n : Name) → n ≡ stored_name x.name → x ≡ y → n ≡ stored_name y.name
 name_of_lem x y n e f = e ∙ rw f
 
-pub no_signal_lem : (m : Option Stored) (n : Name) → m ≡ None → n ≡ no_name → n ≡ signal_name m
-no_signal_lem m n e f = f ∙ rw e
-
-pub its_signal : (m : Option Stored) (s : Stored) (n : Name) → m ≡ Some s → n ≡ stored_name s → n ≡ signal_name m
-its_signal m s n e f = f ∙ rw e
-
 pub signal_of_lem : (x y : Isolation) (n : Name) → n ≡ signal_name x.signal → x ≡ y → n ≡ signal_name y.signal
 signal_of_lem x y n e f = e ∙ rw f
 
-pub active_of_lem : (mem : Bytes) (x : Isolation) (t : Few Isolation) (i n : ℕ) → n ≡ active_number (lowered (or_else (maybe_of mem x.sense) (ascii "high"))) → x ≡ isolation_at t i → n ≡ active_number (lowered (strategy_at mem t i).sense)
+pub low_of_lem : (mem : Bytes) (x : Isolation) (t : Few Isolation) (i : ℕ) (n : Bool) → n ≡ is_low (lowered (or_else (maybe_of mem x.sense) (ascii "high"))) → x ≡ isolation_at t i → n ≡ is_low (lowered (strategy_at mem t i).sense)
 unfolding isolation_of
-active_of_lem mem x t i n e f = e ∙ rw f
+low_of_lem mem x t i n e f = e ∙ rw f
 
-pub ruleset values = (rules, name_of_lem, no_signal_lem, its_signal, signal_of_lem, active_of_lem)
+pub ruleset values = (rules, name_of_lem, signal_of_lem, low_of_lem)
 
 -- ---- whether two are alike
 
-abbrev number : Bool → ℕ
-number b = cond b 5 6
+-- two literals are the same where both senses are low or none
+same_low : (a b : Bool) → beq a b ≡ same (cond a (ascii "1'b0") (ascii "1'b1")) (cond b (ascii "1'b0") (ascii "1'b1"))
+unfolding same
+same_low true true = refl
+same_low true false = refl
+same_low false true = refl
+same_low false false = refl
 
-module _ (i j : Isolationʳ) (n m : ℕ) (e : n ≡ active_number (lowered i.sense)) (f : m ≡ active_number (lowered j.sense)) where
-  differ : (a b : Bool) → (number a ≡ number b → ⊥) → (x : Bool) → false ≡ x && same (cond a (ascii "1'b0") (ascii "1'b1")) (cond b (ascii "1'b0") (ascii "1'b1"))
-  unfolding same
-  differ true true h x = absurd (h refl)
-  differ false false h x = absurd (h refl)
-  differ true false h true = refl
-  differ true false h false = refl
-  differ false true h true = refl
-  differ false true h false = refl
-
-  agree : (a b : Bool) → number a ≡ number b → (x : Bool) → x ≡ x && same (cond a (ascii "1'b0") (ascii "1'b1")) (cond b (ascii "1'b0") (ascii "1'b1"))
-  unfolding same
-  agree true true h true = refl
-  agree true true h false = refl
-  agree false false h true = refl
-  agree false false h false = refl
-  agree true false h x = absurd (omega arith)
-  agree false true h x = absurd (omega arith)
-
-  alike_by : (r : Bool) → r ≡ same (dotted (signal_of i)) (dotted (signal_of j)) → r ≡ true → eqb n m ≡ are_alike i j
-  unfolding are_alike active_number
-  alike_by r g h = rw (sym g ∙ h) (go (eqb n m) refl)
-    where
-      go : (b : Bool) → eqb n m ≡ b → b ≡ same (active_of i) (active_of j)
-      go true k = agree (same (lowered i.sense) (ascii "low")) (same (lowered j.sense) (ascii "low")) (sym e ∙ eqb-true n m k ∙ f) true
-      go false k = differ (same (lowered i.sense) (ascii "low")) (same (lowered j.sense) (ascii "low")) (λ l. eqb-false n m k (e ∙ l ∙ sym f)) true
+alike_by : (i j : Isolationʳ) (n m : Bool) → n ≡ is_low (lowered i.sense) → m ≡ is_low (lowered j.sense) → (r : Bool) → r ≡ same (dotted (signal_of i)) (dotted (signal_of j)) → r ≡ true → beq n m ≡ are_alike i j
+unfolding are_alike is_low
+alike_by i j n m e f r g h = rw (sym g ∙ h, e, f) (same_low (same (lowered i.sense) (ascii "low")) (same (lowered j.sense) (ascii "low")))
 
 unalike : (i j : Isolationʳ) → same (dotted (signal_of i)) (dotted (signal_of j)) ≡ false → false ≡ are_alike i j
 unfolding are_alike
@@ -95,7 +67,7 @@ module _ (mem : Bytes) (a b : Isolation) (x y : Name) (s : Bool) (g : s ≡ same
       no_is true k = absurd (no_true k)
       no_is false k = refl
 
-  pub active_alike : not s ≡ false → (n m : ℕ) → n ≡ active_number (lowered (or_else (maybe_of mem a.sense) (ascii "high"))) → m ≡ active_number (lowered (or_else (maybe_of mem b.sense) (ascii "high"))) → eqb n m ≡ are_alike (isolation_of mem a) (isolation_of mem b)
+  pub active_alike : not s ≡ false → (n m : Bool) → n ≡ is_low (lowered (or_else (maybe_of mem a.sense) (ascii "high"))) → m ≡ is_low (lowered (or_else (maybe_of mem b.sense) (ascii "high"))) → beq n m ≡ are_alike (isolation_of mem a) (isolation_of mem b)
   unfolding isolation_of
   active_alike h n m e f = alike_by (isolation_of mem a) (isolation_of mem b) n m e f s signals_are (yes_is s h)
     where

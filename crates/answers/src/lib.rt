@@ -5,6 +5,7 @@ ghost use Rattle.std.specs.Prelude.{◌≡◌};
 ghost use Rattle.answers.specs.Answers.{refused_by, stopped_by, fitted_by, within};
 
 // Number and place of document 01, and the lengths of the four texts.
+// The number stays a number: it is what the C interface hands out.
 #[derive(Clone, Copy)]
 pub struct Answer {
     pub number: usize,
@@ -16,6 +17,7 @@ pub struct Answer {
 }
 
 // Where the three texts of generation end; or a refusal by checks 7 to 9.
+// The number stays a number, 0 where there is no refusal: the C interface hands it out so.
 #[derive(Clone, Copy)]
 pub struct Texts {
     pub number: usize,
@@ -34,6 +36,7 @@ pub struct Rooms {
 }
 
 // A refusal.
+// The number is what the C interface hands out.
 pub fn refused(number: usize, place: usize) -> Answer
     ensures { result ≡ refused_by number place }
 {
@@ -48,6 +51,7 @@ pub fn refused(number: usize, place: usize) -> Answer
 }
 
 // A refusal by checks 7 to 9.
+// The number is what the C interface hands out.
 pub fn stopped(number: usize) -> Texts
     ensures { result ≡ stopped_by number }
 {

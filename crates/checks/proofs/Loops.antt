@@ -177,10 +177,6 @@ pub ruleset gathers = (rules, sorts_sized, gather_end, gather_row, gather_number
 
 -- ---- written
 
--- what was written into the text stands in the buffer
-pub over_written : (out out' : Bytes) (at o : ℕ) (z₀ z₁ : Out) (t : Bytes) → z₁ ≡ emit z₀ t → z₀ ≡ out ▸ at → out' ▸ o ≡ z₁ → out' ▸ o ≡ emit (out ▸ at) t
-over_written out out' at o z₀ z₁ t e f g = g ∙ rw (← f) e
-
 pub check_written : (job mem : Bytes) (scope : List Bytes) (top : Bytes) (t : Few Isolation) (i : ℕ) (domain : Name) (a b c d : Arg) (o w : Out)
     → w ≡ emit o (fill (ascii "      if ({0} !== {1}) $display(\"[UPF] Warning: Time: %0t, Isolation control '{0}' (%b) is not enabled when power domain '{2}' is switched OFF (strategy {3})\", $time, {0});\n") (arg_of job mem scope top a) (arg_of job mem scope top b) (arg_of job mem scope top c) (arg_of job mem scope top d) [])
     → a ≡ signal_arg t i → b ≡ active_arg mem t i → c ≡ name_arg domain → d ≡ strategy_arg t i → w ≡ emit o (check_text scope (strategy_at mem t) (name_of mem domain) i)

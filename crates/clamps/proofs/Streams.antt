@@ -14,6 +14,7 @@ use Rattle.text.specs.Lists.{here}
 use Rattle.text.specs.Sames.{both}
 use Rattle.out.specs.Emit.{Out, emit, emit1}
 use Rattle.names.specs.Name.{named, name_of, step_of}
+use Rattle.names.specs.declared.name.Form.TheVariants.{Word}
 use Rattle.names.specs.declared.name.Name.{Name}
 use Rattle.names.specs.Laws.{shorter}
 use Rattle.model.specs.Commands.{or_else}
@@ -21,8 +22,9 @@ use Rattle.store.specs.Strings.{string, maybe_of, span_of}
 use Rattle.store.specs.declared.stored.Stored.{Stored}
 use Rattle.spans.specs.Span.{◌⋯◌, bytes, got_of}
 use Rattle.spans.specs.declared.span.Span.{Span}
+use Rattle.texts.specs.declared.Literal.{Literal}
 use Rattle.texts.specs.Isolation.{lower, lowered, is_outputs}
-use Rattle.clamps.specs.Values.{stored_name, clamp_number, active_number}
+use Rattle.clamps.specs.Values.{stored_name, clamp_literal, is_low, active_literal}
 
 -- ---- a byte in lower case
 
@@ -89,7 +91,7 @@ pub ruleset puts = (rules, shorter, puts_end, puts_step)
 
 -- ---- the values
 
-pub stored_named : (s : Stored) (w : Span) (r : Name) → w ≡ span_of s → r ≡ named (0 ⋯ 0) false w 0 → r ≡ stored_name s
+pub stored_named : (s : Stored) (w : Span) (r : Name) → w ≡ span_of s → r ≡ named (0 ⋯ 0) false w Word → r ≡ stored_name s
 stored_named s w r e f = rw (f, e)
 
 module _ (mem : Bytes) where
@@ -97,18 +99,18 @@ module _ (mem : Bytes) where
   pub asked : (s : Stored) (v : Span) (w : Bytes) (b : Bool) → v ≡ span_of s → b ≡ same (lowered (bytes mem v)) w → b ≡ same (lowered (string mem s)) w
   asked s v w b e h = h ∙ rw e
 
-  pub clamp_none : (m : Option Stored) → m ≡ None → 7 ≡ clamp_number (lowered (or_else (maybe_of mem m) (ascii "0")))
-  unfolding clamp_number same
+  pub clamp_none : (m : Option Stored) → m ≡ None → Some Literal.Zero ≡ clamp_literal (lowered (or_else (maybe_of mem m) (ascii "0")))
+  unfolding clamp_literal same
   clamp_none m h = rw h
 
-  pub clamp_given : (m : Option Stored) (s : Stored) (r : ℕ) → m ≡ Some s → r ≡ clamp_number (lowered (string mem s)) → r ≡ clamp_number (lowered (or_else (maybe_of mem m) (ascii "0")))
+  pub clamp_given : (m : Option Stored) (s : Stored) (r : Option Literal) → m ≡ Some s → r ≡ clamp_literal (lowered (string mem s)) → r ≡ clamp_literal (lowered (or_else (maybe_of mem m) (ascii "0")))
   clamp_given m s r h e = rw h e
 
-  pub active_none : (m : Option Stored) → m ≡ None → 6 ≡ active_number (lowered (or_else (maybe_of mem m) (ascii "high")))
-  unfolding active_number same
+  pub active_none : (m : Option Stored) → m ≡ None → false ≡ is_low (lowered (or_else (maybe_of mem m) (ascii "high")))
+  unfolding is_low same
   active_none m h = rw h
 
-  pub active_given : (m : Option Stored) (s : Stored) (r : ℕ) → m ≡ Some s → r ≡ active_number (lowered (string mem s)) → r ≡ active_number (lowered (or_else (maybe_of mem m) (ascii "high")))
+  pub active_given : (m : Option Stored) (s : Stored) (r : Bool) → m ≡ Some s → r ≡ is_low (lowered (string mem s)) → r ≡ is_low (lowered (or_else (maybe_of mem m) (ascii "high")))
   active_given m s r h e = rw h e
 
   pub outputs_none : (m : Option Stored) → m ≡ None → true ≡ is_outputs (or_else (maybe_of mem m) (ascii "outputs"))
@@ -128,38 +130,43 @@ module _ (mem : Bytes) where
 
   -- the ladders
   module _ (s : Stored) (v : Span) (b : Bool) (e : v ≡ span_of s) where
-    pub told_zero : b ≡ same (lowered (bytes mem v)) (ascii "0") → b ≡ true → 7 ≡ clamp_number (lowered (string mem s))
-    unfolding clamp_number
+    pub told_zero : b ≡ same (lowered (bytes mem v)) (ascii "0") → b ≡ true → Some Literal.Zero ≡ clamp_literal (lowered (string mem s))
+    unfolding clamp_literal
     told_zero f h = let g : same (lowered (string mem s)) (ascii "0") ≡ true = sym (asked s v (ascii "0") b e f) ∙ h in rw g
 
-    pub told_low : b ≡ same (lowered (bytes mem v)) (ascii "low") → b ≡ true → 5 ≡ active_number (lowered (string mem s))
-    unfolding active_number
-    told_low f h = let g : same (lowered (string mem s)) (ascii "low") ≡ true = sym (asked s v (ascii "low") b e f) ∙ h in rw g
-
-    pub told_high : b ≡ same (lowered (bytes mem v)) (ascii "low") → b ≡ false → 6 ≡ active_number (lowered (string mem s))
-    unfolding active_number
-    told_high f h = let g : same (lowered (string mem s)) (ascii "low") ≡ false = sym (asked s v (ascii "low") b e f) ∙ h in rw g
+    pub told_low : b ≡ same (lowered (bytes mem v)) (ascii "low") → b ≡ is_low (lowered (string mem s))
+    unfolding is_low
+    told_low f = asked s v (ascii "low") b e f
 
     module _ (f : b ≡ same (lowered (bytes mem v)) (ascii "0")) (h : b ≡ false) (b2 : Bool) (f2 : b2 ≡ same (lowered (bytes mem v)) (ascii "1")) where
       g1 : same (lowered (string mem s)) (ascii "0") ≡ false
       g1 = sym (asked s v (ascii "0") b e f) ∙ h
 
-      pub told_one : b2 ≡ true → 8 ≡ clamp_number (lowered (string mem s))
-      unfolding clamp_number
+      pub told_one : b2 ≡ true → Some Literal.One ≡ clamp_literal (lowered (string mem s))
+      unfolding clamp_literal
       told_one h2 = let g : same (lowered (string mem s)) (ascii "1") ≡ true = sym (asked s v (ascii "1") b2 e f2) ∙ h2 in rw (g1, g)
 
       module _ (h2 : b2 ≡ false) (b3 : Bool) (f3 : b3 ≡ same (lowered (bytes mem v)) (ascii "z")) where
         g2 : same (lowered (string mem s)) (ascii "1") ≡ false
         g2 = sym (asked s v (ascii "1") b2 e f2) ∙ h2
 
-        pub told_z : b3 ≡ true → 9 ≡ clamp_number (lowered (string mem s))
-        unfolding clamp_number
+        pub told_z : b3 ≡ true → Some Literal.Z ≡ clamp_literal (lowered (string mem s))
+        unfolding clamp_literal
         told_z h3 = let g : same (lowered (string mem s)) (ascii "z") ≡ true = sym (asked s v (ascii "z") b3 e f3) ∙ h3 in rw (g1, g2, g)
 
-        pub told_none : b3 ≡ false → 0 ≡ clamp_number (lowered (string mem s))
-        unfolding clamp_number
+        pub told_none : b3 ≡ false → None ≡ clamp_literal (lowered (string mem s))
+        unfolding clamp_literal
         told_none h3 = let g : same (lowered (string mem s)) (ascii "z") ≡ false = sym (asked s v (ascii "z") b3 e f3) ∙ h3 in rw (g1, g2, g)
 
-pub ruleset tolds = (rules, told_zero, told_low, told_high, told_one, told_z, told_none)
+pub ruleset tolds = (rules, told_zero, told_low, told_one, told_z, told_none)
 
 pub ruleset values = (rules, stored_named, clamp_none, clamp_given, active_none, active_given, outputs_none, outputs_given, outputs_first, outputs_second)
+
+module _ (low : Bool) where
+  pub active_low : low ≡ true → Literal.BitZero ≡ active_literal low
+  active_low h = rw h
+
+  pub active_high : low ≡ false → Literal.BitOne ≡ active_literal low
+  active_high h = rw h
+
+pub ruleset actives = (rules, active_low, active_high)

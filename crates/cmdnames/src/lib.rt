@@ -1,11 +1,40 @@
-// The number of each of the thirty commands: its place in the table of their names.
+// The command that a word names.
 #![tactic(auto)]
 
-ghost use Rattle.std.specs.Prelude.{◌++◌};
+ghost use Rattle.std.specs.Prelude.{◌≡◌, ◌≤◌, ◌++◌};
 ghost use Rattle.spans.specs.Span.{bytes};
-ghost use Rattle.cmdnames.specs.Table.{Numbered};
+ghost use Rattle.model.specs.Names.{command_named};
+ghost use Rattle.model.specs.Numbers.{named_by};
+ghost use Rattle.cmdnames.specs.Table.{Numbered, number_of};
+ghost use Rattle.spans.specs.Memory.{memory};
 
-use spans::span::{Span, is};
+use spans::span::{Memory, Span, is};
+
+// What a word names: a command of its own, one of the eleven that are parsed and not simulated, or none.
+#[derive(Clone, Copy)]
+pub enum Command {
+    Set,
+    Puts,
+    LoadUpf,
+    SetDesignTop,
+    SetScope,
+    CreatePowerDomain,
+    CreateSupplyNet,
+    CreateSupplyPort,
+    ConnectSupplyNet,
+    SetDomainSupplyNet,
+    CreatePowerSwitch,
+    SetIsolation,
+    SetIsolationControl,
+    SetRetention,
+    SetRetentionControl,
+    SetLevelShifter,
+    AddPortState,
+    CreatePst,
+    AddPstState,
+    NotSimulated,
+    Unknown,
+}
 
 const NAMES: [&[u8]; 30] = [
     b"set",
@@ -40,12 +69,53 @@ const NAMES: [&[u8]; 30] = [
     b"add_pst_state",
 ];
 
-// The number of the command that a word names, from 0; 30 for no name of the table.
-pub fn number<'a>(files: &'a [u8], area: &'a [u8], w: Span) -> usize
-    ensures { Numbered (bytes (files.now ++ area.now) w) result }
+// The place of the name that a word is in the table, from 0; 30 for no name of it.
+fn number<'a>(mem: &Memory<'a>, w: Span) -> usize
+    ensures { Numbered (bytes (memory mem.now) w) result }
 {
     NAMES
         .iter()
-        .position(|name| is(files, area, w, name))
+        .position(|name| is(mem, w, name))
         .unwrap_or(NAMES.len())
+}
+
+// The command that has its name at this place.
+fn command_at(k: usize) -> Command
+    ensures { named_by (number_of result) ≡ named_by k }
+{
+    match k {
+        0 => Command::Set,
+        1 => Command::Puts,
+        2 => Command::LoadUpf,
+        3 => Command::SetDesignTop,
+        4 => Command::SetScope,
+        5 => Command::CreatePowerDomain,
+        6 => Command::CreateSupplyNet,
+        7 => Command::CreateSupplyPort,
+        8 => Command::ConnectSupplyNet,
+        9 => Command::SetDomainSupplyNet,
+        21 => Command::CreatePowerSwitch,
+        22 => Command::SetIsolation,
+        23 => Command::SetIsolationControl,
+        24 => Command::SetRetention,
+        25 => Command::SetRetentionControl,
+        26 => Command::SetLevelShifter,
+        27 => Command::AddPortState,
+        28 => Command::CreatePst,
+        29 => Command::AddPstState,
+        _ => {
+            if k < 30 {
+                Command::NotSimulated
+            } else {
+                Command::Unknown
+            }
+        }
+    }
+}
+
+// The command that a word names.
+pub fn named_command<'a>(mem: &Memory<'a>, w: Span) -> Command
+    ensures { command_named (bytes (memory mem.now) w) ≡ named_by (number_of result) }
+{
+    command_at(number(mem, w))
 }

@@ -8,16 +8,15 @@ ghost use Rattle.substitution.specs.Written.{written};
 ghost use Rattle.commands.specs.Reading.{result as result_bytes};
 ghost use Rattle.commands.specs.Stored.{Filed, written_at, written_words, Placed, Resolves};
 
-use spans::span::{Span, minus, pair};
+use spans::span::{Span, pair};
 use substitution::put::{Full, substitute};
-use text::part::{part, peek};
+use text::part::{Rows, part, peek};
 use text::scan::find;
 
 // A quoted word, or a plain one with a `$`, substituted to the area.
 fn to_area(
     files: &[u8],
-    vars: &[u32],
-    nv: usize,
+    vars: &Rows,
     body: &[u8],
     quoted: bool,
     area: &mut [u8],
@@ -26,9 +25,9 @@ fn to_area(
     limit: usize,
 ) -> Result<(Span, usize), Full>
     requires { (m ≤ o) × ((o ≤ limit) × (limit ≤ length area.old)) }
-    ensures { Placed files.now area.old area.new o limit (Substitution·substitute (variables (files.now ++ take m area.old) vars.now nv) (written quoted body.now)) (Substitution·substitute (variables (files.now ++ take m area.old) vars.now nv) (written quoted body.now)) result }
+    ensures { Placed files.now area.old area.new o limit (Substitution·substitute (variables (files.now ++ take m area.old) vars.now.rows.now vars.now.n) (written quoted body.now)) (Substitution·substitute (variables (files.now ++ take m area.old) vars.now.rows.now vars.now.n) (written quoted body.now)) result }
 {
-    let e = substitute(files, vars, nv, body, quoted, area, m, o, limit)?;
+    let e = substitute(files, vars, body, quoted, area, m, o, limit)?;
     Ok((
         Span {
             at: files.len() + o,
@@ -42,8 +41,7 @@ fn to_area(
 fn plain_word(
     files: &[u8],
     at: usize,
-    vars: &[u32],
-    nv: usize,
+    vars: &Rows,
     body: &[u8],
     area: &mut [u8],
     m: usize,
@@ -51,10 +49,10 @@ fn plain_word(
     limit: usize,
 ) -> Result<(Span, usize), Full>
     requires { (body.now ≡ take (length body.now) (drop at files.now)) × ((at + length body.now ≤ length files.now) × ((m ≤ o) × ((o ≤ limit) × (limit ≤ length area.old)))) }
-    ensures { Placed files.now area.old area.new o limit (Substitution·substitute (variables (files.now ++ take m area.old) vars.now nv) body.now) (cond (has_dollar body.now) (Substitution·substitute (variables (files.now ++ take m area.old) vars.now nv) body.now) []) result }
+    ensures { Placed files.now area.old area.new o limit (Substitution·substitute (variables (files.now ++ take m area.old) vars.now.rows.now vars.now.n) body.now) (cond (has_dollar body.now) (Substitution·substitute (variables (files.now ++ take m area.old) vars.now.rows.now vars.now.n) body.now) []) result }
 {
     if find(body, 0, b'$') < body.len() {
-        return to_area(files, vars, nv, body, false, area, m, o, limit);
+        return to_area(files, vars, body, false, area, m, o, limit);
     }
     Ok((
         Span {
@@ -71,19 +69,18 @@ fn word(
     base: usize,
     text: &[u8],
     s: Span,
-    vars: &[u32],
-    nv: usize,
+    vars: &Rows,
     area: &mut [u8],
     m: usize,
     o: usize,
     limit: usize,
 ) -> Result<(Span, usize), Full>
     requires { Filed files.now base text.now × ((s.at + s.len ≤ length text.now) × ((m ≤ o) × ((o ≤ limit) × (limit ≤ length area.old)))) }
-    ensures { Placed files.now area.old area.new o limit (value (variables (files.now ++ take m area.old) vars.now nv) (written_at text.now s)) (result_bytes (variables (files.now ++ take m area.old) vars.now nv) (written_at text.now s)) result }
+    ensures { Placed files.now area.old area.new o limit (value (variables (files.now ++ take m area.old) vars.now.rows.now vars.now.n) (written_at text.now s)) (result_bytes (variables (files.now ++ take m area.old) vars.now.rows.now vars.now.n) (written_at text.now s)) result }
 {
     let c = peek(text, s.at);
     let whole = part(text, s.at, s.len + 1);
-    let inner = part(text, s.at + 1, minus(s.len, 1));
+    let inner = part(text, s.at + 1, s.len.saturating_sub(1));
     if c == b'{' {
         return Ok((
             Span {
@@ -94,7 +91,7 @@ fn word(
         ));
     }
     if c == b'"' {
-        return to_area(files, vars, nv, inner, true, area, m, o, limit);
+        return to_area(files, vars, inner, true, area, m, o, limit);
     }
     if c == b'[' {
         return Ok((
@@ -105,7 +102,7 @@ fn word(
             o,
         ));
     }
-    plain_word(files, base + s.at, vars, nv, whole, area, m, o, limit)
+    plain_word(files, base + s.at, vars, whole, area, m, o, limit)
 }
 
 // Puts in place of each of the first n written words of the text the span of what it comes to.
@@ -113,8 +110,7 @@ pub fn resolve(
     files: &[u8],
     base: usize,
     text: &[u8],
-    vars: &[u32],
-    nv: usize,
+    vars: &Rows,
     area: &mut [u8],
     at: usize,
     limit: usize,
@@ -122,12 +118,12 @@ pub fn resolve(
     n: usize,
 ) -> Result<usize, Full>
     requires { Filed files.now base text.now × ((last_end (pairs words.old 0 n) ≤ length text.now) × ((2 * n ≤ length words.old) × ((n ≤ 128) × ((length files.now + length area.old < 2 ^ 32) × ((at ≤ limit) × (limit ≤ length area.old)))))) }
-    ensures { Resolves files.now area.old area.new words.old words.new (variables (files.now ++ take at area.old) vars.now nv) at limit (written_words text.now words.old 0 n) n result }
+    ensures { Resolves files.now area.old area.new words.old words.new (variables (files.now ++ take at area.old) vars.now.rows.now vars.now.n) at limit (written_words text.now words.old 0 n) n result }
 {
     let mut o = at;
     for k in 0..n {
         let s = pair(words, k);
-        let (w, e) = word(files, base, text, s, vars, nv, area, at, o, limit)?;
+        let (w, e) = word(files, base, text, s, vars, area, at, o, limit)?;
         words[2 * k] = w.at as u32;
         words[2 * k + 1] = w.len as u32;
         o = e;

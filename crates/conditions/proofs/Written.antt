@@ -14,6 +14,7 @@ use Rattle.text.specs.Classes.{is_digit, is_variable}
 use Rattle.text.specs.Scan.{all, before}
 use Rattle.out.specs.Emit.{Out, ◌▸◌, emit1, emit, emit_append}
 use Rattle.out.specs.Bytewise.{flat, becomes, flat_same}
+use Rattle.out.specs.declared.bytewise.Mode.{Mode}
 use Rattle.tcl.specs.Substitution.{no_variable}
 use Rattle.names.specs.Name.{name_of, step_of}
 use Rattle.names.specs.declared.name.Name.{Name}
@@ -38,10 +39,10 @@ module _ (job mem : Bytes) (scope : List Bytes) (table : List ℕ) (count n : �
   signal_seen : signal_of (scope_setting scope) (controls_of (table_names mem table count)) (take n (name_of mem e)) None ≡ hier_of (scope_setting scope) (signal_at mem table k)
   signal_seen = ap (λ (p : Bytes). signal_of (scope_setting scope) (controls_of (table_names mem table count)) p None) (sym port_is) ∙ seen_signal scope mem table count (text_of job mem w) k seen
 
-  pub word_known : (r : Ref) (x : Name) → o' ≡ emit o (flat (becomes 0) (element_path scope (text_of job mem r))) → r ≡ whole_ref x → x ≡ row_name table k → (k ≡ 0 → ⊥) → o' ≡ emit o (word_text (signal_of (scope_setting scope) (controls_of (table_names mem table count)) (take n (name_of mem e)) None) (take n (name_of mem e)))
+  pub word_known : (r : Ref) (x : Name) → o' ≡ emit o (flat (becomes Mode.Same) (element_path scope (text_of job mem r))) → r ≡ whole_ref x → x ≡ row_name table k → (k ≡ 0 → ⊥) → o' ≡ emit o (word_text (signal_of (scope_setting scope) (controls_of (table_names mem table count)) (take n (name_of mem e)) None) (take n (name_of mem e)))
   word_known r x g er ex h =
       let z : signal_of (scope_setting scope) (controls_of (table_names mem table count)) (take n (name_of mem e)) None ≡ Some (element_path scope (name_of mem (row_name table k))) = signal_seen ∙ rw (ne_eqb k 0 h) in
-      let y : flat (becomes 0) (element_path scope (text_of job mem r)) ≡ element_path scope (name_of mem (row_name table k)) = flat_same (element_path scope (text_of job mem r)) ∙ rw (er, ex, whole_is job mem (row_name table k)) in
+      let y : flat (becomes Mode.Same) (element_path scope (text_of job mem r)) ≡ element_path scope (name_of mem (row_name table k)) = flat_same (element_path scope (text_of job mem r)) ∙ rw (er, ex, whole_is job mem (row_name table k)) in
       rw z (g ∙ ap (emit o) y)
 
   module _ (h : k ≡ 0) where
@@ -49,7 +50,7 @@ module _ (job mem : Bytes) (scope : List Bytes) (table : List ℕ) (count n : �
     no_signal_lem = signal_seen ∙ rw (eq-eqb k 0 h)
 
     module _ (t : Bool) (et : t ≡ all is_digit (take n (name_of mem e))) where
-      pub word_number : o' ≡ emit o (flat (becomes 0) (as_dots false (text_of job mem w))) → t ≡ true → o' ≡ emit o (word_text (signal_of (scope_setting scope) (controls_of (table_names mem table count)) (take n (name_of mem e)) None) (take n (name_of mem e)))
+      pub word_number : o' ≡ emit o (flat (becomes Mode.Same) (as_dots false (text_of job mem w))) → t ≡ true → o' ≡ emit o (word_text (signal_of (scope_setting scope) (controls_of (table_names mem table count)) (take n (name_of mem e)) None) (take n (name_of mem e)))
       word_number g d = rw (no_signal_lem, ← et, d) (g ∙ ap (emit o) (flat_same (text_of job mem w) ∙ port_is))
 
       pub word_unknown : o' ≡ emit o (ascii "1'bx") → t ≡ false → o' ≡ emit o (word_text (signal_of (scope_setting scope) (controls_of (table_names mem table count)) (take n (name_of mem e)) None) (take n (name_of mem e)))

@@ -2,16 +2,15 @@
 -- Assumes nothing.
 use Prim.Native.Nat.{ℕ, suc, ◌+◌, ◌-◌, ◌≤◌, ◌<◌, ◌^◌}
 use mathlib.Core.Path.{◌≡◌, refl, sym, ap, ◌∙◌}
-use mathlib.Core.Bool.{true, false}
 use mathlib.Core.List.{List, [], ◌∷◌, ◌++◌, flat_map, append-nil}
-use Rattle.std.specs.Prelude.{None, Some}
+use Rattle.std.specs.Prelude.{None, Some, Result, Ok, Err, IsErrAnd}
 use native.Mathlib.Omega.{arith}
 use native.Mathlib.Nat.{sub-zero}
 use lib.ListN.{length, take, length-append}
 use Rattle.text.specs.Ascii.{Bytes}
 use Rattle.joblines.specs.Job.{Module}
 use Rattle.jobindex.specs.Index.{module_row}
-use Rattle.lookup.specs.Rows.{modules, row_is, ModuleSeen}
+use Rattle.lookup.specs.Rows.{modules, ModuleSeen}
 use Rattle.names.specs.Name.{name_of}
 use Rattle.names.specs.declared.name.Name.{Name}
 use Rattle.nametable.specs.Table.{row_name, names_from, table_names, names_next, names_none}
@@ -21,6 +20,7 @@ use Rattle.design.specs.Paths.{dotted, element_path, filled_parts}
 use Rattle.walk.specs.Walk.{sum_over, retained_paths, element_list, domain_list, element_entered, domain_entered}
 use Rattle.paths.specs.Sizes.{name_short}
 use Rattle.pathnumber.specs.Number.{number}
+use Rattle.listing.specs.declared.TooMany.{TooMany}
 use Rattle.listing.specs.declared.Walk.{Walk}
 use Rattle.listing.specs.Flags.{flagged_none}
 use Rattle.listing.specs.Listing.{cut, paths_of, Ascends, cost, nowhere, Answer}
@@ -56,7 +56,6 @@ module _ (job : Bytes) (index : List ℕ) (count k : ℕ) (table : List ℕ) (fi
       rw ew (record {
         turn = record {
           ready = record {
-            going = refl;
             ascends = refl;
             used_is = refl;
             end_low = omega arith;
@@ -75,7 +74,7 @@ module _ (job : Bytes) (index : List ℕ) (count k : ℕ) (table : List ℕ) (fi
       })
 
   module _ (total : ℕ) (all : List Bytes) (text : Bytes) (ends : List ℕ) (w : Walk) (i : ℕ) (inv : Elements job index count k table files area n entries elements m prefix tail₀ text₀ ends₀ total all text ends w i) where
-    pub elements_end : m ≤ i → Answer prefix total all w text ends
+    pub elements_end : m ≤ i → Answer prefix total all (Ok w) text ends
     unfolding sum_over flat_map
     elements_end h =
         let z : m - i ≡ 0 = omega arith in
@@ -105,68 +104,69 @@ module _ (job : Bytes) (index : List ℕ) (count k : ℕ) (table : List ℕ) (fi
       unfolding flat_map
       paths_left = rw left_is
 
-      module _ (row : ℕ) (seen : ModuleSeen job index count (module_at d base (filled_parts (name_of mem e))) row) where
-        pub elements_pass : row ≡ 0 → Elements job index count k table files area n entries elements m prefix tail₀ text₀ ends₀ total all text ends w (i + 1)
-        unfolding row_is element_entered element_list
-        elements_pass z =
-            let o : module_at d base (filled_parts (name_of mem e)) ≡ None = sym seen.says ∙ rw z in
-            let x : element_entered d base [] entries (name_of mem e) ≡ 0 = rw o in
-            let y : element_list d base [] entries (name_of mem e) ≡ [] = rw o in
+      pub elements_pass : ModuleSeen job index count (module_at d base (filled_parts (name_of mem e))) None → Elements job index count k table files area n entries elements m prefix tail₀ text₀ ends₀ total all text ends w (i + 1)
+      unfolding element_entered element_list
+      elements_pass seen =
+          let o : module_at d base (filled_parts (name_of mem e)) ≡ None = sym seen.says in
+          let x : element_entered d base [] entries (name_of mem e) ≡ 0 = rw o in
+          let y : element_list d base [] entries (name_of mem e) ≡ [] = rw o in
+          record {
+            turn = record {
+              ready = inv.turn.ready;
+              entered_left = ap (λ v. w.entered + v) (sym (entered_left ∙ rw x (omega arith))) ∙ inv.turn.entered_left;
+              paths_left = ap (add_all (paths_of text ends w.count)) (sym (paths_left ∙ rw y refl)) ∙ inv.turn.paths_left;
+            };
+            given = inv.given;
+          }
+
+      pub element_small : length files + length area < 2 ^ 32
+      element_small = inv.given.memory_small
+
+      module _ (row : ℕ) (seen : ModuleSeen job index count (module_at d base (filled_parts (name_of mem e))) (Some row)) (elen : ℕ) (el : elen ≡ length (name_of mem e)) (h : ℕ) (eh : h ≡ number 0 (dotted (name_of mem e))) where
+        pub element_walk : Given job table row 32 mem n e elen h 0
+        element_walk =
+            let g = inv.given in
             record {
-              turn = record {
-                ready = inv.turn.ready;
-                entered_left = ap (λ v. w.entered + v) (sym (entered_left ∙ rw x (omega arith))) ∙ inv.turn.entered_left;
-                paths_left = ap (add_all (paths_of text ends w.count)) (sym (paths_left ∙ rw y refl)) ∙ inv.turn.paths_left;
-              };
-              given = inv.given;
+              sound = table_sound job index count table g.tabled g.short g.few row (seen.within);
+              entries_few = g.entries_few;
+              elen_is = el;
+              number_is = eh;
+              elen_small = omega (arith, el, name_short mem e, length-append files area, g.memory_small);
+              job_small = g.job_small;
+              room = omega arith;
             }
 
-        pub element_small : length files + length area < 2 ^ 32
-        element_small = inv.given.memory_small
+        module _ (tail tail' : Bytes) (text' : Bytes) (ends' : List ℕ) where
+          abbrev Goes : Result Walk TooMany → Type 0
+          Goes r = Walked job table row 32 mem entries e tail tail' 0 prefix w.entered (paths_of text ends w.count) r text' ends'
 
-        module _ (z : row ≡ 0 → ⊥) (elen : ℕ) (el : elen ≡ length (name_of mem e)) (h : ℕ) (eh : h ≡ number 0 (dotted (name_of mem e))) where
-          pub element_walk : Given job table (row - 1) 32 mem n e elen h 0
-          element_walk =
-              let g = inv.given in
+          found : module_at d base (filled_parts (name_of mem e)) ≡ Some (module_row job index row)
+          found = sym seen.says
+
+          path_is : dotted (name_of mem e) ++ take 0 tail ≡ element_path [] (name_of mem e)
+          path_is = append-nil (dotted (name_of mem e)) ∙ sym (element_path_lem (name_of mem e))
+
+          answer_is : (r : Result Walk TooMany) → Goes r → Answer prefix (w.entered + element_entered d base [] entries (name_of mem e)) (add_all (paths_of text ends w.count) (element_list d base [] entries (name_of mem e))) r text' ends'
+          unfolding element_entered element_list
+          answer_is r a =
+              let l : row < count = seen.within in
+              rw found (rw (
+                path_is,
+                entered_is job index count table inv.given.tabled (retained_paths [] entries) 32 row l (element_path [] (name_of mem e)),
+                lost_is job index count table inv.given.tabled (retained_paths [] entries) 32 row l (element_path [] (name_of mem e)),
+              ) at a.answer)
+
+          pub elements_stop : (x : TooMany) → Goes (Err x) → (r : Result Walk TooMany) → IsErrAnd r (λ y. y ≡ x) → Answer prefix total all r text' ends'
+          elements_stop x a r q =
+              turn_stop prefix total all w text ends (sum_over (element_entered d base [] entries) (names_from mem elements i (m - i))) (flat_map (element_list d base [] entries) (names_from mem elements i (m - i))) inv.turn
+              (element_entered d base [] entries (name_of mem e)) (sum_over (element_entered d base [] entries) (names_from mem elements (i + 1) (m - (i + 1)))) (element_list d base [] entries (name_of mem e)) (flat_map (element_list d base [] entries) (names_from mem elements (i + 1) (m - (i + 1))))
+              entered_left paths_left (answer_is (Err x) a) x r text' ends' q
+
+          pub elements_on : (w' : Walk) → Goes (Ok w') → Elements job index count k table files area n entries elements m prefix tail₀ text₀ ends₀ total all text' ends' w' (i + 1)
+          elements_on w' a =
               record {
-                sound = table_sound job index count table g.tabled g.short g.few (row - 1) (omega (arith, seen.within, z));
-                entries_few = g.entries_few;
-                elen_is = el;
-                number_is = eh;
-                elen_small = omega (arith, el, name_short mem e, length-append files area, g.memory_small);
-                job_small = g.job_small;
-                room = omega arith;
+                turn = turn_next prefix total all w text ends (sum_over (element_entered d base [] entries) (names_from mem elements i (m - i))) (flat_map (element_list d base [] entries) (names_from mem elements i (m - i))) inv.turn
+                    (element_entered d base [] entries (name_of mem e)) (sum_over (element_entered d base [] entries) (names_from mem elements (i + 1) (m - (i + 1)))) (element_list d base [] entries (name_of mem e)) (flat_map (element_list d base [] entries) (names_from mem elements (i + 1) (m - (i + 1))))
+                    entered_left paths_left w' text' ends' (answer_is (Ok w') a);
+                given = inv.given;
               }
-
-          module _ (tail tail' : Bytes) (w' : Walk) (text' : Bytes) (ends' : List ℕ) (a : Walked job table (row - 1) 32 mem entries e tail tail' 0 prefix w.entered (paths_of text ends w.count) w' text' ends') where
-            found : module_at d base (filled_parts (name_of mem e)) ≡ Some (module_row job index (row - 1))
-            unfolding row_is
-            found = let y : row ≡ suc (row - 1) = omega arith in sym seen.says ∙ ap (row_is job index) y
-
-            path_is : dotted (name_of mem e) ++ take 0 tail ≡ element_path [] (name_of mem e)
-            path_is = append-nil (dotted (name_of mem e)) ∙ sym (element_path_lem (name_of mem e))
-
-            answer_is : Answer prefix (w.entered + element_entered d base [] entries (name_of mem e)) (add_all (paths_of text ends w.count) (element_list d base [] entries (name_of mem e))) w' text' ends'
-            unfolding element_entered element_list
-            answer_is =
-                let l : row - 1 < count = omega (arith, seen.within, z) in
-                rw found (rw (
-                  path_is,
-                  entered_is job index count table inv.given.tabled (retained_paths [] entries) 32 (row - 1) l (element_path [] (name_of mem e)),
-                  lost_is job index count table inv.given.tabled (retained_paths [] entries) 32 (row - 1) l (element_path [] (name_of mem e)),
-                ) at a.answer)
-
-            pub elements_stop : w'.over ≡ true → Answer prefix total all w' text' ends'
-            elements_stop o =
-                turn_stop prefix total all w text ends (sum_over (element_entered d base [] entries) (names_from mem elements i (m - i))) (flat_map (element_list d base [] entries) (names_from mem elements i (m - i))) inv.turn
-                (element_entered d base [] entries (name_of mem e)) (sum_over (element_entered d base [] entries) (names_from mem elements (i + 1) (m - (i + 1)))) (element_list d base [] entries (name_of mem e)) (flat_map (element_list d base [] entries) (names_from mem elements (i + 1) (m - (i + 1))))
-                entered_left paths_left w' text' ends' answer_is o
-
-            pub elements_on : w'.over ≡ false → Elements job index count k table files area n entries elements m prefix tail₀ text₀ ends₀ total all text' ends' w' (i + 1)
-            elements_on o =
-                record {
-                  turn = turn_next prefix total all w text ends (sum_over (element_entered d base [] entries) (names_from mem elements i (m - i))) (flat_map (element_list d base [] entries) (names_from mem elements i (m - i))) inv.turn
-                      (element_entered d base [] entries (name_of mem e)) (sum_over (element_entered d base [] entries) (names_from mem elements (i + 1) (m - (i + 1)))) (element_list d base [] entries (name_of mem e)) (flat_map (element_list d base [] entries) (names_from mem elements (i + 1) (m - (i + 1))))
-                      entered_left paths_left w' text' ends' answer_is o;
-                  given = inv.given;
-                }

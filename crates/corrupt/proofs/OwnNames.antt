@@ -2,7 +2,7 @@
 -- Assumes nothing.
 use Prim.Native.Nat.{ℕ, ◌+◌, ◌≤◌, ◌<◌, ◌^◌}
 use mathlib.Core.Path.{◌≡◌, refl, sym, ap, ◌∙◌}
-use mathlib.Core.Bool.{true, false}
+use Rattle.std.specs.Prelude.{Result, Ok, IsErrAnd}
 use mathlib.Core.List.{List, [], ◌∷◌, ◌++◌, map, append-nil}
 use native.Mathlib.Omega.{arith}
 use native.Mathlib.Nat.{add-zero}
@@ -12,7 +12,6 @@ use lib.Seq.{take-suc-set}
 use borrow.Author.Rules.{rules}
 use borrow.Author.Tests.{eq-eqb, ne_eqb}
 use Rattle.text.specs.Ascii.{Bytes, byte}
-use Rattle.text.specs.Sames.{no_true}
 use Rattle.jobindex.specs.Index.{num as Index·num}
 use Rattle.jobindex.specs.Rows.{rows_length, rows_here}
 use Rattle.names.specs.Name.{name_of}
@@ -21,8 +20,9 @@ use Rattle.design.specs.Lists.{add_new, add_all}
 use Rattle.design.specs.Paths.{dotted}
 use Rattle.paths.specs.Pieces.{Sized}
 use Rattle.pathnumber.specs.Number.{number, number_on}
+use Rattle.listing.specs.declared.TooMany.{TooMany}
 use Rattle.listing.specs.declared.Walk.{Walk}
-use Rattle.listing.specs.Listing.{paths_of, past, Ready, Answer}
+use Rattle.listing.specs.Listing.{paths_of, Within, Ready, Listed, Answer}
 use Rattle.listing.specs.Turns.{Turn, turn_end, turn_stop, turn_next, add_one_path}
 use Rattle.modtable.specs.Table.{names_at, name_place, name_in, names_of}
 use Rattle.corrupt.specs.Corrupt.{OwnGiven, Stemmed}
@@ -49,14 +49,8 @@ part_short : (job : Bytes) (table : List ℕ) (k i : ℕ) → length (name_in jo
 part_short job table k i = omega (arith, length-take (Index·num table (name_place k i + 1)) (drop (Index·num table (name_place k i)) job), length-drop (Index·num table (name_place k i)) job)
 
 -- one module too many
-pub own_over : (prefix : ℕ) (s : Walk) (all : List Bytes) (text : Bytes) (ends : List ℕ) → s.entered ≡ 4096 → (r : Walk) → r ≡ past → Answer prefix (s.entered + 1) all r text ends
-own_over prefix s all text ends h r g =
-    rw g (record {
-      ready = λ o. absurd (no_true (sym o));
-      entered_is = λ o. absurd (no_true (sym o));
-      paths_are = λ o. absurd (no_true (sym o));
-      refused = λ o w. omega (arith, w.entered, h);
-    })
+pub own_over : (prefix : ℕ) (s : Walk) (all : List Bytes) → s.entered ≡ 4096 → Within prefix (s.entered + 1) all → ⊥
+own_over prefix s all h w = omega (arith, w.entered, h)
 
 -- the names from i on are left
 pub record Names (job : Bytes) (table : List ℕ) (k : ℕ) (mem : Bytes) (e : Name) (elen h : ℕ) (tail : Bytes) (num prefix total : ℕ) (all : List Bytes) (w : Walk) (text : Bytes) (ends : List ℕ) (i : ℕ) : Type 0 where
@@ -77,7 +71,7 @@ module _ (job : Bytes) (table : List ℕ) (k : ℕ) (mem : Bytes) (e : Name) (el
       all = add_all (paths_of text ends s.count) (map below (names_of job table k))
 
       abbrev entering : Walk
-      entering = record { over = false; entered = s.entered + 1; count = s.count; end = s.end; used = s.used; stamp = s.stamp }
+      entering = record { entered = s.entered + 1; count = s.count; end = s.end; used = s.used; stamp = s.stamp }
 
       pub enter_fits : (s.entered ≡ 4096 → ⊥) → s.entered + 1 < 2 ^ 64
       enter_fits m = omega (arith, rd.entered_few)
@@ -87,7 +81,6 @@ module _ (job : Bytes) (table : List ℕ) (k : ℕ) (mem : Bytes) (e : Name) (el
           record {
             turn = record {
               ready = record {
-                going = refl;
                 ascends = rd.ascends;
                 used_is = rd.used_is;
                 end_low = rd.end_low;
@@ -107,7 +100,7 @@ module _ (job : Bytes) (table : List ℕ) (k : ℕ) (mem : Bytes) (e : Name) (el
           }
 
     module _ (total : ℕ) (all : List Bytes) (w : Walk) (text : Bytes) (ends : List ℕ) (i : ℕ) (inv : Names job table k mem e elen h tail num prefix total all w text ends i) where
-      pub names_end : (z : ℕ) → z ≡ Index·num table (names_at k) → z ≤ i → Answer prefix total all w text ends
+      pub names_end : (z : ℕ) → z ≡ Index·num table (names_at k) → z ≤ i → Answer prefix total all (Ok w) text ends
       names_end z ez l =
           let n : drop i (names_of job table k) ≡ [] = drop_of_length-le (names_of job table k) {i = i} (omega (arith, l, ez, rows_length (name_in job table k) (Index·num table (names_at k)))) in
           turn_end prefix total all w text ends 0 (map below (drop i (names_of job table k))) inv.turn refl (ap (map below) n)
@@ -129,22 +122,21 @@ module _ (job : Bytes) (table : List ℕ) (k : ℕ) (mem : Bytes) (e : Name) (el
           pub names_sized : Sized mem e elen tail p
           names_sized = record { is = inv.given.elen_is; fits = omega (arith, inv.given.fits, ap length ep, part_short job table k i) }
 
-          module _ (w' : Walk) (text' : Bytes) (ends' : List ℕ) (a : Answer prefix w.entered (add_new (paths_of text ends w.count) (dotted (name_of mem e) ++ (tail ++ p))) w' text' ends') where
-            one : Answer prefix (w.entered + 0) (add_all (paths_of text ends w.count) (below p ∷ [])) w' text' ends'
-            one = rw (add-zero w.entered, add_one_path (paths_of text ends w.count) (below p)) a
+          rest_is : map below (drop i (names_of job table k)) ≡ (below p ∷ []) ++ map below (drop (i + 1) (names_of job table k))
+          rest_is = ap (map below) left_is ∙ ap (λ (x : Bytes). below x ∷ map below (drop (i + 1) (names_of job table k))) (sym ep)
 
-            rest_is : map below (drop i (names_of job table k)) ≡ (below p ∷ []) ++ map below (drop (i + 1) (names_of job table k))
-            rest_is = ap (map below) left_is ∙ ap (λ (x : Bytes). below x ∷ map below (drop (i + 1) (names_of job table k))) (sym ep)
+          pub names_stop : (Within prefix w.entered (add_new (paths_of text ends w.count) (dotted (name_of mem e) ++ (tail ++ p))) → ⊥) → (x : TooMany) (r : Result Walk TooMany) (text' : Bytes) (ends' : List ℕ) → IsErrAnd r (λ y. y ≡ x) → Answer prefix total all r text' ends'
+          names_stop out x r text' ends' q =
+              let one : Within prefix (w.entered + 0) (add_all (paths_of text ends w.count) (below p ∷ [])) → ⊥ = rw (add-zero w.entered, add_one_path (paths_of text ends w.count) (below p)) out in
+              turn_stop prefix total all w text ends 0 (map below (drop i (names_of job table k))) inv.turn 0 0 (below p ∷ []) (map below (drop (i + 1) (names_of job table k))) refl rest_is one x r text' ends' q
 
-            pub names_stop : w'.over ≡ true → Answer prefix total all w' text' ends'
-            names_stop o = turn_stop prefix total all w text ends 0 (map below (drop i (names_of job table k))) inv.turn 0 0 (below p ∷ []) (map below (drop (i + 1) (names_of job table k))) refl rest_is w' text' ends' one o
+          pub names_on : (w' : Walk) (text' : Bytes) (ends' : List ℕ) → Listed prefix w.entered (add_new (paths_of text ends w.count) (dotted (name_of mem e) ++ (tail ++ p))) w' text' ends' → Names job table k mem e elen h tail num prefix total all w' text' ends' (i + 1)
+          names_on w' text' ends' a =
+              let one : Listed prefix (w.entered + 0) (add_all (paths_of text ends w.count) (below p ∷ [])) w' text' ends' = rw (add-zero w.entered, add_one_path (paths_of text ends w.count) (below p)) a in
+              record {
+                turn = turn_next prefix total all w text ends 0 (map below (drop i (names_of job table k))) inv.turn 0 0 (below p ∷ []) (map below (drop (i + 1) (names_of job table k))) refl rest_is w' text' ends' one;
+                given = inv.given;
+                numbered = inv.numbered;
+              }
 
-            pub names_on : w'.over ≡ false → Names job table k mem e elen h tail num prefix total all w' text' ends' (i + 1)
-            names_on o =
-                record {
-                  turn = turn_next prefix total all w text ends 0 (map below (drop i (names_of job table k))) inv.turn 0 0 (below p ∷ []) (map below (drop (i + 1) (names_of job table k))) refl rest_is w' text' ends' one o;
-                  given = inv.given;
-                  numbered = inv.numbered;
-                }
-
-pub ruleset owns = (rules, own_over, own_row, enter_fits, names_start, names_row, names_end, names_low, names_fits)
+pub ruleset owns = (rules, own_row, enter_fits, names_start, names_row, names_end, names_low, names_fits)

@@ -3,6 +3,7 @@
 use Prim.Native.Nat.{ℕ, zero, suc, ◌+◌, ◌-◌, ◌≤◌, ◌<◌, ◌^◌}
 use mathlib.Core.Path.{◌≡◌, refl, sym, ap, ap₂, ◌∙◌}
 use mathlib.Core.Bool.{Bool, true, false, cond}
+use Rattle.std.specs.Prelude.{Result, Ok, Err, IsErrAnd}
 use mathlib.Core.List.{List, [], ◌∷◌, ◌++◌, map, flat_map, append_assoc, append-nil}
 use native.Mathlib.Omega.{arith}
 use native.Mathlib.Nat.{add-zero}
@@ -12,7 +13,6 @@ use lib.Seq.{take-take, length-take-le, take-append-le}
 use borrow.Author.Rules.{rules}
 use borrow.Author.Tests.{eq-eqb, ne_eqb}
 use Rattle.text.specs.Ascii.{Bytes, byte}
-use Rattle.text.specs.Sames.{no_true}
 use Rattle.out.specs.Emit.{◌▸◌, emit}
 use Rattle.jobindex.specs.Index.{num}
 use Rattle.jobindex.specs.Rows.{rows_length, rows_here}
@@ -24,8 +24,9 @@ use Rattle.design.specs.Paths.{child_path, dotted}
 use Rattle.walk.specs.Walk.{sum_over, retained_paths}
 use Rattle.walk.proofs.Retained.{length_dotted}
 use Rattle.paths.specs.Pieces.{stem, stem_child}
+use Rattle.listing.specs.declared.TooMany.{TooMany}
 use Rattle.listing.specs.declared.Walk.{Walk}
-use Rattle.listing.specs.Listing.{paths_of, Ready, Answer}
+use Rattle.listing.specs.Listing.{paths_of, Within, Ready, Listed, Answer, refused}
 use Rattle.listing.specs.Turns.{Turn, turn_end, turn_stop, turn_next, within_less}
 use Rattle.listing.specs.Written.{front_kept, place_is_lem, front_on}
 use Rattle.modtable.specs.Table.{ways_at, way_place, way_name, names_of, Down, down_in, downs_of}
@@ -101,32 +102,22 @@ module _ (mem : Bytes) (e : Name) (elen t : ℕ) (tail tail' : Bytes) (u : ℕ) 
 
 -- ---- answers, one after the other
 
-module _ (prefix : ℕ) (v : ℕ) (ps : List Bytes) (r : Walk) (text : Bytes) (ends : List ℕ) (a : Answer prefix v ps r text ends) where
-  -- refused: so is what goes on from there
-  answer_over : r.over ≡ true → (v' : ℕ) (qs : List Bytes) → v ≤ v' → Answer prefix v' (add_all ps qs) r text ends
-  answer_over o v' qs h =
-      record {
-        ready = λ n. absurd (no_true (sym n ∙ o));
-        entered_is = λ n. absurd (no_true (sym n ∙ o));
-        paths_are = λ n. absurd (no_true (sym n ∙ o));
-        refused = λ n w. a.refused o (within_less prefix v v' ps qs h w);
-      }
-
-  -- and one that goes on from there
-  answer_on : r.over ≡ false → (x : ℕ) (qs : List Bytes) (r' : Walk) (text' : Bytes) (ends' : List ℕ) → Answer prefix (r.entered + x) (add_all (paths_of text ends r.count) qs) r' text' ends' → Answer prefix (v + x) (add_all ps qs) r' text' ends'
-  answer_on o x qs r' text' ends' b = rw (a.entered_is o, a.paths_are o) at b
+-- one that goes on from there
+answer_on : (prefix : ℕ) (v : ℕ) (ps : List Bytes) (w : Walk) (text : Bytes) (ends : List ℕ) → Listed prefix v ps w text ends
+    → (x : ℕ) (qs : List Bytes) (r' : Result Walk TooMany) (text' : Bytes) (ends' : List ℕ) → Answer prefix (w.entered + x) (add_all (paths_of text ends w.count) qs) r' text' ends' → Answer prefix (v + x) (add_all ps qs) r' text' ends'
+answer_on prefix v ps w text ends a x qs r' text' ends' b = rw (a.entered_is, a.paths_are) at b
 
 -- ---- a module at a retained path
 
 module _ (job : Bytes) (table : List ℕ) (k left : ℕ) (mem : Bytes) (entries : List Bytes) (e : Name) (tail : Bytes) (t prefix : ℕ) (s : Walk) (text : Bytes) (ends : List ℕ) where
-  pub walk_retained : Ready prefix s text ends → (p : Bytes) → p ≡ take t (drop 0 tail) → (b : Bool) → b ≡ is_in (dotted (name_of mem e) ++ p) (retained_paths [] entries) → b ≡ true → Walked job table k left mem entries e tail tail t prefix s.entered (paths_of text ends s.count) s text ends
+  pub walk_retained : Ready prefix s text ends → (p : Bytes) → p ≡ take t (drop 0 tail) → (b : Bool) → b ≡ is_in (dotted (name_of mem e) ++ p) (retained_paths [] entries) → b ≡ true → Walked job table k left mem entries e tail tail t prefix s.entered (paths_of text ends s.count) (Ok s) text ends
   unfolding add_all
   walk_retained rd p ep b eb h =
       let i : is_in (dotted (name_of mem e) ++ take t tail) (retained_paths [] entries) ≡ true = rw (← ep, ← eb) h in
       let z = retained_none job table (retained_paths [] entries) k (dotted (name_of mem e) ++ take t tail) left i in
       record {
         kept = refl;
-        answer = rw (z.0, z.1, add-zero s.entered) (record { ready = λ o. rd; entered_is = λ o. refl; paths_are = λ o. refl; refused = λ o w. no_true (sym rd.going ∙ o) });
+        answer = rw (z.0, z.1, add-zero s.entered) (record { ready = rd; entered_is = refl; paths_are = refl });
       }
 
 -- ---- the instances
@@ -173,12 +164,12 @@ module _ (job : Bytes) (table : List ℕ) (k left : ℕ) (mem : Bytes) (n : ℕ)
   abbrev pub row_lists : List Bytes
   row_lists = flat_map (lists_by job table R (left - 1) child) (downs_of job table k)
 
-  pub round_start : (tail : Bytes) → Given job table k left mem n e elen h t → 2081 ≤ length tail → Stemmed elen t tail tail₀ u → (left ≡ 0 → ⊥) → (v : ℕ) (ps : List Bytes) (w : Walk) (text : Bytes) (ends : List ℕ) → Answer prefix v ps w text ends → w.over ≡ false
+  pub round_start : (tail : Bytes) → Given job table k left mem n e elen h t → 2081 ≤ length tail → Stemmed elen t tail tail₀ u → (left ≡ 0 → ⊥) → (v : ℕ) (ps : List Bytes) (w : Walk) (text : Bytes) (ends : List ℕ) → Listed prefix v ps w text ends
       → Round job table k left mem n entries e elen h t u prefix tail₀ (w.entered + row_visits) (add_all (paths_of text ends w.count) row_lists) tail₀ text ends w 0
-  round_start tail g l st z v ps w text ends a o =
+  round_start tail g l st z v ps w text ends a =
       let tl : t ≤ length tail = omega (arith, g.room) in
       record {
-        turn = record { ready = a.ready o; entered_left = refl; paths_left = refl };
+        turn = record { ready = a.ready; entered_left = refl; paths_left = refl };
         front = refl;
         long = omega (arith, l, st.kept);
         given = g;
@@ -194,7 +185,7 @@ module _ (job : Bytes) (table : List ℕ) (k left : ℕ) (mem : Bytes) (n : ℕ)
     round_row = omega (arith, inv.given.sound.row, inv.given.sound.few)
 
     module _ (z : ℕ) (ez : z ≡ num table (ways_at k)) where
-      pub round_end : z ≤ j → Answer prefix total all w text ends
+      pub round_end : z ≤ j → Answer prefix total all (Ok w) text ends
       unfolding sum_over flat_map
       round_end l =
           let y : drop j (downs_of job table k) ≡ [] = drop_of_length-le (downs_of job table k) {i = j} (omega (arith, l, ez, rows_length (down_in job table k) (num table (ways_at k)))) in
@@ -255,28 +246,31 @@ module _ (job : Bytes) (table : List ℕ) (k left : ℕ) (mem : Bytes) (n : ℕ)
                   room = omega (arith, g.room, place, short, inv.low, inv.more);
                 }
 
-            module _ (tail₃ : Bytes) (w' : Walk) (text' : Bytes) (ends' : List ℕ) (a : Walked job table row (left - 1) mem entries e tail₂ tail₃ v prefix w.entered (paths_of text ends w.count) w' text' ends') where
-              answer_is : Answer prefix (w.entered + visits_by job table R (left - 1) child this) (add_all (paths_of text ends w.count) (lists_by job table R (left - 1) child this)) w' text' ends'
-              answer_is = rw (er, path_is) at a.answer
+            module _ (tail₃ : Bytes) (text' : Bytes) (ends' : List ℕ) where
+              abbrev Goes : Result Walk TooMany → Type 0
+              Goes r = Walked job table row (left - 1) mem entries e tail₂ tail₃ v prefix w.entered (paths_of text ends w.count) r text' ends'
 
-              pub round_stop : w'.over ≡ true → Answer prefix total all w' text' ends'
-              round_stop o =
+              answer_is : (r : Result Walk TooMany) → Goes r → Answer prefix (w.entered + visits_by job table R (left - 1) child this) (add_all (paths_of text ends w.count) (lists_by job table R (left - 1) child this)) r text' ends'
+              answer_is r a = rw (er, path_is) at a.answer
+
+              pub round_stop : (x : TooMany) → Goes (Err x) → (r : Result Walk TooMany) → IsErrAnd r (λ y. y ≡ x) → Answer prefix total all r text' ends'
+              round_stop x a r q =
                   turn_stop prefix total all w text ends (sum_over (visits_by job table R (left - 1) child) (drop j (downs_of job table k))) (flat_map (lists_by job table R (left - 1) child) (drop j (downs_of job table k))) inv.turn
                   (visits_by job table R (left - 1) child this) (sum_over (visits_by job table R (left - 1) child) (drop (j + 1) (downs_of job table k))) (lists_by job table R (left - 1) child this) (flat_map (lists_by job table R (left - 1) child) (drop (j + 1) (downs_of job table k)))
-                  visits_left lists_left w' text' ends' answer_is o
+                  visits_left lists_left (answer_is (Err x) a) x r text' ends' q
 
-              pub round_front : take u tail₃ ≡ take u tail₀
-              round_front =
+              pub round_front : (r : Result Walk TooMany) → Goes r → take u tail₃ ≡ take u tail₀
+              round_front r a =
                   let lo : u ≤ v = omega (arith, place) in
                   sym (take-take u v tail₃ lo) ∙ ap (take u) a.kept ∙ take-take u v tail₂ lo ∙ front_kept tail tail₂ p u v fits ev ∙ inv.front
 
-              pub round_on : w'.over ≡ false → length tail₃ ≡ length tail → Round job table k left mem n entries e elen h t u prefix tail₀ total all tail₃ text' ends' w' (j + 1)
-              round_on o hl =
+              pub round_on : (w' : Walk) → Goes (Ok w') → length tail₃ ≡ length tail → Round job table k left mem n entries e elen h t u prefix tail₀ total all tail₃ text' ends' w' (j + 1)
+              round_on w' a hl =
                   record {
                     turn = turn_next prefix total all w text ends (sum_over (visits_by job table R (left - 1) child) (drop j (downs_of job table k))) (flat_map (lists_by job table R (left - 1) child) (drop j (downs_of job table k))) inv.turn
                         (visits_by job table R (left - 1) child this) (sum_over (visits_by job table R (left - 1) child) (drop (j + 1) (downs_of job table k))) (lists_by job table R (left - 1) child this) (flat_map (lists_by job table R (left - 1) child) (drop (j + 1) (downs_of job table k)))
-                        visits_left lists_left w' text' ends' answer_is o;
-                    front = round_front;
+                        visits_left lists_left w' text' ends' (answer_is (Ok w') a);
+                    front = round_front (Ok w') a;
                     long = omega (arith, hl, inv.long);
                     given = inv.given;
                     low = inv.low;
@@ -292,7 +286,10 @@ module _ (job : Bytes) (table : List ℕ) (k left : ℕ) (mem : Bytes) (n : ℕ)
       let q = g.sound in record { row = omega (arith, q.row, q.few); few = (q.rows k q.row).names_few; elen_is = g.elen_is; number_is = g.number_is; fits = omega (arith, g.elen_small, g.job_small, g.room, low.0, ap length eq, length-take u tail₁) }
 
   module _ (p : Bytes) (ep : p ≡ take t (drop 0 tail)) (b : Bool) (eb : b ≡ is_in (dotted (name_of mem e) ++ p) (retained_paths [] entries)) (hb : b ≡ false) (tail₁ : Bytes) (u : ℕ) (st : Stemmed elen t tail tail₁ u) (q : Bytes) (eq : q ≡ take u (drop 0 tail₁))
-      (prefix v : ℕ) (ps : List Bytes) (w₀ : Walk) (text₁ : Bytes) (ends₁ : List ℕ) (a : Answer prefix (v + 1) (add_all ps (map (λ x. dotted (name_of mem e) ++ (q ++ x)) (names_of job table k))) w₀ text₁ ends₁) where
+      (prefix v : ℕ) (ps : List Bytes) (text₁ : Bytes) (ends₁ : List ℕ) where
+    abbrev Owns : Result Walk TooMany → Type 0
+    Owns r = Answer prefix (v + 1) (add_all ps (map (λ x. dotted (name_of mem e) ++ (q ++ x)) (names_of job table k))) r text₁ ends₁
+
     abbrev path : Bytes
     path = dotted (name_of mem e) ++ take t tail
 
@@ -302,36 +299,38 @@ module _ (job : Bytes) (table : List ℕ) (k left : ℕ) (mem : Bytes) (n : ℕ)
     tail_in : t ≤ length tail
     tail_in = omega (arith, l, g.room)
 
-    owned : Answer prefix (v + 1) (add_all ps (own_of job table k path)) w₀ text₁ ends₁
-    owned = rw (eq, own_is mem e elen t tail tail₁ u st g.elen_is tail_in (names_of job table k)) at a
+    owned : (r : Result Walk TooMany) → Owns r → Answer prefix (v + 1) (add_all ps (own_of job table k path)) r text₁ ends₁
+    owned r a = rw (eq, own_is mem e elen t tail tail₁ u st g.elen_is tail_in (names_of job table k)) at a
 
     kept : take t tail₁ ≡ take t tail
     kept = stem_kept mem e elen t tail tail₁ u st g.elen_is tail_in
 
-    pub walk_full : w₀.over ≡ true → Walked job table k left mem entries e tail tail₁ t prefix v ps w₀ text₁ ends₁
-    walk_full o =
+    pub walk_full : (x : TooMany) → Owns (Err x) → (r : Result Walk TooMany) → IsErrAnd r (λ y. y ≡ x) → Walked job table k left mem entries e tail tail₁ t prefix v ps r text₁ ends₁
+    walk_full x a r h =
         let f = own_first job table (retained_paths [] entries) k path free left in
+        let out : Within prefix (v + entered_below job table (retained_paths [] entries) left k path) (add_all (add_all ps (own_of job table k path)) f.1.0) → ⊥ =
+        λ w. owned (Err x) a (within_less prefix (v + 1) (v + entered_below job table (retained_paths [] entries) left k path) (add_all ps (own_of job table k path)) f.1.0 (omega (arith, f.0)) w) in
         record {
           kept = kept;
-          answer = rw (f.1.1, add_all_append ps (own_of job table k path) f.1.0) (answer_over prefix (v + 1) (add_all ps (own_of job table k path)) w₀ text₁ ends₁ owned o (v + entered_below job table (retained_paths [] entries) left k path) f.1.0 (omega (arith, f.0)));
+          answer = rw (f.1.1, add_all_append ps (own_of job table k path) f.1.0) (refused prefix (v + entered_below job table (retained_paths [] entries) left k path) (add_all (add_all ps (own_of job table k path)) f.1.0) x r text₁ ends₁ h out);
         }
 
-    pub walk_last : w₀.over ≡ false → left ≡ 0 → Walked job table k left mem entries e tail tail₁ t prefix v ps w₀ text₁ ends₁
-    walk_last o z =
+    pub walk_last : (w₀ : Walk) → Owns (Ok w₀) → left ≡ 0 → Walked job table k left mem entries e tail tail₁ t prefix v ps (Ok w₀) text₁ ends₁
+    walk_last w₀ a z =
         let f = last_own job table (retained_paths [] entries) k path free in
-        record { kept = kept; answer = rw (z, f.0, f.1) owned }
+        record { kept = kept; answer = rw (z, f.0, f.1) (owned (Ok w₀) a) }
 
-    pub walk_done : w₀.over ≡ false → (left ≡ 0 → ⊥) → (r : Walk) (text : Bytes) (ends : List ℕ) (tail' : Bytes)
+    pub walk_done : (w₀ : Walk) → Owns (Ok w₀) → (left ≡ 0 → ⊥) → (r : Result Walk TooMany) (text : Bytes) (ends : List ℕ) (tail' : Bytes)
         → Answer prefix (w₀.entered + row_visits job table k left mem n entries e elen h t u prefix tail₁) (add_all (paths_of text₁ ends₁ w₀.count) (row_lists job table k left mem n entries e elen h t u prefix tail₁)) r text ends
         → take u tail' ≡ take u tail₁ → Walked job table k left mem entries e tail tail' t prefix v ps r text ends
-    walk_done o z r text ends tail' b' f' =
+    walk_done w₀ a z r text ends tail' b' f' =
         let y : left ≡ suc (left - 1) = omega arith in
         let f = more_own job table (retained_paths [] entries) k path free (left - 1) in
         let low = stem_low mem e elen t tail tail₁ u st g.elen_is tail_in in
         let c = child_is mem e elen t tail tail₁ u st g.elen_is tail_in in
         let vs = visits_same job table (retained_paths [] entries) (left - 1) (λ x. dotted (name_of mem e) ++ (take u tail₁ ++ x)) (child_path path) (λ x. sym (c x)) (downs_of job table k) in
         let ls = lists_same job table (retained_paths [] entries) (left - 1) (λ x. dotted (name_of mem e) ++ (take u tail₁ ++ x)) (child_path path) (λ x. sym (c x)) (downs_of job table k) in
-        let j = answer_on prefix (v + 1) (add_all ps (own_of job table k path)) w₀ text₁ ends₁ owned o (row_visits job table k left mem n entries e elen h t u prefix tail₁) (row_lists job table k left mem n entries e elen h t u prefix tail₁) r text ends b' in
+        let j = answer_on prefix (v + 1) (add_all ps (own_of job table k path)) w₀ text₁ ends₁ (owned (Ok w₀) a) (row_visits job table k left mem n entries e elen h t u prefix tail₁) (row_lists job table k left mem n entries e elen h t u prefix tail₁) r text ends b' in
         let ne : v + 1 + row_visits job table k left mem n entries e elen h t u prefix tail₁ ≡ v + entered_below job table (retained_paths [] entries) left k path = sym (ap (λ x. v + entered_below job table (retained_paths [] entries) x k path) y ∙ ap (λ x. v + x) f.0 ∙ omega (arith, vs)) in
         let le : add_all (add_all ps (own_of job table k path)) (row_lists job table k left mem n entries e elen h t u prefix tail₁) ≡ add_all ps (lost_below job table (retained_paths [] entries) left k path) =
         sym (ap (λ x. add_all ps (lost_below job table (retained_paths [] entries) x k path)) y ∙ ap (add_all ps) (f.1 ∙ ap (λ (x : List Bytes). own_of job table k path ++ x) (sym ls)) ∙ add_all_append ps (own_of job table k path) (row_lists job table k left mem n entries e elen h t u prefix tail₁)) in

@@ -1,6 +1,6 @@
 -- What the walk over the job and its index is given, and what it comes to. A module's path is the element with `/` as `.` and the front of the tail.
 -- Assumes nothing.
-use Rattle.std.specs.Prelude.{ℕ, ◌+◌, ◌*◌, ◌≤◌, ◌<◌, ◌^◌, ◌≡◌, cond, eqb, length, take}
+use Rattle.std.specs.Prelude.{ℕ, ◌+◌, ◌*◌, ◌≤◌, ◌<◌, ◌^◌, ◌≡◌, cond, eqb, length, take, Result}
 use mathlib.Core.List.{List, [], ◌∷◌, ◌++◌, Memᴰ as Mem}
 use Rattle.text.specs.Ascii.{Bytes, byte}
 use Rattle.joblines.specs.Job.{Inst}
@@ -13,6 +13,7 @@ use Rattle.walk.specs.Limits.{most_depth, most_paths, most_path_bytes}
 use Rattle.walk.specs.Walk.{retained_paths}
 use Rattle.pathnumber.specs.Number.{number}
 use Rattle.listing.specs.Listing.{flag_count, Answer}
+use Rattle.listing.specs.declared.TooMany.{TooMany}
 use Rattle.listing.specs.declared.Walk.{Walk}
 use Rattle.modtable.specs.Table.{names_at, Tabled}
 use Rattle.corrupt.specs.OverTable.{lost_below, entered_below, Sound}
@@ -64,6 +65,6 @@ pub record Stemmed (elen t : ℕ) (tail tail' : Bytes) (r : ℕ) : Type 0 where
   pub kept : length tail' ≡ length tail
 
 -- the answer of the walk from row k, called after v modules were entered and ps listed; the front of the tail is kept
-pub record Walked (job : Bytes) (table : List ℕ) (k left : ℕ) (mem : Bytes) (entries : List Bytes) (e : Name) (tail tail' : Bytes) (t prefix v : ℕ) (ps : List Bytes) (r : Walk) (text : Bytes) (ends : List ℕ) : Type 0 where
+pub record Walked (job : Bytes) (table : List ℕ) (k left : ℕ) (mem : Bytes) (entries : List Bytes) (e : Name) (tail tail' : Bytes) (t prefix v : ℕ) (ps : List Bytes) (r : Result Walk TooMany) (text : Bytes) (ends : List ℕ) : Type 0 where
   pub kept : take t tail' ≡ take t tail
   pub answer : Answer prefix (v + entered_below job table (retained_paths [] entries) left k (dotted (name_of mem e) ++ take t tail)) (add_all ps (lost_below job table (retained_paths [] entries) left k (dotted (name_of mem e) ++ take t tail))) r text ends

@@ -15,9 +15,16 @@ ghost use Rattle.paths.specs.Pieces.{entries_below};
 ghost use Rattle.listing.specs.Listing.{paths_of, Ready, Answer};
 ghost use Rattle.corrupt.specs.Corrupt.{OwnGiven, Given, DomainGiven, Stemmed, Walked};
 ghost use Rattle.corrupt.specs.Marked.{Marked};
+ghost use Rattle.spans.specs.Memory.{memory};
+ghost use Rattle.nametable.specs.Names.{names_in};
+ghost use Rattle.lookup.specs.Design.{modules_in};
+ghost use Rattle.jobindex.specs.Modules.{module_in};
 
-use listing::Walk;
+use jobindex::Design;
+use listing::{TooMany, Walk};
 use names::name::Name;
+use spans::span::Memory;
+use text::part::Rows;
 
 mod marks;
 
@@ -40,8 +47,7 @@ fn own(
     job: &[u8],
     table: &[u32],
     k: usize,
-    files: &[u8],
-    area: &[u8],
+    mem: &Memory,
     e: Name,
     elen: usize,
     h: usize,
@@ -50,15 +56,14 @@ fn own(
     text: &mut [u8],
     ends: &mut [u32],
     s: Walk,
-) -> Walk
-    requires { OwnGiven job.now table.now k (files.now ++ area.now) e elen h tail.now × Ready prefix s text.old ends.old }
-    ensures { Answer prefix (s.entered + 1) (add_all (paths_of text.old ends.old s.count) (map (λ n. dotted (name_of (files.now ++ area.now) e) ++ (tail.now ++ n)) (names_of job.now table.now k))) result text.new ends.new }
+) -> Result<Walk, TooMany>
+    requires { OwnGiven job.now table.now k (memory mem.now) e elen h tail.now × Ready prefix s text.old ends.old }
+    ensures { Answer prefix (s.entered + 1) (add_all (paths_of text.old ends.old s.count) (map (λ n. dotted (name_of (memory mem.now) e) ++ (tail.now ++ n)) (names_of job.now table.now k))) result text.new ends.new }
 {
     if s.entered == 4096 {
-        return listing::refused();
+        return Err(TooMany);
     }
     let mut w = Walk {
-        over: false,
         entered: s.entered + 1,
         ..s
     };
@@ -66,12 +71,9 @@ fn own(
     let z = modtable::name_count(table, k);
     for i in 0..z {
         let n = modtable::name(job, table, k, i);
-        w = listing::add(files, area, e, elen, tail, n, number, prefix, text, ends, w);
-        if w.over {
-            return w;
-        }
+        w = listing::add(mem, e, elen, tail, n, number, prefix, text, ends, w)?;
     }
-    w
+    Ok(w)
 }
 
 // The walk from module k, whose path is the element and the first t bytes of the tail, with `left` instances more to go down. `h` is the element's number.
@@ -80,10 +82,8 @@ fn corruptible(
     table: &[u32],
     k: usize,
     left: usize,
-    files: &[u8],
-    area: &[u8],
-    retained: &[u32],
-    n: usize,
+    mem: &Memory,
+    retained: &Rows,
     below: bool,
     e: Name,
     elen: usize,
@@ -95,15 +95,13 @@ fn corruptible(
     ends: &mut [u32],
     s: Walk,
     marks: &[u8],
-) -> Walk
-    requires { Given job.now table.now k left (files.now ++ area.now) n e elen h t × ((2081 ≤ length tail.old) × (Ready prefix s text.old ends.old × Marked marks.now (table_names (files.now ++ area.now) retained.now n))) }
-    ensures { Walked job.now table.now k left (files.now ++ area.now) (entries_below below (table_names (files.now ++ area.now) retained.now n)) e tail.old tail.new t prefix s.entered (paths_of text.old ends.old s.count) result text.new ends.new }
+) -> Result<Walk, TooMany>
+    requires { Given job.now table.now k left (memory mem.now) retained.now.n e elen h t × ((2081 ≤ length tail.old) × (Ready prefix s text.old ends.old × Marked marks.now (names_in (memory mem.now) retained.now))) }
+    ensures { Walked job.now table.now k left (memory mem.now) (entries_below below (names_in (memory mem.now) retained.now)) e tail.old tail.new t prefix s.entered (paths_of text.old ends.old s.count) result text.new ends.new }
 {
     if marks::retained(
-        files,
-        area,
+        mem,
         retained,
-        n,
         below,
         e,
         elen,
@@ -111,15 +109,14 @@ fn corruptible(
         text::part::part(tail, 0, t),
         marks,
     ) {
-        return s;
+        return Ok(s);
     }
     let u = stem(tail, elen, t);
     let mut w = own(
         job,
         table,
         k,
-        files,
-        area,
+        mem,
         e,
         elen,
         h,
@@ -128,13 +125,9 @@ fn corruptible(
         text,
         ends,
         s,
-    );
-    let full = w.over;
-    if full {
-        return w;
-    }
+    )?;
     if left == 0 {
-        return w;
+        return Ok(w);
     }
     let z = modtable::way_count(table, k);
     for j in 0..z {
@@ -144,10 +137,8 @@ fn corruptible(
             table,
             modtable::way_row(table, k, j),
             left - 1,
-            files,
-            area,
+            mem,
             retained,
-            n,
             below,
             e,
             elen,
@@ -159,57 +150,45 @@ fn corruptible(
             ends,
             w,
             marks,
-        );
-        let over = w.over;
-        if over {
-            return w;
-        }
+        )?;
     }
-    w
+    Ok(w)
 }
 
 // What `domain_paths` does, with the marks of the retained entries.
 fn marked_paths(
-    job: &[u8],
-    index: &[u32],
-    count: usize,
+    design: &Design,
     k: usize,
     table: &[u32],
-    files: &[u8],
-    area: &[u8],
-    retained: &[u32],
-    n: usize,
+    mem: &Memory,
+    retained: &Rows,
     below: bool,
-    elements: &[u32],
-    m: usize,
+    elements: &Rows,
     prefix: usize,
     tail: &mut [u8],
     text: &mut [u8],
     ends: &mut [u32],
     stamp: u32,
     marks: &[u8],
-) -> Walk
-    requires { DomainGiven job.now index.now count k table.now files.now area.now n m prefix tail.old text.old ends.old × Marked marks.now (table_names (files.now ++ area.now) retained.now n) }
-    ensures { Answer prefix (domain_entered (modules job.now index.now count) (module_row job.now index.now k) [] (entries_below below (table_names (files.now ++ area.now) retained.now n)) (table_names (files.now ++ area.now) elements.now m)) (domain_list (modules job.now index.now count) (module_row job.now index.now k) [] (entries_below below (table_names (files.now ++ area.now) retained.now n)) (table_names (files.now ++ area.now) elements.now m)) result text.new ends.new }
+) -> Result<Walk, TooMany>
+    requires { DomainGiven design.now.index.job.now design.now.index.rows.now design.now.count k table.now mem.now.files.now mem.now.area.now retained.now.n elements.now.n prefix tail.old text.old ends.old × Marked marks.now (names_in (memory mem.now) retained.now) }
+    ensures { Answer prefix (domain_entered (modules_in design.now) (module_in design.now.index k) [] (entries_below below (names_in (memory mem.now) retained.now)) (names_in (memory mem.now) elements.now)) (domain_list (modules_in design.now) (module_in design.now.index k) [] (entries_below below (names_in (memory mem.now) retained.now)) (names_in (memory mem.now) elements.now)) result text.new ends.new }
 {
     let mut w = listing::start(stamp);
-    for i in 0..m {
-        let e = nametable::row(elements, i);
-        let row = elements::element_module(job, index, count, k, files, area, e);
-        if row == 0 {
+    for i in 0..elements.n {
+        let e = nametable::row(elements.rows, i);
+        let Some(row) = elements::element_module(design, k, mem, e) else {
             continue;
-        }
-        let elen = paths::entry::size(files, area, e);
-        let h = pathnumber::element_number(files, area, e);
+        };
+        let elen = paths::entry::size(mem, e);
+        let h = pathnumber::element_number(mem, e);
         w = corruptible(
-            job,
+            design.index.job,
             table,
-            row - 1,
+            row,
             32,
-            files,
-            area,
+            mem,
             retained,
-            n,
             below,
             e,
             elen,
@@ -221,50 +200,40 @@ fn marked_paths(
             ends,
             w,
             marks,
-        );
-        if w.over {
-            return w;
-        }
+        )?;
     }
-    w
+    Ok(w)
 }
 
-// The paths that a domain loses, whose elements are the first m names of `elements` and are looked up from module k. `retained` has n entries;
+// The paths that a domain loses, whose elements are the names of `elements` and are looked up from module k. `retained` are the entries kept;
 // `below` says that the scope is not the top, and `prefix` what its path adds to each path. `stamp` tells the flags of
 // this walk from those of the walks before it.
 #[tactic(auto, using(crate::proofs::Marking::empties))]
 pub fn domain_paths(
-    job: &[u8],
-    index: &[u32],
-    count: usize,
+    design: &Design,
     k: usize,
     table: &[u32],
-    files: &[u8],
-    area: &[u8],
-    retained: &[u32],
-    n: usize,
+    mem: &Memory,
+    retained: &Rows,
     below: bool,
-    elements: &[u32],
-    m: usize,
+    elements: &Rows,
     prefix: usize,
     tail: &mut [u8],
     text: &mut [u8],
     ends: &mut [u32],
     stamp: u32,
-) -> Walk
-    requires { DomainGiven job.now index.now count k table.now files.now area.now n m prefix tail.old text.old ends.old }
-    ensures { Answer prefix (domain_entered (modules job.now index.now count) (module_row job.now index.now k) [] (entries_below below (table_names (files.now ++ area.now) retained.now n)) (table_names (files.now ++ area.now) elements.now m)) (domain_list (modules job.now index.now count) (module_row job.now index.now k) [] (entries_below below (table_names (files.now ++ area.now) retained.now n)) (table_names (files.now ++ area.now) elements.now m)) result text.new ends.new }
+) -> Result<Walk, TooMany>
+    requires { DomainGiven design.now.index.job.now design.now.index.rows.now design.now.count k table.now mem.now.files.now mem.now.area.now retained.now.n elements.now.n prefix tail.old text.old ends.old }
+    ensures { Answer prefix (domain_entered (modules_in design.now) (module_in design.now.index k) [] (entries_below below (names_in (memory mem.now) retained.now)) (names_in (memory mem.now) elements.now)) (domain_list (modules_in design.now) (module_in design.now.index k) [] (entries_below below (names_in (memory mem.now) retained.now)) (names_in (memory mem.now) elements.now)) result text.new ends.new }
 {
-    if n == 0 {
+    if retained.n == 0 {
         return marked_paths(
-            job, index, count, k, table, files, area, retained, n, below, elements, m, prefix,
-            tail, text, ends, stamp, b"",
+            design, k, table, mem, retained, below, elements, prefix, tail, text, ends, stamp, b"",
         );
     }
     let mut marks = [0u8; 32768];
-    marks::mark(files, area, retained, n, &mut marks);
+    marks::mark(mem, retained, &mut marks);
     marked_paths(
-        job, index, count, k, table, files, area, retained, n, below, elements, m, prefix, tail,
-        text, ends, stamp, &marks,
+        design, k, table, mem, retained, below, elements, prefix, tail, text, ends, stamp, &marks,
     )
 }

@@ -8,28 +8,30 @@ ghost use Rattle.walk.specs.Walk.{retained_paths};
 ghost use Rattle.paths.specs.Pieces.{entries_below};
 ghost use Rattle.pathnumber.specs.Number.{number};
 ghost use Rattle.corrupt.specs.Marked.{mark_count, Marked};
+ghost use Rattle.spans.specs.Memory.{memory};
+ghost use Rattle.nametable.specs.Names.{names_in};
 
 use names::name::Name;
+use spans::span::Memory;
+use text::part::Rows;
 
 // Sets the marks of the first n entries of a table.
 #[tactic(auto, using(crate::proofs::Marking::marking))]
-pub fn mark(files: &[u8], area: &[u8], table: &[u32], n: usize, marks: &mut [u8])
-    requires { (n ≤ 65536) × (mark_count ≤ length marks.old) }
-    ensures { Marked marks.new (table_names (files.now ++ area.now) table.now n) }
+pub fn mark(mem: &Memory, table: &Rows, marks: &mut [u8])
+    requires { (table.now.n ≤ 65536) × (mark_count ≤ length marks.old) }
+    ensures { Marked marks.new (names_in (memory mem.now) table.now) }
 {
-    for k in 0..n {
-        let y = nametable::row(table, k);
-        let i = pathnumber::element_number(files, area, y) % 32768;
+    for k in 0..table.n {
+        let y = nametable::row(table.rows, k);
+        let i = pathnumber::element_number(mem, y) % 32768;
         marks[i] = 1;
     }
 }
 
 // Whether the path of a module is one of the first n entries of a table, whose marks are asked first. `h` is the element's number.
 pub fn retained(
-    files: &[u8],
-    area: &[u8],
-    table: &[u32],
-    n: usize,
+    mem: &Memory,
+    table: &Rows,
     below: bool,
     e: Name,
     elen: usize,
@@ -37,12 +39,12 @@ pub fn retained(
     tail: &[u8],
     marks: &[u8],
 ) -> bool
-    requires { (n ≤ 65536) × ((elen ≡ length (name_of (files.now ++ area.now) e)) × ((h ≡ number 0 (dotted (name_of (files.now ++ area.now) e))) × Marked marks.now (table_names (files.now ++ area.now) table.now n))) }
-    ensures { result ≡ is_in (dotted (name_of (files.now ++ area.now) e) ++ tail.now) (retained_paths [] (entries_below below (table_names (files.now ++ area.now) table.now n))) }
+    requires { (table.now.n ≤ 65536) × ((elen ≡ length (name_of (memory mem.now) e)) × ((h ≡ number 0 (dotted (name_of (memory mem.now) e))) × Marked marks.now (names_in (memory mem.now) table.now))) }
+    ensures { result ≡ is_in (dotted (name_of (memory mem.now) e) ++ tail.now) (retained_paths [] (entries_below below (names_in (memory mem.now) table.now))) }
 {
     let i = pathnumber::number_on(h, tail) % 32768;
     if text::part::peek(marks, i) == 0 {
         return false;
     }
-    paths::entry::retained(files, area, table, n, below, e, elen, tail)
+    paths::entry::retained(mem, table, below, e, elen, tail)
 }

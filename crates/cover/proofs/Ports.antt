@@ -3,15 +3,13 @@ use Rattle.std.specs.Prelude.{Option}
 use Prim.Native.Nat.{ℕ, ◌+◌, ◌-◌, ◌≤◌, ◌<◌, ◌^◌}
 use native.Mathlib.Omega.{arith}
 use mathlib.Core.Path.{◌≡◌, refl, sym, ap, ◌∙◌}
-use mathlib.Core.Bool.{Bool, true, false, not}
+use mathlib.Core.Bool.{Bool, true, false}
 use mathlib.Core.List.{List, [], ◌∷◌, ◌++◌, append-nil}
 use Rattle.std.specs.Prelude.{None, Some}
 use lib.ListN.{length, take, length-append, length-take}
 use lib.Seq.{take-take}
 use borrow.Author.Rules.{rules}
-use borrow.Author.Tests.{not-true, not-false}
-use Rattle.text.specs.Ascii.{Bytes, ascii, byte}
-use Rattle.text.specs.Scan.{any, is}
+use Rattle.text.specs.Ascii.{Bytes, ascii}
 use Rattle.names.specs.Name.{name_of}
 use Rattle.names.specs.declared.name.Name.{Name}
 use Rattle.nametable.specs.Table.{Stores}
@@ -256,46 +254,59 @@ module _ (job : Bytes) (index : List ℕ) (count k : ℕ) (files area : Bytes) (
       rw g (omega (arith, length-take n (name_of (files ++ area) e), name_small e))
 
   -- nothing, or an instance
-  module _ (t : Bytes) (p : Place) (seen : PlaceSeen job index count k t p) where
-    none_there : not p.found ≡ true → instance_at (modules job index count) (module_row job index k) (parts t) ≡ None
-    none_there h = sym (rw (not-true p.found h) at seen.is)
+  none_there : (t : Bytes) → PlaceSeen job index count k t None → instance_at (modules job index count) (module_row job index k) (parts t) ≡ None
+  none_there t seen = sym seen.is
 
+  module _ (t : Bytes) (p : Place) (seen : PlaceSeen job index count k t (Some p)) where
     abbrev there : Instance
     there = record { parent = module_row job index p.parent; conns = conns_in (section job p.conns (insts_end index p.parent)); sub = module_row job index p.sub }
 
-    one_there : not p.found ≡ false → instance_at (modules job index count) (module_row job index k) (parts t) ≡ Some there
-    one_there h = sym (rw (not-false p.found h) at seen.is)
+    one_there : instance_at (modules job index count) (module_row job index k) (parts t) ≡ Some there
+    one_there = sym seen.is
 
-  module _ (e : Name) (r : Ref) (er : r ≡ whole_ref e) (p : Place) (seen : PlaceSeen job index count k (text_of job (files ++ area) r) p) where
+    parent_few : p.parent ≤ 128
+    parent_few = omega (arith, seen.place.parent_row, asks.few)
+
+    sub_few : p.sub ≤ 128
+    sub_few = omega (arith, seen.place.sub_row, asks.few)
+
+    upto_in_text : p.upto ≤ length t
+    upto_in_text = seen.place.inside
+
+    front_text_is : (n : Bytes) → below_parent (front_parts (parts t)) n ≡ take p.upto t ++ n
+    front_text_is = seen.place.front
+
+  module _ (e : Name) (r : Ref) (er : r ≡ whole_ref e) where
     abbrev elem : Bytes
     elem = name_of (files ++ area) e
 
     text_is : text_of job (files ++ area) r ≡ elem
     text_is = ap (text_of job (files ++ area)) er ∙ whole_is job (files ++ area) e
 
-    seen_there : PlaceSeen job index count k elem p
-    seen_there = rw text_is at seen
-
-    pub outputs_none : (warn : Bool) (c : Cover) (out : Bytes) (t : List ℕ) (name : Bytes) → Ready c t → not p.found ≡ true
+    pub outputs_none : PlaceSeen job index count k (text_of job (files ++ area) r) None → (warn : Bool) (c : Cover) (out : Bytes) (t : List ℕ) (name : Bytes) → Ready c t
         → Answer job (files ++ area) warn c out (gains number name (output_aims (modules job index count) (module_row job index k) elem) (kept_in job (files ++ area) t c.ports)) c out t
-    outputs_none warn c out t name ready h = rw (none_there elem p seen_there h, gains_none number name (kept_in job (files ++ area) t c.ports)) (answer_stay job (files ++ area) warn c out t ready)
+    outputs_none seen warn c out t name ready = rw (none_there elem (rw text_is at seen), gains_none number name (kept_in job (files ++ area) t c.ports)) (answer_stay job (files ++ area) warn c out t ready)
 
-    pub outputs_placed : not p.found ≡ false → Placed job files area number elem p
-    outputs_placed h =
-        record {
-          parent_row = omega (arith, seen.parent_row, asks.few);
-          sub_row = omega (arith, seen.sub_row, asks.few);
-          number_small = asks.number_small;
-          job_small = asks.job_small;
-          small = asks.small;
-          upto_small = omega (arith, seen_there.inside, name_small e);
-          front = seen_there.front (not-false p.found h);
-        }
+    module _ (p : Place) (seen : PlaceSeen job index count k (text_of job (files ++ area) r) (Some p)) where
+      seen_there : PlaceSeen job index count k elem (Some p)
+      seen_there = rw text_is at seen
 
-    pub outputs_some : not p.found ≡ false → (warn : Bool) (c : Cover) (out : Bytes) (t : List ℕ) (name : Bytes) (q : Cover) (out' : Bytes) (t' : List ℕ)
-        → Answer job (files ++ area) warn c out (all_gain job index (files ++ area) t number name elem p c) q out' t'
-        → Answer job (files ++ area) warn c out (gains number name (output_aims (modules job index count) (module_row job index k) elem) (kept_in job (files ++ area) t c.ports)) q out' t'
-    outputs_some h warn c out t name q out' t' a = rw (one_there elem p seen_there h) a
+      pub outputs_placed : Placed job files area number elem p
+      outputs_placed =
+          record {
+            parent_row = parent_few elem p seen_there;
+            sub_row = sub_few elem p seen_there;
+            number_small = asks.number_small;
+            job_small = asks.job_small;
+            small = asks.small;
+            upto_small = omega (arith, upto_in_text elem p seen_there, name_small e);
+            front = front_text_is elem p seen_there;
+          }
+
+      pub outputs_some : (warn : Bool) (c : Cover) (out : Bytes) (t : List ℕ) (name : Bytes) (q : Cover) (out' : Bytes) (t' : List ℕ)
+          → Answer job (files ++ area) warn c out (all_gain job index (files ++ area) t number name elem p c) q out' t'
+          → Answer job (files ++ area) warn c out (gains number name (output_aims (modules job index count) (module_row job index k) elem) (kept_in job (files ++ area) t c.ports)) q out' t'
+      outputs_some warn c out t name q out' t' a = rw (one_there elem p seen_there) a
 
 pub ruleset finds = (rules, whole_asked, outputs_none, outputs_placed, outputs_some)
 
@@ -311,87 +322,88 @@ module _ (job : Bytes) (index : List ℕ) (count k : ℕ) (files area : Bytes) (
   pub slash_some : 1 ≤ upto
   slash_some = omega (arith, up_now.1)
 
-  module _ (r : Ref) (er : r ≡ front_ref e (upto - 1)) (p : Place) (seen : PlaceSeen job index count k (text_of job (files ++ area) r) p) where
+  module _ (r : Ref) (er : r ≡ front_ref e (upto - 1)) where
     front_text : text_of job (files ++ area) r ≡ take (upto - 1) whole
     front_text = ap (text_of job (files ++ area)) er ∙ front_is job (files ++ area) e (upto - 1)
 
     up_text_lem : text_of job (files ++ area) r ≡ up whole
     up_text_lem = front_text ∙ up_now.0
 
-    seen_up : PlaceSeen job index count k (up whole) p
-    seen_up = rw up_text_lem at seen
-
-    pub slash_none : (warn : Bool) (c : Cover) (out : Bytes) (t : List ℕ) (name : Bytes) → Ready c t → not p.found ≡ true
+    pub slash_none : PlaceSeen job index count k (text_of job (files ++ area) r) None → (warn : Bool) (c : Cover) (out : Bytes) (t : List ℕ) (name : Bytes) → Ready c t
         → Answer job (files ++ area) warn c out (gains number name (slash_aims (modules job index count) (module_row job index k) whole) (kept_in job (files ++ area) t c.ports)) c out t
-    slash_none warn c out t name ready h =
-        rw (none_there job index count k files area number asks (up whole) p seen_up h, gains_none number name (kept_in job (files ++ area) t c.ports)) (answer_stay job (files ++ area) warn c out t ready)
+    slash_none seen warn c out t name ready =
+        rw (none_there job index count k files area number asks (up whole) (rw up_text_lem at seen), gains_none number name (kept_in job (files ++ area) t c.ports)) (answer_stay job (files ++ area) warn c out t ready)
 
-    pub slash_parent : p.parent ≤ 128
-    slash_parent = omega (arith, seen.parent_row, asks.few)
+    module _ (p : Place) (seen : PlaceSeen job index count k (text_of job (files ++ area) r) (Some p)) where
+      seen_up : PlaceSeen job index count k (up whole) (Some p)
+      seen_up = rw up_text_lem at seen
 
-    pub slash_sub : p.sub ≤ 128
-    slash_sub = omega (arith, seen.sub_row, asks.few)
+      pub slash_parent : p.parent ≤ 128
+      slash_parent = parent_few job index count k files area number asks (up whole) p seen_up
 
-    upto_in : p.upto ≤ upto - 1
-    upto_in =
-        let l : p.upto ≤ length (take (upto - 1) whole) = rw front_text at seen.inside in
-        omega (arith, l, length-take (upto - 1) whole)
+      pub slash_sub : p.sub ≤ 128
+      slash_sub = sub_few job index count k files area number asks (up whole) p seen_up
 
-    upto_held : p.upto < 2 ^ 32
-    upto_held =
-        let l : p.upto ≤ length (take (upto - 1) whole) = rw front_text at seen.inside in
-        omega (arith, l, length-take (upto - 1) whole, name_small job index count k files area number asks e)
+      upto_in : p.upto ≤ upto - 1
+      upto_in =
+          let l : p.upto ≤ length (take (upto - 1) whole) = rw front_text at (upto_in_text job index count k files area number asks (text_of job (files ++ area) r) p seen) in
+          omega (arith, l, length-take (upto - 1) whole)
 
-    pub slash_ready : (y : Isolated) → y ≡ slash_port (files ++ area) number e rest p.upto → Fits y × (length job < 2 ^ 32)
-    slash_ready y h = rw h (slash_fits job files area asks.small asks.job_small number asks.number_small e p.upto upto_held rest, asks.job_small)
+      upto_held : p.upto < 2 ^ 32
+      upto_held =
+          let l : p.upto ≤ length (take (upto - 1) whole) = rw front_text at (upto_in_text job index count k files area number asks (text_of job (files ++ area) r) p seen) in
+          omega (arith, l, length-take (upto - 1) whole, name_small job index count k files area number asks e)
 
-    module _ (h : not p.found ≡ false) (y : Isolated) (ey : y ≡ slash_port (files ++ area) number e rest p.upto) (end : ℕ) (ee : end ≡ insts_end index p.parent) (own : Ref) (eo : own ≡ whole_ref rest) (n : Net)
-        (says : net_is job (text_of job (files ++ area) own) n ≡ actual_of (conns_in (section job p.conns end)) (module_row job index p.sub) (text_of job (files ++ area) own)) where
-      own_text : text_of job (files ++ area) own ≡ last_part (parts whole)
-      own_text = ap (text_of job (files ++ area)) eo ∙ whole_is job (files ++ area) rest ∙ slashed.last
+      pub slash_ready : (y : Isolated) → y ≡ slash_port (files ++ area) number e rest p.upto → Fits y × (length job < 2 ^ 32)
+      slash_ready y h = rw h (slash_fits job files area asks.small asks.job_small number asks.number_small e p.upto upto_held rest, asks.job_small)
 
-      said_of : net_is job (last_part (parts whole)) n ≡ actual_of (conns_in (section job p.conns (insts_end index p.parent))) (module_row job index p.sub) (last_part (parts whole))
-      said_of = rw (own_text, ee) at says
+      module _ (y : Isolated) (ey : y ≡ slash_port (files ++ area) number e rest p.upto) (end : ℕ) (ee : end ≡ insts_end index p.parent) (own : Ref) (eo : own ≡ whole_ref rest) (n : Net)
+          (says : net_is job (text_of job (files ++ area) own) n ≡ actual_of (conns_in (section job p.conns end)) (module_row job index p.sub) (text_of job (files ++ area) own)) where
+        own_text : text_of job (files ++ area) own ≡ last_part (parts whole)
+        own_text = ap (text_of job (files ++ area)) eo ∙ whole_is job (files ++ area) rest ∙ slashed.last
 
-      front_of_lem : (w : Bytes) → below_parent (front_parts (parts (up whole))) w ≡ take p.upto whole ++ w
-      front_of_lem w = seen_up.front (not-false p.found h) w ∙ ap (λ (l : Bytes). l ++ w) (ap (take p.upto) (sym up_now.0) ∙ take-take p.upto (upto - 1) whole upto_in)
+        said_of : net_is job (last_part (parts whole)) n ≡ actual_of (conns_in (section job p.conns (insts_end index p.parent))) (module_row job index p.sub) (last_part (parts whole))
+        said_of = rw (own_text, ee) at says
 
-      own_net : text_of job (files ++ area) (net_ref (slash_port (files ++ area) number e rest p.upto)) ≡ take p.upto whole ++ last_part (parts whole)
-      own_net = slash_own job (files ++ area) number e p.upto rest ∙ ap (λ (l : Bytes). take p.upto whole ++ l) slashed.last
+        front_of_lem : (w : Bytes) → below_parent (front_parts (parts (up whole))) w ≡ take p.upto whole ++ w
+        front_of_lem w = front_text_is job index count k files area number asks (up whole) p seen_up w ∙ ap (λ (l : Bytes). l ++ w) (ap (take p.upto) (sym up_now.0) ∙ take-take p.upto (upto - 1) whole upto_in)
 
-      aim_slash : aim_of job (files ++ area) y n ≡ port_aim (parts (up whole)) whole (conns_in (section job p.conns (insts_end index p.parent))) (module_row job index p.sub) (last_part (parts whole))
-      aim_slash =
-          let z = slash_port (files ++ area) number e rest p.upto in
-          let q : net_for job (files ++ area) z n ≡ net_below (parts (up whole)) (net_is job (last_part (parts whole)) n) = net_for_lem job (files ++ area) number e p.upto z (held_is (files ++ area) e) refl (last_part (parts whole)) own_net (parts (up whole)) front_of_lem n in
-          rw (ey, q, said_of, slash_key job (files ++ area) number e p.upto rest)
+        own_net : text_of job (files ++ area) (net_ref (slash_port (files ++ area) number e rest p.upto)) ≡ take p.upto whole ++ last_part (parts whole)
+        own_net = slash_own job (files ++ area) number e p.upto rest ∙ ap (λ (l : Bytes). take p.upto whole ++ l) slashed.last
 
-      pub slash_answer : (warn : Bool) (c : Cover) (out : Bytes) (name : Bytes) (l : List Kept) (q : Cover) (out' : Bytes) (t' : List ℕ) → Answer job (files ++ area) warn c out (gain_of y.strategy name (aim_of job (files ++ area) y n) l) q out' t'
-          → Answer job (files ++ area) warn c out (gains number name (slash_aims (modules job index count) (module_row job index k) whole) l) q out' t'
-      slash_answer warn c out name l q out' t' a =
-          rw (one_there job index count k files area number asks (up whole) p seen_up h, gains_one number name (port_aim (parts (up whole)) whole (conns_in (section job p.conns (insts_end index p.parent))) (module_row job index p.sub) (last_part (parts whole))) l)
-          (rw (aim_slash, ey) at a)
+        aim_slash : aim_of job (files ++ area) y n ≡ port_aim (parts (up whole)) whole (conns_in (section job p.conns (insts_end index p.parent))) (module_row job index p.sub) (last_part (parts whole))
+        aim_slash =
+            let z = slash_port (files ++ area) number e rest p.upto in
+            let q : net_for job (files ++ area) z n ≡ net_below (parts (up whole)) (net_is job (last_part (parts whole)) n) = net_for_lem job (files ++ area) number e p.upto z (held_is (files ++ area) e) refl (last_part (parts whole)) own_net (parts (up whole)) front_of_lem n in
+            rw (ey, q, said_of, slash_key job (files ++ area) number e p.upto rest)
+
+        pub slash_answer : (warn : Bool) (c : Cover) (out : Bytes) (name : Bytes) (l : List Kept) (q : Cover) (out' : Bytes) (t' : List ℕ) → Answer job (files ++ area) warn c out (gain_of y.strategy name (aim_of job (files ++ area) y n) l) q out' t'
+            → Answer job (files ++ area) warn c out (gains number name (slash_aims (modules job index count) (module_row job index k) whole) l) q out' t'
+        slash_answer warn c out name l q out' t' a =
+            rw (one_there job index count k files area number asks (up whole) p seen_up, gains_one number name (port_aim (parts (up whole)) whole (conns_in (section job p.conns (insts_end index p.parent))) (module_row job index p.sub) (last_part (parts whole))) l)
+            (rw (aim_slash, ey) at a)
 
 pub ruleset slashes = (rules, front_asked, slash_some, slash_none, slash_parent, slash_sub, slash_ready, slash_answer)
 
 -- ---- an element
 
-module _ (mem : Bytes) (e : Name) (l : Slash) (seen : SlashSeen mem e l) where
-  pub element_slashed : l.found ≡ true → Slashed (name_of mem e) l.upto (name_of mem l.rest)
-  element_slashed h =
+module _ (mem : Bytes) (e : Name) where
+  pub element_slashed : (l : Slash) → SlashSeen mem e (Some l) → Slashed (name_of mem e) l.upto (name_of mem l.rest)
+  element_slashed l seen =
       let s : length (take l.upto (name_of mem e) ++ name_of mem l.rest) ≡ length (name_of mem e) = ap length seen.whole in
       let t : length (take l.upto (name_of mem e) ++ name_of mem l.rest) ≡ length (take l.upto (name_of mem e)) + length (name_of mem l.rest) = length-append (take l.upto (name_of mem e)) (name_of mem l.rest) in
       record {
-        there = sym seen.found_is ∙ h;
+        there = seen.there;
         size = omega (arith, s, t, length-take l.upto (name_of mem e), seen.inside);
         last = seen.last;
       }
 
   module _ (d : List Module) (m : Module) (number : ℕ) (name : Bytes) (job : Bytes) (warn : Bool) (c : Cover) (out : Bytes) (rows : List Kept) (q : Cover) (out' : Bytes) (t' : List ℕ) where
-    pub element_port : l.found ≡ true → Answer job mem warn c out (gains number name (slash_aims d m (name_of mem e)) rows) q out' t' → Answer job mem warn c out (gains number name (element_aims d m (name_of mem e)) rows) q out' t'
-    element_port h a = let b : any (is (byte "/")) (name_of mem e) ≡ true = sym seen.found_is ∙ h in rw b a
+    pub element_port : (l : Slash) → SlashSeen mem e (Some l) → Answer job mem warn c out (gains number name (slash_aims d m (name_of mem e)) rows) q out' t' → Answer job mem warn c out (gains number name (element_aims d m (name_of mem e)) rows) q out' t'
+    element_port l seen a = rw seen.there a
 
-    pub element_instance : l.found ≡ false → Answer job mem warn c out (gains number name (output_aims d m (name_of mem e)) rows) q out' t' → Answer job mem warn c out (gains number name (element_aims d m (name_of mem e)) rows) q out' t'
-    element_instance h a = let b : any (is (byte "/")) (name_of mem e) ≡ false = sym seen.found_is ∙ h in rw b a
+    pub element_instance : SlashSeen mem e None → Answer job mem warn c out (gains number name (output_aims d m (name_of mem e)) rows) q out' t' → Answer job mem warn c out (gains number name (element_aims d m (name_of mem e)) rows) q out' t'
+    element_instance seen a = rw seen a
 
 pub asked_small : (job files area : Bytes) (count k number : ℕ) → Asks job files area count k number → length files + length area < 2 ^ 32
 asked_small job files area count k number a = omega (arith, a.small)

@@ -12,82 +12,65 @@ ghost use Rattle.store.specs.Strings.{string};
 ghost use Rattle.alike.specs.Strategies.{strategy_at};
 ghost use Rattle.checks.specs.Sorted.{Known, check_text, own_in};
 ghost use Rattle.domainglue.specs.Glue.{glue_text, OfGlue};
+ghost use Rattle.spans.specs.Memory.{memory};
+ghost use Rattle.scope.specs.Path.{path_of};
 
 use blocks::{put_down, put_initial, put_up, put_wire};
 use checks::put_checks;
 use clamps::stored;
+use format::source::Source;
+use listing::PathList;
 use names::name::Name;
 use out::emit::Text;
 use store::state::{Few, Isolation};
 use store::stored::Stored;
+use text::part::Rows;
 
 // Writes the glue with the checks of the first m strategies in `found`.
 fn put_glue(
     to: &mut Text,
-    job: &[u8],
-    files: &[u8],
-    area: &[u8],
-    over: &[u8],
-    from: usize,
-    top: &[u8],
+    src: &Source,
     t: Few<Isolation>,
     found: &[u32],
     m: usize,
-    text: &[u8],
-    ends: &[u32],
-    n: usize,
+    listed: &PathList,
     domain: Name,
     power: Name,
     ground_net: Name,
 )
-    requires { Known found.now m × (n ≤ length ends.now) }
-    ensures { Writes to.old (glue_text (name_of (files.now ++ area.now) domain) (name_of (files.now ++ area.now) power) (name_of (files.now ++ area.now) ground_net) (each (check_text (parts over.now from) (strategy_at (files.now ++ area.now) t) (name_of (files.now ++ area.now) domain)) (take m found.now)) (below (parts over.now from) (paths_of text.now ends.now n))) to.new }
+    requires { Known found.now m × (listed.now.n ≤ length listed.now.ends.now) }
+    ensures { Writes to.old (glue_text (name_of (memory src.now.mem) domain) (name_of (memory src.now.mem) power) (name_of (memory src.now.mem) ground_net) (each (check_text (path_of src.now.scope) (strategy_at (memory src.now.mem) t) (name_of (memory src.now.mem) domain)) (take m found.now)) (below (path_of src.now.scope) (paths_of listed.now.text.now listed.now.ends.now listed.now.n))) to.new }
 {
-    put_wire(to, files, area, domain, power, ground_net);
-    put_up(to, files, area, over, from, text, ends, n, domain);
-    put_checks(to, job, files, area, over, from, top, t, found, m, domain);
-    put_down(to, files, area, over, from, text, ends, n, domain);
-    put_initial(to, files, area, over, from, text, ends, n, domain)
+    put_wire(to, &src.mem, domain, power, ground_net);
+    put_up(to, &src.mem, &src.scope, listed, domain);
+    put_checks(to, src, t, found, m, domain);
+    put_down(to, &src.mem, &src.scope, listed, domain);
+    put_initial(to, &src.mem, &src.scope, listed, domain)
 }
 
 // Writes the glue with the checks from the rows of isolated ports, which go through `found`.
 fn powered_by<'a>(
     to: &mut Text,
-    job: &[u8],
-    files: &'a [u8],
-    area: &'a [u8],
-    over: &[u8],
-    from: usize,
-    top: &[u8],
+    src: &Source<'a>,
     t: Few<Isolation>,
-    ports: &[u32],
-    isolated: usize,
-    text: &[u8],
-    ends: &[u32],
-    n: usize,
+    ports: &Rows,
+    listed: &PathList,
     domain: Stored,
     power: Name,
     ground_net: Name,
     found: &mut [u32],
 )
-    requires { (OfGlue (files.now ++ area.now) t ports.now isolated × (n ≤ length ends.now)) × (256 ≤ length found.old) }
-    ensures { Writes to.old (glue_text (string (files.now ++ area.now) domain) (name_of (files.now ++ area.now) power) (name_of (files.now ++ area.now) ground_net) (each (check_text (parts over.now from) (strategy_at (files.now ++ area.now) t) (string (files.now ++ area.now) domain)) (own_in (files.now ++ area.now) t domain ports.now isolated)) (below (parts over.now from) (paths_of text.now ends.now n))) to.new }
+    requires { (OfGlue (memory src.now.mem) t ports.now.rows.now ports.now.n × (listed.now.n ≤ length listed.now.ends.now)) × (256 ≤ length found.old) }
+    ensures { Writes to.old (glue_text (string (memory src.now.mem) domain) (name_of (memory src.now.mem) power) (name_of (memory src.now.mem) ground_net) (each (check_text (path_of src.now.scope) (strategy_at (memory src.now.mem) t) (string (memory src.now.mem) domain)) (own_in (memory src.now.mem) t domain ports.now.rows.now ports.now.n)) (below (path_of src.now.scope) (paths_of listed.now.text.now listed.now.ends.now listed.now.n))) to.new }
 {
-    let m = checks::checks(files, area, t, ports, isolated, domain, found);
+    let m = checks::checks(&src.mem, t, ports, domain, found);
     put_glue(
         to,
-        job,
-        files,
-        area,
-        over,
-        from,
-        top,
+        src,
         t,
         found,
         m,
-        text,
-        ends,
-        n,
+        listed,
         stored(domain),
         power,
         ground_net,
@@ -97,28 +80,19 @@ fn powered_by<'a>(
 // Writes the glue of a domain with both supplies.
 pub fn powered_glue<'a>(
     to: &mut Text,
-    job: &[u8],
-    files: &'a [u8],
-    area: &'a [u8],
-    over: &[u8],
-    from: usize,
-    top: &[u8],
+    src: &Source<'a>,
     t: Few<Isolation>,
-    ports: &[u32],
-    isolated: usize,
-    text: &[u8],
-    ends: &[u32],
-    n: usize,
+    ports: &Rows,
+    listed: &PathList,
     domain: Stored,
     power: Name,
     ground_net: Name,
 )
-    requires { OfGlue (files.now ++ area.now) t ports.now isolated × (n ≤ length ends.now) }
-    ensures { Writes to.old (glue_text (string (files.now ++ area.now) domain) (name_of (files.now ++ area.now) power) (name_of (files.now ++ area.now) ground_net) (each (check_text (parts over.now from) (strategy_at (files.now ++ area.now) t) (string (files.now ++ area.now) domain)) (own_in (files.now ++ area.now) t domain ports.now isolated)) (below (parts over.now from) (paths_of text.now ends.now n))) to.new }
+    requires { OfGlue (memory src.now.mem) t ports.now.rows.now ports.now.n × (listed.now.n ≤ length listed.now.ends.now) }
+    ensures { Writes to.old (glue_text (string (memory src.now.mem) domain) (name_of (memory src.now.mem) power) (name_of (memory src.now.mem) ground_net) (each (check_text (path_of src.now.scope) (strategy_at (memory src.now.mem) t) (string (memory src.now.mem) domain)) (own_in (memory src.now.mem) t domain ports.now.rows.now ports.now.n)) (below (path_of src.now.scope) (paths_of listed.now.text.now listed.now.ends.now listed.now.n))) to.new }
 {
     let mut found: [u32; 256] = [0; 256];
     powered_by(
-        to, job, files, area, over, from, top, t, ports, isolated, text, ends, n, domain, power,
-        ground_net, &mut found,
+        to, src, t, ports, listed, domain, power, ground_net, &mut found,
     )
 }

@@ -15,6 +15,7 @@ use Rattle.spans.specs.declared.span.Span.{Span}
 use Rattle.tcl.specs.Lists.{list}
 use Rattle.names.specs.Scoped.{scoped}
 use Rattle.names.specs.Name.{named, name_of}
+use Rattle.names.specs.declared.name.Form.TheVariants.{Word}
 use Rattle.names.specs.declared.name.Name.{Name}
 use Rattle.names.specs.Frame.{alone_is}
 use Rattle.nametable.specs.Table.{row_put, table_names, Stores, put_names, names_none}
@@ -40,10 +41,10 @@ module _ (files area : Bytes) (scope v : Stored) (p q : Span) (ep : p ≡ span_o
   pub span_listed : (table' : List ℕ) (r : ℕ) → Listed (files ++ area) table n (map (scoped (bytes (files ++ area) p)) (list (bytes (files ++ area) q))) table' r → Listed (files ++ area) table n (list_below (files ++ area) scope v) table' r
   span_listed table' r l = rw (ep, eq) at l
 
-pub string_stores : (s : Stored) (p : Span) (x : Name) → x ≡ named (0 ⋯ 0) false p 0 → p ≡ span_of s → s.at < 2 ^ 32 → s.len < 2 ^ 32 → Stores x
+pub string_stores : (s : Stored) (p : Span) (x : Name) → x ≡ named (0 ⋯ 0) false p Word → p ≡ span_of s → s.at < 2 ^ 32 → s.len < 2 ^ 32 → Stores x
 string_stores s p x ex ep a l = rw (ex, ep) (record { scope_at = omega arith; scope_len = omega arith; word_at = a; word_len = l })
 
-pub string_put : (table table' : List ℕ) (n : ℕ) (s : Stored) (p : Span) (x : Name) → table' ≡ row_put table n x → x ≡ named (0 ⋯ 0) false p 0 → p ≡ span_of s → table' ≡ row_put table n (named (0 ⋯ 0) false (span_of s) 0)
+pub string_put : (table table' : List ℕ) (n : ℕ) (s : Stored) (p : Span) (x : Name) → table' ≡ row_put table n x → x ≡ named (0 ⋯ 0) false p Word → p ≡ span_of s → table' ≡ row_put table n (named (0 ⋯ 0) false (span_of s) Word)
 string_put table table' n s p x e ex ep = e ∙ rw (ex, ep)
 
 pub strings_same : (mem : Bytes) (s t : Stored) (p q : Span) (r : Bool) → r ≡ same (bytes mem p) (bytes mem q) → p ≡ span_of s → q ≡ span_of t → r ≡ same (string mem s) (string mem t)
@@ -99,11 +100,11 @@ module _ (files area : Bytes) (d : Domain) (table : List ℕ) (g : OfDomain file
       pub whole_more : n + 1 < 2 ^ 64
       whole_more = omega (arith, many, one_less)
 
-      pub domain_whole : (table₂ : List ℕ) → table₂ ≡ row_put table₁ n (named (0 ⋯ 0) false (span_of d.scope) 0) → Names (files ++ area) (domain_of (files ++ area) d).elements table table₂ (n + 1)
+      pub domain_whole : (table₂ : List ℕ) → table₂ ≡ row_put table₁ n (named (0 ⋯ 0) false (span_of d.scope) Word) → Names (files ++ area) (domain_of (files ++ area) d).elements table table₂ (n + 1)
       unfolding domain_of
       domain_whole table₂ e =
-          let x = named (0 ⋯ 0) false (span_of d.scope) 0 in
-          let z : name_of (files ++ area) x ≡ string (files ++ area) d.scope = alone_is (files ++ area) (span_of d.scope) 0 in
+          let x = named (0 ⋯ 0) false (span_of d.scope) Word in
+          let z : name_of (files ++ area) x ≡ string (files ++ area) d.scope = alone_is (files ++ area) (span_of d.scope) Word in
           let m = list_below (files ++ area) d.scope d.elements in
           let k : length (m ++ (string (files ++ area) d.scope ∷ [])) ≡ n + 1 = length-append m (string (files ++ area) d.scope ∷ []) ∙ omega (arith, many, length-map (list (string (files ++ area) d.elements)) (scoped (string (files ++ area) d.scope))) in
           rw h (record {
@@ -239,4 +240,4 @@ module _ (files area : Bytes) (t : Few Retention) (table₀ : List ℕ) (g : OfR
 
 pub ruleset alls = (rules, few_retentions, retention_index, all_rooms, all_step, all_done)
 
-pub ruleset owns = (rules, few_retentions, retention_index, own_rooms, own_step, own_other, own_done)
+pub ruleset owns = (rules, few_retentions, retention_index, own_rooms, own_step, own_other, own_done, strings_same)

@@ -5,50 +5,53 @@ ghost use Rattle.std.specs.Prelude.{◌≡◌, false, ◌++◌, ◌+◌, ◌*◌
 ghost use Rattle.text.specs.Compare.{same};
 ghost use Rattle.spans.specs.Span.{◌⋯◌};
 ghost use Rattle.names.specs.Name.{named};
+ghost use Rattle.names.specs.declared.name.Form.TheVariants.{Word};
 ghost use Rattle.nametable.specs.Table.{row_put};
 ghost use Rattle.listnames.specs.Lists.{Rooms, Listed};
 ghost use Rattle.store.specs.Strings.{span_of, string};
 ghost use Rattle.store.specs.View.{list_below, domain_of};
 ghost use Rattle.domainlists.specs.Lists.{all_entries, own_entries, OfDomain, OfRetentions, Names};
+ghost use Rattle.spans.specs.Memory.{memory};
 
 use listnames::below;
-use names::name::alone;
+use names::name::{Form, alone};
 use nametable::put_row;
-use spans::span::same_spans;
+use spans::span::{Memory, Span, same_spans};
 use store::state::{Domain, Few, Retention};
-use store::stored::{Stored, span};
+use store::stored::Stored;
 
 // Puts the entries of a stored value, each below a stored scope, behind the first n names of a table.
+// The table is being filled: n names are there so far.
 pub fn put_below<'a>(
-    files: &'a [u8],
-    area: &'a [u8],
+    mem: &Memory<'a>,
     scope: Stored,
     v: Stored,
     table: &mut [u32],
     n: usize,
 ) -> usize
-    requires { Rooms files.now area.now (span_of scope) (span_of v) table.old n }
-    ensures { Listed (files.now ++ area.now) table.old n (list_below (files.now ++ area.now) scope v) table.new result }
+    requires { Rooms mem.now.files.now mem.now.area.now (span_of scope) (span_of v) table.old n }
+    ensures { Listed (memory mem.now) table.old n (list_below (memory mem.now) scope v) table.new result }
 {
-    below(files, area, span(scope), span(v), table, n)
+    below(mem, Span::from(scope), Span::from(v), table, n)
 }
 
 // Puts a stored string into row n of a table.
+// The table is being filled: n names are there so far.
 fn put_string(table: &mut [u32], n: usize, s: Stored)
     requires { (n ≤ 65536) × (5 * n + 5 ≤ length table.old) }
-    ensures { table.new ≡ row_put table.old n (named (0 ⋯ 0) false (span_of s) 0) }
+    ensures { table.new ≡ row_put table.old n (named (0 ⋯ 0) false (span_of s) Word) }
 {
-    put_row(table, n, alone(span(s), 0));
+    put_row(table, n, alone(Span::from(s), Form::Word));
 }
 
 // Puts the elements of a domain into a table, and returns how many they are.
-pub fn domain_elements<'a>(files: &'a [u8], area: &'a [u8], d: Domain, table: &mut [u32]) -> usize
-    requires { OfDomain files.now area.now d table.old }
-    ensures { Names (files.now ++ area.now) (domain_of (files.now ++ area.now) d).elements table.old table.new result }
+pub fn domain_elements<'a>(mem: &Memory<'a>, d: Domain, table: &mut [u32]) -> usize
+    requires { OfDomain mem.now.files.now mem.now.area.now d table.old }
+    ensures { Names (memory mem.now) (domain_of (memory mem.now) d).elements table.old table.new result }
 {
     let scope = d.scope;
     let elements = d.elements;
-    let n = put_below(files, area, scope, elements, table, 0);
+    let n = put_below(mem, scope, elements, table, 0);
     if d.whole {
         put_string(table, n, scope);
         return n + 1;
@@ -57,9 +60,9 @@ pub fn domain_elements<'a>(files: &'a [u8], area: &'a [u8], d: Domain, table: &m
 }
 
 // Puts the entries of all retentions into a table, and returns how many they are.
-pub fn retained<'a>(files: &'a [u8], area: &'a [u8], t: Few<Retention>, table: &mut [u32]) -> usize
-    requires { OfRetentions files.now area.now t table.old }
-    ensures { Names (files.now ++ area.now) (all_entries (files.now ++ area.now) t) table.old table.new result }
+pub fn retained<'a>(mem: &Memory<'a>, t: Few<Retention>, table: &mut [u32]) -> usize
+    requires { OfRetentions mem.now.files.now mem.now.area.now t table.old }
+    ensures { Names (memory mem.now) (all_entries (memory mem.now) t) table.old table.new result }
 {
     let m = t.n;
     let mut n = 0;
@@ -67,40 +70,32 @@ pub fn retained<'a>(files: &'a [u8], area: &'a [u8], t: Few<Retention>, table: &
         let x = t.all[i];
         let base = x.scope;
         let entries = x.elements;
-        n = put_below(files, area, base, entries, table, n);
+        n = put_below(mem, base, entries, table, n);
     }
     n
 }
 
-// Whether two stored strings are the same.
-fn same_strings<'a>(files: &'a [u8], area: &'a [u8], s: Stored, t: Stored) -> bool
-    ensures { result ≡ same (string (files.now ++ area.now) s) (string (files.now ++ area.now) t) }
-{
-    same_spans(files, area, span(s), span(t))
-}
-
 // Puts the entries of the retentions of a domain into a table, and returns how many they are.
 pub fn retained_of<'a>(
-    files: &'a [u8],
-    area: &'a [u8],
+    mem: &Memory<'a>,
     t: Few<Retention>,
     domain: Stored,
     table: &mut [u32],
 ) -> usize
-    requires { OfRetentions files.now area.now t table.old }
-    ensures { Names (files.now ++ area.now) (own_entries (files.now ++ area.now) t domain) table.old table.new result }
+    requires { OfRetentions mem.now.files.now mem.now.area.now t table.old }
+    ensures { Names (memory mem.now) (own_entries (memory mem.now) t domain) table.old table.new result }
 {
     let m = t.n;
     let mut n = 0;
     for i in 0..m {
         let x = t.all[i];
         let named = x.domain;
-        if !same_strings(files, area, named, domain) {
+        if !same_spans(mem, Span::from(named), Span::from(domain)) {
             continue;
         }
         let scope = x.scope;
         let elements = x.elements;
-        n = put_below(files, area, scope, elements, table, n);
+        n = put_below(mem, scope, elements, table, n);
     }
     n
 }

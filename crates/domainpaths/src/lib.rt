@@ -6,11 +6,17 @@ ghost use Rattle.jobindex.specs.Index.{module_row};
 ghost use Rattle.lookup.specs.Rows.{modules};
 ghost use Rattle.nametable.specs.Table.{table_names};
 ghost use Rattle.domainpaths.specs.Losses.{OfWalk, Loses};
+ghost use Rattle.spans.specs.Memory.{memory};
+ghost use Rattle.lookup.specs.Design.{modules_in};
+ghost use Rattle.jobindex.specs.Modules.{module_in};
 
 use corrupt::domain_paths;
 use domainlists::domain_elements;
-use listing::Walk;
+use jobindex::Design;
+use listing::{TooMany, Walk};
+use spans::span::Memory;
 use store::state::Domain;
+use text::part::Rows;
 
 // How far the walk of a domain has come, and how many elements the domain has.
 #[derive(Clone, Copy)]
@@ -21,13 +27,10 @@ pub struct Loss {
 
 // What a domain loses: its elements into a table, the listed paths into text and ends. `stamp` is no earlier walk's, so that fewer paths are compared.
 pub fn lost<'a>(
-    job: &[u8],
-    nums: &[u32],
-    count: usize,
+    design: &Design,
     k: usize,
     table: &[u32],
-    files: &'a [u8],
-    area: &'a [u8],
+    mem: &Memory<'a>,
     retained: &[u32],
     kept: usize,
     d: Domain,
@@ -37,32 +40,33 @@ pub fn lost<'a>(
     text: &mut [u8],
     ends: &mut [u32],
     stamp: u32,
-) -> Loss
-    requires { OfWalk job.now nums.now count k table.now files.now area.now kept d prefix tail.old text.old ends.old × (325 ≤ length elements.old) }
-    ensures { Loses (modules job.now nums.now count) (module_row job.now nums.now k) (files.now ++ area.now) (table_names (files.now ++ area.now) retained.now kept) d prefix elements.new text.new ends.new result }
+) -> Result<Loss, TooMany>
+    requires { OfWalk design.now.index.job.now design.now.index.rows.now design.now.count k table.now mem.now.files.now mem.now.area.now kept d prefix tail.old text.old ends.old × (325 ≤ length elements.old) }
+    ensures { Loses (modules_in design.now) (module_in design.now.index k) (memory mem.now) (table_names (memory mem.now) retained.now kept) d prefix elements.new text.new ends.new result }
 {
-    let m = domain_elements(files, area, d, elements);
+    let m = domain_elements(mem, d, elements);
     let w = domain_paths(
-        job,
-        nums,
-        count,
+        design,
         k,
         table,
-        files,
-        area,
-        retained,
-        kept,
+        mem,
+        &Rows {
+            rows: retained,
+            n: kept,
+        },
         0 < prefix,
-        elements,
-        m,
+        &Rows {
+            rows: elements,
+            n: m,
+        },
         prefix,
         tail,
         text,
         ends,
         stamp,
-    );
-    Loss {
+    )?;
+    Ok(Loss {
         walk: w,
         elements: m,
-    }
+    })
 }

@@ -11,6 +11,7 @@ use Rattle.text.specs.Ascii.{Bytes}
 use Rattle.out.specs.Emit.{Out, emit}
 use Rattle.spans.specs.declared.span.Span.{Span}
 use Rattle.names.specs.Name.{name_of, Makes}
+use Rattle.names.specs.declared.name.Form.TheVariants.{Word}
 use Rattle.names.specs.declared.name.Name.{Name}
 use Rattle.nametable.specs.Table.{table_names, names_none}
 use Rattle.design.specs.Lists.{those}
@@ -25,7 +26,7 @@ use Rattle.domainreport.specs.Reports.{OfReport}
 use Rattle.clamps.specs.Values.{stored_name}
 use Rattle.clamps.specs.Laws.{stored_is}
 
-pub below_is : (mem : Bytes) (b : Below) (p q : Span) (r : Name) → Makes mem p q 0 r → p ≡ span_of b.scope → q ≡ span_of b.word → name_of mem r ≡ below_of mem b
+pub below_is : (mem : Bytes) (b : Below) (p q : Span) (r : Name) → Makes mem p q Word r → p ≡ span_of b.scope → q ≡ span_of b.word → name_of mem r ≡ below_of mem b
 below_is mem b p q r m ep eq = m.is ∙ rw (ep, eq)
 
 pub report_asked : (files area : Bytes) (t : Few Retention) (table : List ℕ) → OfReport files area t → 5120 ≤ length table → OfRetentions files area t table

@@ -2,7 +2,7 @@
 use Rattle.store.specs.declared.state.Few.{Few}
 use Rattle.store.specs.declared.state.Isolation.{Isolation}
 use Rattle.store.specs.declared.state.Retention.{Retention}
-use Rattle.std.specs.Prelude.{Option, Some, None}
+use Rattle.std.specs.Prelude.{Option, Some, None, Result, Ok, Err, IsErrAnd, is_err}
 use Prim.Native.Nat.{ℕ, ◌≤◌}
 use mathlib.Core.Path.{◌≡◌, refl, sym, ap, ◌∙◌}
 use mathlib.Core.Bool.{Bool, true, false, not}
@@ -44,17 +44,14 @@ use Rattle.domainlists.specs.Seen.{all_entries_lem}
 use Rattle.domainline.specs.Lines.{powered_text, unpowered_text}
 use Rattle.domainglue.specs.Glue.{glue_text, OfGlue, glue_is}
 use Rattle.domainreport.specs.Reports.{OfReport, orders_report, report_is}
-use Rattle.domainpaths.specs.Losses.{OfWalk, Loses, loses_over, loses_paths, loses_room, loses_count}
+use Rattle.listing.specs.declared.TooMany.{TooMany}
+use Rattle.domainpaths.specs.Losses.{OfWalk, Lost, Loses, loses_over, loses_paths, loses_room, loses_count}
 use Rattle.domainpaths.specs.declared.Loss.{Loss}
 use Rattle.domains.specs.declared.Told.{Told}
 use Rattle.domains.specs.Told.{OfDomains, WalkRoom, shown_ports}
 use Rattle.domains.specs.One.{OfOne, OfTexts, Texts, Bare, Tells, SuppliedTold, OneTold}
 
 -- ---- a text over a buffer
-
--- what was written into the text stands in the buffer
-pub over_written : (out out' : Bytes) (at o : ℕ) (z₀ z₁ : Out) (t : Bytes) → z₁ ≡ emit z₀ t → z₀ ≡ out ▸ at → out' ▸ o ≡ z₁ → out' ▸ o ≡ emit (out ▸ at) t
-over_written out out' at o z₀ z₁ t e f g = g ∙ rw (← f) e
 
 -- ---- the texts, by names
 
@@ -68,10 +65,9 @@ pub texts_are : (mem : Bytes) (scope : List Bytes) (xs : Few Isolation) (rs : Fe
     → name_of mem x ≡ below_of mem p → name_of mem y ≡ below_of mem q
     → glue ▸ a ≡ emit g (glue_text (string mem d.name) (name_of mem x) (name_of mem y) (each (check_text scope (strategy_at mem xs) (string mem d.name)) (own_in mem xs d.name ports isolated)) paths)
     → report ▸ b ≡ emit o (powered_text (string mem d.name) elements (name_of mem x) (name_of mem y) n (map (retained_path scope) (own_entries mem rs d.name)))
-    → Texts mem scope xs rs ports isolated d p q elements paths n g glue o report (record { over = false; glue = a; report = b })
+    → Texts mem scope xs rs ports isolated d p q elements paths n g glue o report (record { glue = a; report = b })
 texts_are mem scope xs rs ports isolated d p q elements paths n g glue o report x y a b ex ey eg er =
     record {
-      over = refl;
       glue_is =
           eg
           ∙ ap (λ (z : Bytes). emit g (glue_text (string mem d.name) z (name_of mem y) (each (check_text scope (strategy_at mem xs) (string mem d.name)) (own_in mem xs d.name ports isolated)) paths)) ex
@@ -82,8 +78,8 @@ texts_are mem scope xs rs ports isolated d p q elements paths n g glue o report 
           ∙ ap (λ (z : Bytes). emit o (powered_text (string mem d.name) elements (below_of mem p) z n (map (retained_path scope) (own_entries mem rs d.name)))) ey;
     }
 
-pub bare_line : (mem : Bytes) (d : Domain) (g : ℕ) (o : Out) (report : Bytes) (b : ℕ) → report ▸ b ≡ emit o (unpowered_text (string mem d.name)) → Bare mem d g o report (record { over = false; glue = g; report = b })
-bare_line mem d g o report b e = record { over = refl; glue_is = refl; report_is = e }
+pub bare_line : (mem : Bytes) (d : Domain) (g : ℕ) (o : Out) (report : Bytes) (b : ℕ) → report ▸ b ≡ emit o (unpowered_text (string mem d.name)) → Bare mem d g o report (record { glue = g; report = b })
+bare_line mem d g o report b e = record { glue_is = refl; report_is = e }
 
 -- ---- the texts by the definitions
 
@@ -143,60 +139,60 @@ module _ (job : Bytes) (nums : List ℕ) (count k : ℕ) (table : List ℕ) (fil
         elements_few = g.few;
       }
 
-  module _ (elements : List ℕ) (text : Bytes) (ends : List ℕ) (l : Loss) (w : Loses (modules job nums count) (module_row job nums k) (files ++ area) (table_names (files ++ area) retained kept) d prefix elements text ends l) where
+  module _ (elements : List ℕ) (text : Bytes) (ends : List ℕ) where
     at_row : Mem (module_row job nums k) (modules job nums count)
     at_row = row_mem (module_row job nums) count k h.row
 
+    abbrev Ends : Loss → Type 0
+    Ends = Lost (modules job nums count) (module_row job nums k) (files ++ area) (table_names (files ++ area) retained kept) d prefix elements text ends
+
     -- what its texts ask
-    pub texts_asked : l.walk.over ≡ false → OfTexts files area s.isolations s.retentions ports isolated l.elements ends l.walk.count
-    texts_asked e =
+    pub texts_asked : (l : Loss) → Ends l → OfTexts files area s.isolations s.retentions ports isolated l.elements ends l.walk.count
+    texts_asked l w =
         record {
           glue = record { ruled = h.ruled; sized = h.orders.shaped.isolations };
           report = orders_report files area nums s h.orders;
           elements = omega (arith, w.elements_few);
-          paths = loses_room (modules job nums count) (module_row job nums k) (files ++ area) (parts path from) (table_names (files ++ area) retained kept) d h.filled at_row (parts_bare path from) prefix h.prefix_is elements text ends l w e;
+          paths = loses_room (modules job nums count) (module_row job nums k) (files ++ area) (parts path from) (table_names (files ++ area) retained kept) d h.filled at_row (parts_bare path from) prefix h.prefix_is elements text ends l w;
         }
 
     module _ (top : Bytes) (t : Setting) (st : Stands job nums count k files area path from top s t) where
       entries_are : retained_entries t.records ≡ table_names (files ++ area) retained kept
       entries_are = ap retained_entries st.records_are ∙ all_entries_lem (files ++ area) (store_of nums s) s t.records.log ∙ sym h.kept_are
 
-      over_is : l.walk.over ≡ not (walk_fits t.design t.base t.scope (retained_entries t.records) (domain_of (files ++ area) d).elements)
-      over_is =
-          loses_over (modules job nums count) (module_row job nums k) (files ++ area) (parts path from) (table_names (files ++ area) retained kept) d h.filled at_row (parts_bare path from) prefix h.prefix_is elements text ends l w
+      over_is : (r : Result Loss TooMany) → Loses (modules job nums count) (module_row job nums k) (files ++ area) (table_names (files ++ area) retained kept) d prefix elements text ends r → is_err r ≡ not (walk_fits t.design t.base t.scope (retained_entries t.records) (domain_of (files ++ area) d).elements)
+      over_is r l =
+          loses_over (modules job nums count) (module_row job nums k) (files ++ area) (parts path from) (table_names (files ++ area) retained kept) d h.filled at_row (parts_bare path from) prefix h.prefix_is elements text ends r l
           ∙ ap not (sym (fits_same t.design (modules job nums count) t.base (module_row job nums k) t.scope (parts path from) (retained_entries t.records) (table_names (files ++ area) retained kept) (domain_of (files ++ area) d).elements st.design_is st.base_is st.scope_is_lem entries_are))
+
+      walk_over : (x : TooMany) → Loses (modules job nums count) (module_row job nums k) (files ++ area) (table_names (files ++ area) retained kept) d prefix elements text ends (Err x) → walk_fits t.design t.base t.scope (retained_entries t.records) (domain_of (files ++ area) d).elements ≡ false
+      walk_over x out = not_true (walk_fits t.design t.base t.scope (retained_entries t.records) (domain_of (files ++ area) d).elements) (over_is (Err x) out)
+
+      walk_within : (l : Loss) → Ends l → walk_fits t.design t.base t.scope (retained_entries t.records) (domain_of (files ++ area) d).elements ≡ true
+      walk_within l w = not_false (walk_fits t.design t.base t.scope (retained_entries t.records) (domain_of (files ++ area) d).elements) (over_is (Ok l) w)
 
       lost_same : lost_paths t (domain_of (files ++ area) d) ≡ domain_list (modules job nums count) (module_row job nums k) (parts path from) (table_names (files ++ area) retained kept) (domain_of (files ++ area) d).elements
       lost_same = list_same t.design (modules job nums count) t.base (module_row job nums k) t.scope (parts path from) (retained_entries t.records) (table_names (files ++ area) retained kept) (domain_of (files ++ area) d).elements st.design_is st.base_is st.scope_is_lem entries_are
 
-      paths_are : l.walk.over ≡ false → below (parts path from) (paths_of text ends l.walk.count) ≡ lost_paths t (domain_of (files ++ area) d)
-      paths_are e = loses_paths (modules job nums count) (module_row job nums k) (files ++ area) (parts path from) (table_names (files ++ area) retained kept) d h.filled at_row (parts_bare path from) prefix h.prefix_is elements text ends l w e ∙ sym lost_same
+      paths_are : (l : Loss) → Ends l → below (parts path from) (paths_of text ends l.walk.count) ≡ lost_paths t (domain_of (files ++ area) d)
+      paths_are l w = loses_paths (modules job nums count) (module_row job nums k) (files ++ area) (parts path from) (table_names (files ++ area) retained kept) d h.filled at_row (parts_bare path from) prefix h.prefix_is elements text ends l w ∙ sym lost_same
 
-      count_is : l.walk.over ≡ false → l.walk.count ≡ length (lost_paths t (domain_of (files ++ area) d))
-      count_is e = loses_count (modules job nums count) (module_row job nums k) (files ++ area) (parts path from) (table_names (files ++ area) retained kept) d h.filled at_row (parts_bare path from) prefix h.prefix_is elements text ends l w e ∙ ap length (sym lost_same)
+      count_is : (l : Loss) → Ends l → l.walk.count ≡ length (lost_paths t (domain_of (files ++ area) d))
+      count_is l w = loses_count (modules job nums count) (module_row job nums k) (files ++ area) (parts path from) (table_names (files ++ area) retained kept) d h.filled at_row (parts_bare path from) prefix h.prefix_is elements text ends l w ∙ ap length (sym lost_same)
 
     module _ (top : Bytes) (p q : Below) (g : Out) (glue : Bytes) (o : Out) (report : Bytes) where
-      pub supplied_over : l.walk.over ≡ true → SuppliedTold job nums count k files area path from top s ports isolated d p q g glue o report (record { over = true; glue = 0; report = 0 })
-      supplied_over e =
-          record {
-            told = λ t st.
-                record {
-                  over = λ _. not_true (walk_fits t.design t.base t.scope (retained_entries t.records) (domain_of (files ++ area) d).elements) (sym e ∙ over_is top t st);
-                  within = λ z. absurd (no_true (sym z));
-                  glue_is = λ z. absurd (no_true (sym z));
-                  report_is = λ z. absurd (no_true (sym z));
-                };
-          }
+      pub supplied_over : (x : TooMany) → Loses (modules job nums count) (module_row job nums k) (files ++ area) (table_names (files ++ area) retained kept) d prefix elements text ends (Err x) → (r : Result Told TooMany) → IsErrAnd r (λ y. y ≡ x) → SuppliedTold job nums count k files area path from top s ports isolated d p q g glue o report r
+      supplied_over x out (Err _) z = record { told = λ t st. walk_over top t st x out }
+      supplied_over x out (Ok _) z = absurd z
 
-      pub supplied_texts : (r : Told) → Texts (files ++ area) (parts path from) s.isolations s.retentions ports isolated d p q (table_names (files ++ area) elements l.elements) (below (parts path from) (paths_of text ends l.walk.count)) l.walk.count g glue o report r → l.walk.over ≡ false → SuppliedTold job nums count k files area path from top s ports isolated d p q g glue o report r
-      supplied_texts r x e =
+      pub supplied_texts : (l : Loss) → Ends l → (r : Told) → Texts (files ++ area) (parts path from) s.isolations s.retentions ports isolated d p q (table_names (files ++ area) elements l.elements) (below (parts path from) (paths_of text ends l.walk.count)) l.walk.count g glue o report r → SuppliedTold job nums count k files area path from top s ports isolated d p q g glue o report (Ok r)
+      supplied_texts l w r x =
           record {
             told = λ t st.
                 record {
-                  over = λ z. absurd (no_true (sym x.over ∙ z));
-                  within = λ _. not_false (walk_fits t.design t.base t.scope (retained_entries t.records) (domain_of (files ++ area) d).elements) (sym e ∙ over_is top t st);
-                  glue_is = λ _. x.glue_is ∙ glue_told (files ++ area) s.isolations t d (isolations_are (files ++ area) nums s t.records.log t st.records_are) job ports isolated (below_of (files ++ area) p) (below_of (files ++ area) q) g (parts path from) (below (parts path from) (paths_of text ends l.walk.count)) st.scope_is_lem (paths_are top t st e);
-                  report_is = λ _. x.report_is ∙ line_told (files ++ area) nums s t.records.log t d st.records_are (below_of (files ++ area) p) (below_of (files ++ area) q) o (parts path from) (table_names (files ++ area) elements l.elements) l.walk.count st.scope_is_lem w.elements_are (count_is top t st e);
+                  within = walk_within top t st l w;
+                  glue_is = x.glue_is ∙ glue_told (files ++ area) s.isolations t d (isolations_are (files ++ area) nums s t.records.log t st.records_are) job ports isolated (below_of (files ++ area) p) (below_of (files ++ area) q) g (parts path from) (below (parts path from) (paths_of text ends l.walk.count)) st.scope_is_lem (paths_are top t st l w);
+                  report_is = x.report_is ∙ line_told (files ++ area) nums s t.records.log t d st.records_are (below_of (files ++ area) p) (below_of (files ++ area) q) o (parts path from) (table_names (files ++ area) elements l.elements) l.walk.count st.scope_is_lem w.elements_are (count_is top t st l w);
                 };
           }
 
@@ -216,42 +212,36 @@ module _ {A : Type 0} (mem : Bytes) (d : Domain) (z : A) (f : Bytes → Bytes �
   unfolding domain_of
   with_both p q e n = rw (e, n)
 
-tells_same : (fits fits' : Bool) (text text' line line' : Bytes) (g : Out) (glue : Bytes) (o : Out) (report : Bytes) (r : Told) → fits ≡ fits' → text ≡ text' → line ≡ line' → Tells fits' text' line' g glue o report r → Tells fits text line g glue o report r
+tells_same : (fits fits' : Bool) (text text' line line' : Bytes) (g : Out) (glue : Bytes) (o : Out) (report : Bytes) (r : Result Told TooMany) → fits ≡ fits' → text ≡ text' → line ≡ line' → Tells fits' text' line' g glue o report r → Tells fits text line g glue o report r
 tells_same fits fits' text text' line line' g glue o report r a b c x = rw (a, b, c) x
 
-none_told : (glue : Bytes) (gl : ℕ) (line : Bytes) (o : Out) (report : Bytes) (r : Told) → r.over ≡ false → r.glue ≡ gl → report ▸ r.report ≡ emit o line → Tells true [] line (glue ▸ gl) glue o report r
+none_told : (glue : Bytes) (gl : ℕ) (line : Bytes) (o : Out) (report : Bytes) (r : Told) → r.glue ≡ gl → report ▸ r.report ≡ emit o line → Tells true [] line (glue ▸ gl) glue o report (Ok r)
 unfolding emit
-none_told glue gl line o report r a b c =
-    record {
-      over = λ z. absurd (no_true (sym a ∙ z));
-      within = λ _. refl;
-      glue_is = λ _. ap (λ (n : ℕ). glue ▸ n) b;
-      report_is = λ _. c;
-    }
+none_told glue gl line o report r b c = record { within = refl; glue_is = ap (λ (n : ℕ). glue ▸ n) b; report_is = c }
 
 line_bare : (mem : Bytes) (d : Domain) → unpowered_line (domain_of mem d) ≡ unpowered_text (string mem d.name)
 unfolding domain_of
 line_bare mem d = refl
 
 module _ (job : Bytes) (nums : List ℕ) (count k : ℕ) (files area path : Bytes) (from : ℕ) (top : Bytes) (s : State) (ports : List ℕ) (isolated : ℕ) (d : Domain) (glue : Bytes) (at : ℕ) (o : Out) (report : Bytes) (r : Told) where
-  bare_told : ((A : Type 0) (z : A) (f : Bytes → Bytes → A) → with_supplies (domain_of (files ++ area) d) z f ≡ z) → Bare (files ++ area) d at o report r → OneTold job nums count k files area path from top s ports isolated d (glue ▸ at) glue o report r
+  bare_told : ((A : Type 0) (z : A) (f : Bytes → Bytes → A) → with_supplies (domain_of (files ++ area) d) z f ≡ z) → Bare (files ++ area) d at o report r → OneTold job nums count k files area path from top s ports isolated d (glue ▸ at) glue o report (Ok r)
   bare_told none b =
       record {
         told = λ t st.
-            tells_same (domain_fits t (domain_of (files ++ area) d)) true (domain_glue t (shown_ports t job (files ++ area) s.isolations ports isolated) (domain_of (files ++ area) d)) [] (domain_line t (domain_of (files ++ area) d)) (unpowered_text (string (files ++ area) d.name)) (glue ▸ at) glue o report r
+            tells_same (domain_fits t (domain_of (files ++ area) d)) true (domain_glue t (shown_ports t job (files ++ area) s.isolations ports isolated) (domain_of (files ++ area) d)) [] (domain_line t (domain_of (files ++ area) d)) (unpowered_text (string (files ++ area) d.name)) (glue ▸ at) glue o report (Ok r)
             (none Bool true λ x y. walk_fits t.design t.base t.scope (retained_entries t.records) (domain_of (files ++ area) d).elements)
             (none Bytes [] (powered_glue t (shown_ports t job (files ++ area) s.isolations ports isolated) (domain_of (files ++ area) d)))
             (none Bytes (unpowered_line (domain_of (files ++ area) d)) (powered_line t (domain_of (files ++ area) d)) ∙ line_bare (files ++ area) d)
-            (none_told glue at (unpowered_text (string (files ++ area) d.name)) o report r b.over b.glue_is b.report_is);
+            (none_told glue at (unpowered_text (string (files ++ area) d.name)) o report r b.glue_is b.report_is);
       }
 
-  pub no_power : Bare (files ++ area) d at o report r → d.power ≡ None → OneTold job nums count k files area path from top s ports isolated d (glue ▸ at) glue o report r
+  pub no_power : Bare (files ++ area) d at o report r → d.power ≡ None → OneTold job nums count k files area path from top s ports isolated d (glue ▸ at) glue o report (Ok r)
   no_power b e = bare_told (λ A z f. with_none (files ++ area) d z f e) b
 
-  pub no_ground : Bare (files ++ area) d at o report r → d.ground_net ≡ None → OneTold job nums count k files area path from top s ports isolated d (glue ▸ at) glue o report r
+  pub no_ground : Bare (files ++ area) d at o report r → d.ground_net ≡ None → OneTold job nums count k files area path from top s ports isolated d (glue ▸ at) glue o report (Ok r)
   no_ground b e = bare_told (λ A z f. without (files ++ area) d z f d.power refl e) b
 
-pub both_told : (job : Bytes) (nums : List ℕ) (count k : ℕ) (files area path : Bytes) (from : ℕ) (top : Bytes) (s : State) (ports : List ℕ) (isolated : ℕ) (d : Domain) (p q : Below) (g : Out) (glue : Bytes) (o : Out) (report : Bytes) (r : Told)
+pub both_told : (job : Bytes) (nums : List ℕ) (count k : ℕ) (files area path : Bytes) (from : ℕ) (top : Bytes) (s : State) (ports : List ℕ) (isolated : ℕ) (d : Domain) (p q : Below) (g : Out) (glue : Bytes) (o : Out) (report : Bytes) (r : Result Told TooMany)
     → SuppliedTold job nums count k files area path from top s ports isolated d p q g glue o report r → d.power ≡ Some p → d.ground_net ≡ Some q → OneTold job nums count k files area path from top s ports isolated d g glue o report r
 both_told job nums count k files area path from top s ports isolated d p q g glue o report r x e f =
     record {

@@ -2,7 +2,7 @@
 use Rattle.store.specs.declared.state.Few.{Few}
 use Rattle.store.specs.declared.state.Isolation.{Isolation}
 use Rattle.store.specs.declared.state.Retention.{Retention}
-use Rattle.std.specs.Prelude.{ℕ, ◌≤◌, ◌≡◌, Bool, true, false, List, ◌++◌, map, length}
+use Rattle.std.specs.Prelude.{ℕ, ◌≤◌, ◌≡◌, Bool, true, false, List, ◌++◌, map, length, Result, Ok, Err}
 use Rattle.text.specs.Ascii.{Bytes}
 use Rattle.out.specs.Emit.{Out, ◌▸◌, emit}
 use Rattle.out.specs.Items.{each}
@@ -24,6 +24,7 @@ use Rattle.domainlists.specs.Lists.{own_entries}
 use Rattle.domainline.specs.Lines.{powered_text, unpowered_text}
 use Rattle.domainglue.specs.Glue.{glue_text, OfGlue}
 use Rattle.domainreport.specs.Reports.{OfReport}
+use Rattle.listing.specs.declared.TooMany.{TooMany}
 use Rattle.domains.specs.declared.Told.{Told}
 use Rattle.domains.specs.Told.{shown_ports}
 
@@ -44,25 +45,26 @@ pub record OfTexts (files area : Bytes) (xs : Few Isolation) (rs : Few Retention
 -- ---- what is left, by stored names: the texts with both supplies, the line without
 
 pub record Texts (mem : Bytes) (scope : List Bytes) (xs : Few Isolation) (rs : Few Retention) (ports : List ℕ) (isolated : ℕ) (d : Domain) (p g : Below) (elements paths : List Bytes) (n : ℕ) (o : Out) (glue : Bytes) (o' : Out) (report : Bytes) (r : Told) : Type 0 where
-  pub over : r.over ≡ false
   pub glue_is : glue ▸ r.glue ≡ emit o (glue_text (string mem d.name) (below_of mem p) (below_of mem g) (each (check_text scope (strategy_at mem xs) (string mem d.name)) (own_in mem xs d.name ports isolated)) paths)
   pub report_is : report ▸ r.report ≡ emit o' (powered_text (string mem d.name) elements (below_of mem p) (below_of mem g) n (map (retained_path scope) (own_entries mem rs d.name)))
 
 pub record Bare (mem : Bytes) (d : Domain) (glue : ℕ) (o : Out) (report : Bytes) (r : Told) : Type 0 where
-  pub over : r.over ≡ false
   pub glue_is : r.glue ≡ glue
   pub report_is : report ▸ r.report ≡ emit o (unpowered_text (string mem d.name))
 
--- ---- what is left by the definitions: whether the walk fits, the glue, the line
+-- ---- what is left by the definitions: the walk fits, and glue and line are there; or it does not fit
 
-pub record Tells (fits : Bool) (text line : Bytes) (g : Out) (glue : Bytes) (o : Out) (report : Bytes) (r : Told) : Type 0 where
-  pub over : r.over ≡ true → fits ≡ false
-  pub within : r.over ≡ false → fits ≡ true
-  pub glue_is : r.over ≡ false → glue ▸ r.glue ≡ emit g text
-  pub report_is : r.over ≡ false → report ▸ r.report ≡ emit o line
+pub record Puts (fits : Bool) (text line : Bytes) (g : Out) (glue : Bytes) (o : Out) (report : Bytes) (r : Told) : Type 0 where
+  pub within : fits ≡ true
+  pub glue_is : glue ▸ r.glue ≡ emit g text
+  pub report_is : report ▸ r.report ≡ emit o line
+
+abbrev pub Tells : Bool → Bytes → Bytes → Out → Bytes → Out → Bytes → Result Told TooMany → Type 0
+Tells fits text line g glue o report (Ok r) = Puts fits text line g glue o report r
+Tells fits text line g glue o report (Err _) = fits ≡ false
 
 -- for every setting that the values stand for: of a domain with the supplies p and q
-pub record SuppliedTold (job : Bytes) (nums : List ℕ) (count k : ℕ) (files area path : Bytes) (from : ℕ) (top : Bytes) (s : State) (ports : List ℕ) (isolated : ℕ) (d : Domain) (p q : Below) (g : Out) (glue : Bytes) (o : Out) (report : Bytes) (r : Told) : Type 0 where
+pub record SuppliedTold (job : Bytes) (nums : List ℕ) (count k : ℕ) (files area path : Bytes) (from : ℕ) (top : Bytes) (s : State) (ports : List ℕ) (isolated : ℕ) (d : Domain) (p q : Below) (g : Out) (glue : Bytes) (o : Out) (report : Bytes) (r : Result Told TooMany) : Type 0 where
   pub told : (t : Setting) → Stands job nums count k files area path from top s t
       → Tells (walk_fits t.design t.base t.scope (retained_entries t.records) (domain_of (files ++ area) d).elements)
       (powered_glue t (shown_ports t job (files ++ area) s.isolations ports isolated) (domain_of (files ++ area) d) (below_of (files ++ area) p) (below_of (files ++ area) q))
@@ -70,6 +72,6 @@ pub record SuppliedTold (job : Bytes) (nums : List ℕ) (count k : ℕ) (files a
       g glue o report r
 
 -- of any
-pub record OneTold (job : Bytes) (nums : List ℕ) (count k : ℕ) (files area path : Bytes) (from : ℕ) (top : Bytes) (s : State) (ports : List ℕ) (isolated : ℕ) (d : Domain) (g : Out) (glue : Bytes) (o : Out) (report : Bytes) (r : Told) : Type 0 where
+pub record OneTold (job : Bytes) (nums : List ℕ) (count k : ℕ) (files area path : Bytes) (from : ℕ) (top : Bytes) (s : State) (ports : List ℕ) (isolated : ℕ) (d : Domain) (g : Out) (glue : Bytes) (o : Out) (report : Bytes) (r : Result Told TooMany) : Type 0 where
   pub told : (t : Setting) → Stands job nums count k files area path from top s t
       → Tells (domain_fits t (domain_of (files ++ area) d)) (domain_glue t (shown_ports t job (files ++ area) s.isolations ports isolated) (domain_of (files ++ area) d)) (domain_line t (domain_of (files ++ area) d)) g glue o report r

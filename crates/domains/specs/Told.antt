@@ -1,7 +1,7 @@
 -- What the texts of all domains ask, and what they leave by the definitions. Assumes nothing.
 use Rattle.store.specs.declared.state.Few.{Few}
 use Rattle.store.specs.declared.state.Isolation.{Isolation}
-use Rattle.std.specs.Prelude.{ℕ, ◌+◌, ◌≤◌, ◌<◌, ◌^◌, ◌≡◌, true, false, List, ◌++◌, map, length}
+use Rattle.std.specs.Prelude.{ℕ, ◌+◌, ◌≤◌, ◌<◌, ◌^◌, ◌≡◌, true, false, List, ◌++◌, map, length, Result, Ok, Err}
 use Rattle.text.specs.Ascii.{Bytes}
 use Rattle.text.specs.Scan.{all}
 use Rattle.out.specs.Emit.{Out, ◌▸◌, emit}
@@ -13,6 +13,7 @@ use Rattle.walk.specs.Limits.{most_paths, most_path_bytes}
 use Rattle.walk.specs.Relative.{Filled}
 use Rattle.paths.specs.Pieces.{stem}
 use Rattle.listing.specs.Listing.{flag_count}
+use Rattle.listing.specs.declared.TooMany.{TooMany}
 use Rattle.modtable.specs.Table.{Tabled}
 use Rattle.corrupt.specs.Corrupt.{Short}
 use Rattle.scope.specs.Parts.{parts}
@@ -55,13 +56,16 @@ abbrev pub shown_ports : Setting → Bytes → Bytes → Few Isolation → List 
 shown_ports t job mem xs ports n = map (shown t.scope t.top (strategy_at mem xs)) (kept_in job mem ports n)
 
 -- ---- what is left: the glue and the lines of all domains, or a walk past its limits
-pub record DomainsTold (t : Setting) (ps : List Isolated) (g : Out) (glue : Bytes) (o : Out) (report : Bytes) (r : Told) : Type 0 where
-  pub over : r.over ≡ true → all (domain_fits t) t.records.domains ≡ false
-  pub fits : r.over ≡ false → all (domain_fits t) t.records.domains ≡ true
-  pub glue_is : r.over ≡ false → glue ▸ r.glue ≡ emit g (each (domain_glue t ps) t.records.domains)
-  pub report_is : r.over ≡ false → report ▸ r.report ≡ emit o (each (domain_line t) t.records.domains)
+pub record DomainsPut (t : Setting) (ps : List Isolated) (g : Out) (glue : Bytes) (o : Out) (report : Bytes) (r : Told) : Type 0 where
+  pub fits : all (domain_fits t) t.records.domains ≡ true
+  pub glue_is : glue ▸ r.glue ≡ emit g (each (domain_glue t ps) t.records.domains)
+  pub report_is : report ▸ r.report ≡ emit o (each (domain_line t) t.records.domains)
+
+abbrev pub DomainsTold : Setting → List Isolated → Out → Bytes → Out → Bytes → Result Told TooMany → Type 0
+DomainsTold t ps g glue o report (Ok r) = DomainsPut t ps g glue o report r
+DomainsTold t ps g glue o report (Err _) = all (domain_fits t) t.records.domains ≡ false
 
 -- for every setting that the values stand for
-abbrev pub AllTold : Bytes → List ℕ → ℕ → ℕ → Bytes → Bytes → Bytes → ℕ → Bytes → State → List ℕ → ℕ → Out → Bytes → Out → Bytes → Told → Type 0
+abbrev pub AllTold : Bytes → List ℕ → ℕ → ℕ → Bytes → Bytes → Bytes → ℕ → Bytes → State → List ℕ → ℕ → Out → Bytes → Out → Bytes → Result Told TooMany → Type 0
 AllTold job nums count k files area path from top s ports isolated g glue o report r =
     (t : Setting) → Stands job nums count k files area path from top s t → DomainsTold t (shown_ports t job (files ++ area) s.isolations ports isolated) g glue o report r

@@ -1,7 +1,7 @@
 // All domains, one after the other: what each loses, its glue, its report line.
 #![tactic(auto)]
 
-ghost use Rattle.std.specs.Prelude.{◌≡◌, false, ◌++◌, ◌≤◌, length};
+ghost use Rattle.std.specs.Prelude.{◌++◌, ◌≤◌, length};
 ghost use Rattle.out.specs.Emit.{◌▸◌};
 ghost use Rattle.nametable.specs.Table.{table_names};
 ghost use Rattle.scope.specs.Parts.{parts};
@@ -9,89 +9,71 @@ ghost use Rattle.listing.specs.Listing.{paths_of};
 ghost use Rattle.pathlines.specs.Lines.{below};
 ghost use Rattle.domains.specs.Told.{OfDomains, WalkRoom, AllTold};
 ghost use Rattle.domains.specs.One.{OfTexts, Texts, OfOne, SuppliedTold, Bare, OneTold};
+ghost use Rattle.spans.specs.Memory.{memory};
+ghost use Rattle.scope.specs.Path.{path_of};
+ghost use Rattle.nametable.specs.Names.{names_in};
 
 use domainglue::powered_glue;
 use domainpaths::lost;
 use domainreport::{below_name, powered_line, unpowered_line};
+use format::source::Source;
+use listing::{PathList, TooMany};
 use modtable::part::low;
 use out::emit::Text;
+use spans::span::Memory;
 use store::state::{Domain, Few, Isolation, Retention, State};
 use store::stored::Below;
+use text::part::Rows;
 
-// Where glue and report end; or a limit is passed.
+// Where glue and report end.
 #[derive(Clone, Copy)]
 pub struct Told {
-    pub over: bool,
     pub glue: usize,
     pub report: usize,
 }
 
 // The glue and the line of a domain with both supplies: m elements in a table, and the n paths that its walk listed.
 fn texts<'a>(
-    job: &[u8],
-    files: &'a [u8],
-    area: &'a [u8],
-    path: &[u8],
-    from: usize,
-    top: &[u8],
+    src: &Source<'a>,
     xs: Few<Isolation>,
     rs: Few<Retention>,
-    ports: &[u32],
-    isolated: usize,
+    ports: &Rows,
     d: Domain,
     p: Below,
     g: Below,
-    elements: &[u32],
-    m: usize,
-    text: &[u8],
-    ends: &[u32],
-    n: usize,
+    elements: &Rows,
+    listed: &PathList,
     glue: &mut [u8],
     report: &mut [u8],
     at: Told,
 ) -> Told
-    requires { OfTexts files.now area.now xs rs ports.now isolated m ends.now n }
-    ensures { Texts (files.now ++ area.now) (parts path.now from) xs rs ports.now isolated d p g (table_names (files.now ++ area.now) elements.now m) (below (parts path.now from) (paths_of text.now ends.now n)) n (glue.old ▸ at.glue) glue.new (report.old ▸ at.report) report.new result }
+    requires { OfTexts src.now.mem.files.now src.now.mem.area.now xs rs ports.now.rows.now ports.now.n elements.now.n listed.now.ends.now listed.now.n }
+    ensures { Texts (memory src.now.mem) (path_of src.now.scope) xs rs ports.now.rows.now ports.now.n d p g (names_in (memory src.now.mem) elements.now) (below (path_of src.now.scope) (paths_of listed.now.text.now listed.now.ends.now listed.now.n)) listed.now.n (glue.old ▸ at.glue) glue.new (report.old ▸ at.report) report.new result }
 {
-    let power = below_name(files, area, p);
-    let ground_net = below_name(files, area, g);
+    let power = below_name(&src.mem, p);
+    let ground_net = below_name(&src.mem, g);
     let name = d.name;
     let mut u = Text::over(glue, at.glue);
-    powered_glue(
-        &mut u, job, files, area, path, from, top, xs, ports, isolated, text, ends, n, name, power,
-        ground_net,
-    );
+    powered_glue(&mut u, src, xs, ports, listed, name, power, ground_net);
     let a = u.end();
     let mut v = Text::over(report, at.report);
     powered_line(
-        &mut v, files, area, path, from, rs, name, power, ground_net, elements, m, n,
+        &mut v, &src.mem, &src.scope, rs, name, power, ground_net, elements, listed.n,
     );
     let b = v.end();
-    Told {
-        over: false,
-        glue: a,
-        report: b,
-    }
+    Told { glue: a, report: b }
 }
 
 // A domain with both supplies; its elements go through a table.
 fn supplied_by<'a>(
-    job: &[u8],
-    nums: &[u32],
-    count: usize,
+    src: &Source<'a>,
     k: usize,
     table: &[u32],
-    files: &'a [u8],
-    area: &'a [u8],
-    path: &[u8],
-    from: usize,
     prefix: usize,
-    top: &[u8],
     s: State,
     retained: &[u32],
     kept: usize,
-    ports: &[u32],
-    isolated: usize,
+    ports: &Rows,
     d: Domain,
     p: Below,
     g: Below,
@@ -102,49 +84,62 @@ fn supplied_by<'a>(
     glue: &mut [u8],
     report: &mut [u8],
     at: Told,
-) -> Told
-    requires { (OfDomains job.now nums.now count k table.now files.now area.now path.now from prefix s retained.now kept ports.now isolated × OfOne files.now area.now d) × (WalkRoom tail.old text.old ends.old × (325 ≤ length elements.old)) }
-    ensures { SuppliedTold job.now nums.now count k files.now area.now path.now from top.now s ports.now isolated d p g (glue.old ▸ at.glue) glue.new (report.old ▸ at.report) report.new result }
+) -> Result<Told, TooMany>
+    requires { (OfDomains src.now.design.index.job.now src.now.design.index.rows.now src.now.design.count k table.now src.now.mem.files.now src.now.mem.area.now src.now.scope.over.now src.now.scope.from prefix s retained.now kept ports.now.rows.now ports.now.n × OfOne src.now.mem.files.now src.now.mem.area.now d) × (WalkRoom tail.old text.old ends.old × (325 ≤ length elements.old)) }
+    ensures { SuppliedTold src.now.design.index.job.now src.now.design.index.rows.now src.now.design.count k src.now.mem.files.now src.now.mem.area.now src.now.scope.over.now src.now.scope.from src.now.top.now s ports.now.rows.now ports.now.n d p g (glue.old ▸ at.glue) glue.new (report.old ▸ at.report) report.new result }
 {
     let stamp = low(at.report);
     let l = lost(
-        job, nums, count, k, table, files, area, retained, kept, d, prefix, elements, tail, text,
-        ends, stamp,
-    );
+        &src.design,
+        k,
+        table,
+        &src.mem,
+        retained,
+        kept,
+        d,
+        prefix,
+        elements,
+        tail,
+        text,
+        ends,
+        stamp,
+    )?;
     let w = l.walk;
-    if w.over {
-        return Told {
-            over: true,
-            glue: 0,
-            report: 0,
-        };
-    }
     let xs = s.isolations;
     let rs = s.retentions;
-    texts(
-        job, files, area, path, from, top, xs, rs, ports, isolated, d, p, g, elements, l.elements,
-        text, ends, w.count, glue, report, at,
-    )
+    Ok(texts(
+        src,
+        xs,
+        rs,
+        ports,
+        d,
+        p,
+        g,
+        &Rows {
+            rows: elements,
+            n: l.elements,
+        },
+        &PathList {
+            text,
+            ends,
+            n: w.count,
+        },
+        glue,
+        report,
+        at,
+    ))
 }
 
 // A domain with both supplies.
 fn supplied<'a>(
-    job: &[u8],
-    nums: &[u32],
-    count: usize,
+    src: &Source<'a>,
     k: usize,
     table: &[u32],
-    files: &'a [u8],
-    area: &'a [u8],
-    path: &[u8],
-    from: usize,
     prefix: usize,
-    top: &[u8],
     s: State,
     retained: &[u32],
     kept: usize,
-    ports: &[u32],
-    isolated: usize,
+    ports: &Rows,
     d: Domain,
     p: Below,
     g: Below,
@@ -154,28 +149,20 @@ fn supplied<'a>(
     glue: &mut [u8],
     report: &mut [u8],
     at: Told,
-) -> Told
-    requires { (OfDomains job.now nums.now count k table.now files.now area.now path.now from prefix s retained.now kept ports.now isolated × OfOne files.now area.now d) × WalkRoom tail.old text.old ends.old }
-    ensures { SuppliedTold job.now nums.now count k files.now area.now path.now from top.now s ports.now isolated d p g (glue.old ▸ at.glue) glue.new (report.old ▸ at.report) report.new result }
+) -> Result<Told, TooMany>
+    requires { (OfDomains src.now.design.index.job.now src.now.design.index.rows.now src.now.design.count k table.now src.now.mem.files.now src.now.mem.area.now src.now.scope.over.now src.now.scope.from prefix s retained.now kept ports.now.rows.now ports.now.n × OfOne src.now.mem.files.now src.now.mem.area.now d) × WalkRoom tail.old text.old ends.old }
+    ensures { SuppliedTold src.now.design.index.job.now src.now.design.index.rows.now src.now.design.count k src.now.mem.files.now src.now.mem.area.now src.now.scope.over.now src.now.scope.from src.now.top.now s ports.now.rows.now ports.now.n d p g (glue.old ▸ at.glue) glue.new (report.old ▸ at.report) report.new result }
 {
     let mut elements: [u32; 325] = [0; 325];
     supplied_by(
-        job,
-        nums,
-        count,
+        src,
         k,
         table,
-        files,
-        area,
-        path,
-        from,
         prefix,
-        top,
         s,
         retained,
         kept,
         ports,
-        isolated,
         d,
         p,
         g,
@@ -190,15 +177,14 @@ fn supplied<'a>(
 }
 
 // A domain without both supplies.
-fn bare(files: &[u8], area: &[u8], d: Domain, report: &mut [u8], at: Told) -> Told
-    ensures { Bare (files.now ++ area.now) d at.glue (report.old ▸ at.report) report.new result }
+fn bare(mem: &Memory, d: Domain, report: &mut [u8], at: Told) -> Told
+    ensures { Bare (memory mem.now) d at.glue (report.old ▸ at.report) report.new result }
 {
     let name = d.name;
     let mut v = Text::over(report, at.report);
-    unpowered_line(&mut v, files, area, name);
+    unpowered_line(&mut v, mem, name);
     let b = v.end();
     Told {
-        over: false,
         glue: at.glue,
         report: b,
     }
@@ -206,22 +192,14 @@ fn bare(files: &[u8], area: &[u8], d: Domain, report: &mut [u8], at: Told) -> To
 
 // A domain.
 fn domain<'a>(
-    job: &[u8],
-    nums: &[u32],
-    count: usize,
+    src: &Source<'a>,
     k: usize,
     table: &[u32],
-    files: &'a [u8],
-    area: &'a [u8],
-    path: &[u8],
-    from: usize,
     prefix: usize,
-    top: &[u8],
     s: State,
     retained: &[u32],
     kept: usize,
-    ports: &[u32],
-    isolated: usize,
+    ports: &Rows,
     d: Domain,
     tail: &mut [u8],
     text: &mut [u8],
@@ -229,51 +207,43 @@ fn domain<'a>(
     glue: &mut [u8],
     report: &mut [u8],
     at: Told,
-) -> Told
-    requires { (OfDomains job.now nums.now count k table.now files.now area.now path.now from prefix s retained.now kept ports.now isolated × OfOne files.now area.now d) × WalkRoom tail.old text.old ends.old }
-    ensures { OneTold job.now nums.now count k files.now area.now path.now from top.now s ports.now isolated d (glue.old ▸ at.glue) glue.new (report.old ▸ at.report) report.new result }
+) -> Result<Told, TooMany>
+    requires { (OfDomains src.now.design.index.job.now src.now.design.index.rows.now src.now.design.count k table.now src.now.mem.files.now src.now.mem.area.now src.now.scope.over.now src.now.scope.from prefix s retained.now kept ports.now.rows.now ports.now.n × OfOne src.now.mem.files.now src.now.mem.area.now d) × WalkRoom tail.old text.old ends.old }
+    ensures { OneTold src.now.design.index.job.now src.now.design.index.rows.now src.now.design.count k src.now.mem.files.now src.now.mem.area.now src.now.scope.over.now src.now.scope.from src.now.top.now s ports.now.rows.now ports.now.n d (glue.old ▸ at.glue) glue.new (report.old ▸ at.report) report.new result }
 {
     let power = d.power;
     let Some(p) = power else {
-        return bare(files, area, d, report, at);
+        return Ok(bare(&src.mem, d, report, at));
     };
     let ground_net = d.ground_net;
     let Some(g) = ground_net else {
-        return bare(files, area, d, report, at);
+        return Ok(bare(&src.mem, d, report, at));
     };
     supplied(
-        job, nums, count, k, table, files, area, path, from, prefix, top, s, retained, kept, ports,
-        isolated, d, p, g, tail, text, ends, glue, report, at,
+        src, k, table, prefix, s, retained, kept, ports, d, p, g, tail, text, ends, glue, report,
+        at,
     )
 }
 
 // The glue and the report lines of all domains.
 pub fn domains<'a>(
-    job: &[u8],
-    nums: &[u32],
-    count: usize,
+    src: &Source<'a>,
     k: usize,
     table: &[u32],
-    files: &'a [u8],
-    area: &'a [u8],
-    path: &[u8],
-    from: usize,
     prefix: usize,
-    top: &[u8],
     s: State,
     retained: &[u32],
     kept: usize,
-    ports: &[u32],
-    isolated: usize,
+    ports: &Rows,
     tail: &mut [u8],
     text: &mut [u8],
     ends: &mut [u32],
     glue: &mut [u8],
     report: &mut [u8],
     at: Told,
-) -> Told
-    requires { OfDomains job.now nums.now count k table.now files.now area.now path.now from prefix s retained.now kept ports.now isolated × (WalkRoom tail.old text.old ends.old × (at.over ≡ false)) }
-    ensures { AllTold job.now nums.now count k files.now area.now path.now from top.now s ports.now isolated (glue.old ▸ at.glue) glue.new (report.old ▸ at.report) report.new result }
+) -> Result<Told, TooMany>
+    requires { OfDomains src.now.design.index.job.now src.now.design.index.rows.now src.now.design.count k table.now src.now.mem.files.now src.now.mem.area.now src.now.scope.over.now src.now.scope.from prefix s retained.now kept ports.now.rows.now ports.now.n × WalkRoom tail.old text.old ends.old }
+    ensures { AllTold src.now.design.index.job.now src.now.design.index.rows.now src.now.design.count k src.now.mem.files.now src.now.mem.area.now src.now.scope.over.now src.now.scope.from src.now.top.now s ports.now.rows.now ports.now.n (glue.old ▸ at.glue) glue.new (report.old ▸ at.report) report.new result }
 {
     let t = s.domains;
     let m = t.n;
@@ -281,12 +251,8 @@ pub fn domains<'a>(
     for i in 0..m {
         let d = t.all[i];
         o = domain(
-            job, nums, count, k, table, files, area, path, from, prefix, top, s, retained, kept,
-            ports, isolated, d, tail, text, ends, glue, report, o,
-        );
-        if o.over {
-            return o;
-        }
+            src, k, table, prefix, s, retained, kept, ports, d, tail, text, ends, glue, report, o,
+        )?;
     }
-    o
+    Ok(o)
 }

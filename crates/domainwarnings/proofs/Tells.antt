@@ -1,7 +1,7 @@
 -- The warnings about elements: laws as the needs ask them. Assumes nothing.
 use Rattle.store.specs.declared.state.Few.{Few}
-use Rattle.std.specs.Prelude.{Option, Some, None}
-use Prim.Native.Nat.{ℕ, zero, suc, ◌+◌, ◌-◌, ◌*◌, ◌≤◌, ◌<◌, ◌^◌}
+use Rattle.std.specs.Prelude.{Option, Some, None, is_some}
+use Prim.Native.Nat.{ℕ, suc, ◌+◌, ◌-◌, ◌*◌, ◌≤◌, ◌<◌, ◌^◌}
 use mathlib.Core.Path.{◌≡◌, refl, sym, ap, ◌∙◌}
 use mathlib.Core.Bool.{Bool, true, false, cond, not}
 use mathlib.Core.List.{List, [], ◌∷◌, ◌++◌, map, flat_map, append-nil}
@@ -9,12 +9,12 @@ use native.Mathlib.Omega.{arith}
 use lib.ListN.{length, take, drop, get_or, length-append}
 use borrow.Author.Rules.{rules}
 use Rattle.text.specs.Ascii.{Bytes}
-use Rattle.out.specs.Emit.{Out, ◌▸◌, emit, emit_append}
+use Rattle.out.specs.Emit.{Out, emit, emit_append}
 use Rattle.out.specs.Fill.{turns, arg, pick, writes, format2, emit_fill}
 use Rattle.out.specs.Items.{each}
 use Rattle.joblines.specs.Job.{Module}
 use Rattle.jobindex.specs.Index.{module_row}
-use Rattle.lookup.specs.Rows.{modules, row_is, ModuleSeen}
+use Rattle.lookup.specs.Rows.{modules, ModuleSeen}
 use Rattle.names.specs.Name.{name_of}
 use Rattle.names.specs.declared.name.Name.{Name}
 use Rattle.nametable.specs.Table.{row_name, names_from, table_names, names_next, names_none}
@@ -58,31 +58,22 @@ missing_one d base name e false h = rw h
 
 -- ---- a text over a buffer
 
--- what was written into the text stands in the buffer
-pub over_written : (out out' : Bytes) (at o : ℕ) (z₀ z₁ : Out) (t : Bytes) → z₁ ≡ emit z₀ t → z₀ ≡ out ▸ at → out' ▸ o ≡ z₁ → out' ▸ o ≡ emit (out ▸ at) t
-over_written out out' at o z₀ z₁ t e f g = g ∙ rw (← f) e
-
-module _ (job : Bytes) (nums : List ℕ) (count k : ℕ) (e : Bytes) (m : ℕ) (seen : ModuleSeen job nums count (module_at (modules job nums count) (module_row job nums k) (filled_parts e)) m) where
-  leads : (m ≡ 0 → ⊥) → is_there (modules job nums count) (module_row job nums k) e ≡ true
-  unfolding row_is
-  leads h = go m refl
+module _ (job : Bytes) (nums : List ℕ) (count k : ℕ) (e : Bytes) (m : Option ℕ) (seen : ModuleSeen job nums count (module_at (modules job nums count) (module_row job nums k) (filled_parts e)) m) (b : Bool) (eb : b ≡ is_some m) where
+  there : is_there (modules job nums count) (module_row job nums k) e ≡ b
+  there = go m refl ∙ sym eb
     where
-      go : (r : ℕ) → m ≡ r → is_there (modules job nums count) (module_row job nums k) e ≡ true
-      go zero q = absurd (h q)
-      go (suc r) q = rw (← seen.says, q)
-
-  leads_not : m ≡ 0 → is_there (modules job nums count) (module_row job nums k) e ≡ false
-  unfolding row_is
-  leads_not q = rw (← seen.says, q)
+      go : (r : Option ℕ) → m ≡ r → is_there (modules job nums count) (module_row job nums k) e ≡ is_some m
+      go None q = rw (← seen.says, q)
+      go (Some r) q = rw (← seen.says, q)
 
   module _ (o : Out) (n : ℕ) (name : Bytes) where
-    pub told_none : (m ≡ 0 → ⊥) → Told 1 o n (missing (modules job nums count) (module_row job nums k) name (e ∷ [])) o n
-    told_none h = rw (missing_one (modules job nums count) (module_row job nums k) name e true (leads h)) (record { text = sym (no_line o); count = omega arith; few = omega arith })
+    pub told_none : b ≡ true → Told 1 o n (missing (modules job nums count) (module_row job nums k) name (e ∷ [])) o n
+    told_none h = rw (missing_one (modules job nums count) (module_row job nums k) name e true (there ∙ h)) (record { text = sym (no_line o); count = omega arith; few = omega arith })
 
-    told_text_lem : (o' : Out) → o' ≡ emit o (format2 "warning: power domain '{0}': element '{1}' not found\n" name e) → m ≡ 0 → Told 1 o n (missing (modules job nums count) (module_row job nums k) name (e ∷ [])) o' (n + 1)
-    told_text_lem o' t h = rw (missing_one (modules job nums count) (module_row job nums k) name e false (leads_not h)) (record { text = t ∙ (missing_line o name e ∙ one_line o (missing_text name e)); count = omega arith; few = omega arith })
+    told_text_lem : (o' : Out) → o' ≡ emit o (format2 "warning: power domain '{0}': element '{1}' not found\n" name e) → b ≡ false → Told 1 o n (missing (modules job nums count) (module_row job nums k) name (e ∷ [])) o' (n + 1)
+    told_text_lem o' t h = rw (missing_one (modules job nums count) (module_row job nums k) name e false (there ∙ h)) (record { text = t ∙ (missing_line o name e ∙ one_line o (missing_text name e)); count = omega arith; few = omega arith })
 
-  pub told_one : (mem : Bytes) (o : Out) (n : ℕ) (domain : Stored) (x : Name) (o' : Out) → o' ≡ emit o (format2 "warning: power domain '{0}': element '{1}' not found\n" (name_of mem x) e) → x ≡ stored_name domain → m ≡ 0 → Told 1 o n (missing (modules job nums count) (module_row job nums k) (string mem domain) (e ∷ [])) o' (n + 1)
+  pub told_one : (mem : Bytes) (o : Out) (n : ℕ) (domain : Stored) (x : Name) (o' : Out) → o' ≡ emit o (format2 "warning: power domain '{0}': element '{1}' not found\n" (name_of mem x) e) → x ≡ stored_name domain → b ≡ false → Told 1 o n (missing (modules job nums count) (module_row job nums k) (string mem domain) (e ∷ [])) o' (n + 1)
   told_one mem o n domain x o' t ex h = told_text_lem o n (string mem domain) o' (rw (ex, stored_is mem domain) at t) h
 
 pub ruleset ones = (rules, told_none, told_one)

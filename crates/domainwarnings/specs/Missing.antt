@@ -5,6 +5,8 @@ use Rattle.std.proofs.Common.{ap}
 use mathlib.Core.List.{List, [], ◌∷◌, ◌++◌, map, flat_map}
 use Rattle.text.specs.Ascii.{Bytes}
 use Rattle.out.specs.Emit.{Out, emit}
+use Rattle.out.specs.Text.{shown, SameRoom}
+use Rattle.out.specs.declared.emit.Text.{Text}
 use Rattle.out.specs.Fill.{format2}
 use Rattle.out.specs.Items.{each}
 use Rattle.joblines.specs.Job.{Module}
@@ -43,6 +45,10 @@ pub record Told (most : ℕ) (o : Out) (n : ℕ) (ws : List Bytes) (o' : Out) (n
   pub text : o' ≡ emit o (each warning_line ws)
   pub count : n' ≡ n + length ws
   pub few : n' ≤ n + most
+
+-- the same of texts that are being written
+abbrev pub Tells : ℕ → Text → ℕ → List Bytes → Text → ℕ → Type 0
+Tells most t n ws t' n' = SameRoom t t' × Told most (shown t) n ws (shown t') n'
 
 -- what is asked of a stored domain, and of all
 pub record OfElements (files area : Bytes) (d : Domain) : Type 0 where

@@ -49,6 +49,7 @@ pub fn maybe(to: &mut Text, m: Option<Stored>)
     }
 }
 
+// A name that may not be given. It writes, so that a `From` is no plainer.
 pub fn maybe_below(to: &mut Text, m: Option<Below>)
     ensures { Writes to.old (maybe_below_text m) to.new }
 {

@@ -2,7 +2,6 @@
 -- Assumes nothing.
 use mathlib.Core.Path.{◌≡◌, refl, ap, ◌∙◌, sym}
 use Prim.Native.Nat.{ℕ, suc, ◌+◌, ◌-◌, ◌*◌, ◌<◌, ◌≤◌}
-use native.Mathlib.Numerals.{add-one}
 use native.Mathlib.Omega.{arith}
 use mathlib.Core.Bool.{Bool, true, false, cond}
 use mathlib.Core.List.{List, [], ◌∷◌}
@@ -15,18 +14,19 @@ use Rattle.text.specs.Compare.{same}
 use Rattle.text.specs.Sames.{same_of, same_turned}
 use Rattle.text.specs.Scan.{split_at, onto}
 use Rattle.joblines.specs.Job.{Inst, Module}
-use Rattle.jobindex.specs.Index.{num, module_row}
+use Rattle.jobindex.specs.Index.{module_row}
 use Rattle.design.specs.Lists.{first, on_some, those}
 use Rattle.design.specs.Lookup.{module_named, instance_named, module_at}
 use Rattle.design.specs.Paths.{filled_parts}
 use Rattle.lines.specs.Cursors.{spanned, inst_is, InstSeen}
 use Rattle.lines.specs.declared.InstAt.{InstAt}
-use Rattle.memo.specs.Known.{slots, Begins, Leads, Known, Recalls, Asked, asked_row, asked_slot, asked_fits, recalls_row, recalls_asks, recalls_room, begins_row, begins_first, begins_here, leads_here, known_put}
+use Rattle.memo.specs.Known.{slots, Begins, Leads, Known, Recalls, Asked, asked_row, asked_slot, asked_leads, place_in, recalls_row, recalls_asks, recalls_room, begins_row, begins_first, begins_here, leads_here, known_put}
 use Rattle.lookup.specs.Rows.{modules, row_is, ModuleSeen, insts_from, insts_end, at_none, at_more, below}
 use Rattle.spans.specs.Span.{◌⋯◌, bytes}
 use Rattle.names.specs.Name.{named, name_of, step_of}
 use Rattle.names.specs.Parts.{parts, first_part, others, behind, unslashed, part_of, part_same, part_other, first_on, unslashed_parts, unslashed_first}
 use Rattle.names.specs.Frame.{alone_is}
+use Rattle.names.specs.declared.name.Form.TheVariants.{Word}
 use Rattle.names.specs.declared.name.Name.{Name}
 use Rattle.names.specs.declared.part.Part.{Part}
 use Rattle.names.specs.declared.part.Part.TheVariants as part
@@ -72,12 +72,11 @@ begin_first job index memo k h a s p e = begins_first job index k (first_part (p
 first_same : (s w : Bytes) (qs : List Bytes) → Some qs ≡ behind w (parts s) → w ≡ first_part (parts s)
 first_same s w qs e = sym (ap first_part (part_same s w qs e))
 
-module _ (job : Bytes) (index memo : List ℕ) (k h : ℕ) (asked : Asked job index memo k h) (a : ℕ) (ea : a ≡ num memo (2 * h)) (row : a ≡ k + 1) (p : ℕ) (ep : p ≡ num memo (2 * h + 1))
+module _ (job : Bytes) (index memo : List ℕ) (k h : ℕ) (asked : Asked job index memo k h) (p : ℕ) (ep : Some p ≡ place_in memo h k)
     (end : ℕ) (ee : end ≡ insts_end index k) (i : InstAt) (seen : InstSeen job p end (Some i)) (w : Bytes) (ew : w ≡ spanned job i.name) (mem s : Bytes) (q : Part) (eq : part_of mem q ≡ behind w (parts s)) where
   begin_by : (qs : List Bytes) → Some qs ≡ behind w (parts s) → Begins job index k (first_part (parts s)) p
   begin_by qs e =
-      let l : Leads job index k p = rw (← ep) at (asked.known.leads h k asked.slot (sym ea ∙ row)) in
-      begins_here job index k p (Some i) (rw ee at seen) i.dims i.name i.kind i.next refl (first_part (parts s)) (sym ew ∙ first_same s w qs e) asked.row l
+      begins_here job index k p (Some i) (rw ee at seen) i.dims i.name i.kind i.next refl (first_part (parts s)) (sym ew ∙ first_same s w qs e) asked.row (asked_leads job index memo k h asked p ep)
 
   pub begin_same : (x : Name) → q ≡ part.Same x → Begins job index k (first_part (parts s)) p
   begin_same x f = begin_by (parts (name_of mem x)) (rw f at eq)
@@ -85,7 +84,7 @@ module _ (job : Bytes) (index memo : List ℕ) (k h : ℕ) (asked : Asked job in
   pub begin_last : q ≡ part.Last → Begins job index k (first_part (parts s)) p
   begin_last f = begin_by [] (rw f at eq)
 
-pub ruleset lookups = (rules, asked_row, asked_slot, asked_fits, begin_first, begin_same, begin_last)
+pub ruleset lookups = (rules, asked_row, asked_slot, begin_first, begin_same, begin_last)
 
 -- ---- one instance down by the first part of s
 
@@ -115,11 +114,11 @@ module _ (job : Bytes) (index : List ℕ) (k : ℕ) (mem s : Bytes) (end : ℕ) 
             let f = found (parts (name_of mem x)) (rw h at eq) in
             record { is = (f.1.0, record { says = ap (λ (ps : List Bytes). filled (others ps)) (sym f.0); shorter = λ z. parts_shorter s (name_of mem x) w f.0 }); place = f.1.1 }
 
-        pub down_last : (x : Name) → x ≡ named (0 ⋯ 0) false (0 ⋯ 0) 0 → q ≡ part.Last → DownSeen job mem index k s (Some (record { at = at; kind = i.kind; rest = x }))
+        pub down_last : (x : Name) → x ≡ named (0 ⋯ 0) false (0 ⋯ 0) Word → q ≡ part.Last → DownSeen job mem index k s (Some (record { at = at; kind = i.kind; rest = x }))
         unfolding bytes those split_at same
         down_last x ex h =
             let f = found [] (rw h at eq) in
-            let z : name_of mem x ≡ [] = rw (ex, alone_is mem (0 ⋯ 0) 0) in
+            let z : name_of mem x ≡ [] = rw (ex, alone_is mem (0 ⋯ 0) Word) in
             record { is = (f.1.0, record { says = rw z (ap (λ (ps : List Bytes). filled (others ps)) (sym f.0)); shorter = λ y. rw z y }); place = f.1.1 }
 
         pub down_other : q ≡ part.Other → Begins job index k (first_part (parts s)) i.next
@@ -161,30 +160,36 @@ filled_first : (s : Bytes) (b : ℕ) (u : Bytes) → s ≡ b ∷ u → (b ≡ by
 unfolding those same
 filled_first s b u e h = rw (e, first_on b u h)
 
--- the lookup of the whole is that of s from module m on
-pub record Going (job : Bytes) (index : List ℕ) (count : ℕ) (target : Option Module) (m : ℕ) (s : Bytes) (memo : List ℕ) : Type 0 where
-  pub keeps : target ≡ module_at (modules job index count) (module_row job index m) (filled (parts s))
+unslashed_twice : (s : Bytes) → unslashed (unslashed s) ≡ unslashed s
+unfolding unslashed
+unslashed_twice [] = refl
+unslashed_twice (x ∷ s) = go (eqb x (byte "/")) refl (unslashed_twice s)
+  where
+    go : (q : Bool) → eqb x (byte "/") ≡ q → unslashed (unslashed s) ≡ unslashed s → unslashed (cond q (unslashed s) (x ∷ s)) ≡ cond q (unslashed s) (x ∷ s)
+    go true e h = h
+    go false e h = rw e
+
+-- the lookup of the whole is that of t, which begins with no slash, from module m on
+pub record Going (job : Bytes) (index : List ℕ) (count : ℕ) (target : Option Module) (m : ℕ) (t : Bytes) (memo : List ℕ) : Type 0 where
+  pub keeps : target ≡ module_at (modules job index count) (module_row job index m) (filled (parts t))
+  pub bare : unslashed t ≡ t
   pub few : count ≤ 128
   pub within : m < count
   pub known : Known job index memo
 
 module _ (job : Bytes) (index : List ℕ) (count : ℕ) where
-  pub going_start : (k : ℕ) (s : Bytes) (memo : List ℕ) → count ≤ 128 → k < count → Known job index memo → Going job index count (module_at (modules job index count) (module_row job index k) (filled_parts s)) k s memo
-  going_start k s memo l h n = record { keeps = refl; few = l; within = h; known = n }
+  pub going_start : (k : ℕ) (s t : Bytes) (memo : List ℕ) → t ≡ unslashed s → count ≤ 128 → k < count → Known job index memo → Going job index count (module_at (modules job index count) (module_row job index k) (filled_parts s)) k t memo
+  going_start k s t memo et l h n = record { keeps = rw (et, filled_unslashed s); bare = rw et (unslashed_twice s); few = l; within = h; known = n }
 
-  pub going_recalls : (target : Option Module) (m : ℕ) (s : Bytes) (memo : List ℕ) → Going job index count target m s memo → Recalls job index memo m
-  going_recalls target m s memo inv = record { row = omega (arith, inv.few, inv.within); known = inv.known }
+  pub going_recalls : (target : Option Module) (m : ℕ) (t : Bytes) (memo : List ℕ) → Going job index count target m t memo → Recalls job index memo m
+  going_recalls target m t memo inv = record { row = omega (arith, inv.few, inv.within); known = inv.known }
 
-  -- t is s without the slashes at its start
-  module _ (target : Option Module) (m : ℕ) (mem s : Bytes) (memo : List ℕ) (inv : Going job index count target m s memo) (t : Bytes) (et : t ≡ unslashed s) where
-    keeps_on : target ≡ module_at (modules job index count) (module_row job index m) (filled (parts t))
-    keeps_on = inv.keeps ∙ rw (et, filled_unslashed s)
-
-    pub going_end : t ≡ step_of mem None → ModuleSeen job index count target (m + 1)
-    unfolding row_is those split_at same
+  module _ (target : Option Module) (m : ℕ) (mem t : Bytes) (memo : List ℕ) (inv : Going job index count target m t memo) where
+    pub going_end : t ≡ step_of mem None → ModuleSeen job index count target (Some m)
+    unfolding those split_at same
     going_end z =
-        let e : target ≡ Some (module_row job index m) = keeps_on ∙ rw z (at_none (modules job index count) (module_row job index m)) in
-        record { says = rw (add-one, e); within = omega (arith, inv.within) }
+        let e : target ≡ Some (module_row job index m) = inv.keeps ∙ rw z (at_none (modules job index count) (module_row job index m)) in
+        record { says = sym e; within = inv.within }
 
     module _ (b : ℕ) (u : Name) (begins : t ≡ step_of mem (Some (b, u))) (memo' : List ℕ) where
       abbrev after : Module → Option Module
@@ -192,41 +197,46 @@ module _ (job : Bytes) (index : List ℕ) (count : ℕ) where
 
       one_down : target ≡ on_some (type_below (module_row job index m) t) None (λ n. on_some (module_named (modules job index count) n) None after)
       one_down =
-          let f = filled_first t b (name_of mem u) begins (unslashed_first s b (name_of mem u) (sym et ∙ begins)) in
+          let f = filled_first t b (name_of mem u) begins (unslashed_first t b (name_of mem u) (inv.bare ∙ begins)) in
           let a : module_at (modules job index count) (module_row job index m) (filled (parts t)) ≡ on_some (below (modules job index count) (module_row job index m) (first_part (parts t))) None after = rw f (at_more (modules job index count) (module_row job index m) (first_part (parts t)) (filled (others (parts t)))) in
-          keeps_on ∙ (a ∙ go (instance_named (module_row job index m) (first_part (parts t))))
+          inv.keeps ∙ (a ∙ go (instance_named (module_row job index m) (first_part (parts t))))
         where
           go : (o : Option Inst) → on_some (on_some o None λ i. module_named (modules job index count) i.type) None after ≡ on_some (option_map (λ (i : Inst). i.type) o) None (λ n. on_some (module_named (modules job index count) n) None after)
           go None = refl
           go (Some i) = refl
 
-      pub going_none : StepSeen job mem index m t None memo' → ModuleSeen job index count target 0
-      unfolding row_is
+      pub going_none : StepSeen job mem index m t None memo' → ModuleSeen job index count target None
       going_none step =
           let n : type_below (module_row job index m) t ≡ None = step.down.is in
-          record { says = sym (one_down ∙ rw n); within = omega arith }
+          record { says = sym (one_down ∙ rw n); within = tt }
 
-      module _ (d : Down) (step : StepSeen job mem index m t (Some d) memo') (p : Bytes) (ep : p ≡ spanned job d.kind) (row : ℕ) (named : ModuleSeen job index count (module_named (modules job index count) p) row) where
+      module _ (d : Down) (step : StepSeen job mem index m t (Some d) memo') (p : Bytes) (ep : p ≡ spanned job d.kind) where
         here : DownIs job mem (module_row job index m) t (Some d)
         here = step.down.is
 
-        on_row : target ≡ on_some (row_is job index row) None after
-        on_row = one_down ∙ rw (here.0, ← ep, named.says)
+        abbrev NamedIs : Option ℕ → Type 0
+        NamedIs = ModuleSeen job index count (module_named (modules job index count) p)
 
-        pub going_unlisted : row ≡ 0 → ModuleSeen job index count target 0
-        unfolding row_is
-        going_unlisted z = record { says = sym (on_row ∙ rw z); within = omega arith }
+        on_row : (q : Option ℕ) → NamedIs q → target ≡ on_some (row_is job index q) None after
+        on_row q named = one_down ∙ rw (here.0, ← ep, named.says)
 
-        module _ (z : row ≡ 0 → ⊥) where
-          pub going_on : Going job index count target (row - 1) (name_of mem d.rest) memo'
-          unfolding row_is
+        pub going_unlisted : NamedIs None → ModuleSeen job index count target None
+        going_unlisted named = record { says = sym (on_row None named); within = tt }
+
+        module _ (row : ℕ) (named : NamedIs (Some row)) (y : Bytes) (ey : y ≡ unslashed (name_of mem d.rest)) where
+          pub going_on : Going job index count target row y memo'
           going_on =
-              let e : row_is job index row ≡ Some (module_row job index (row - 1)) = let q : row ≡ suc (row - 1) = omega arith in ap (row_is job index) q in
-              record { keeps = on_row ∙ rw (e, here.1.says); few = inv.few; within = omega (arith, named.within); known = step.known }
+              record {
+                keeps = on_row (Some row) named ∙ rw (ey, filled_unslashed (name_of mem d.rest), here.1.says);
+                bare = rw ey (unslashed_twice (name_of mem d.rest));
+                few = inv.few;
+                within = named.within;
+                known = step.known;
+              }
 
-        pub going_less : length (name_of mem d.rest) < length s
-        going_less =
-            let l : 0 < length t = rw begins (omega arith) in
-            omega (arith, unslashed_le s, ap length et, here.1.shorter l)
+          pub going_less : length y < length t
+          going_less =
+              let l : 0 < length t = rw begins (omega arith) in
+              omega (arith, unslashed_le (name_of mem d.rest), ap length ey, here.1.shorter l)
 
 pub ruleset goings = (rules, going_start, going_recalls, going_end, going_none, going_unlisted, going_on, going_less)

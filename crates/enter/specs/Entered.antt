@@ -9,8 +9,11 @@ use Rattle.std.proofs.Common.{arith, ap, ◌∙◌}
 use Rattle.text.specs.Ascii.{Bytes}
 use Rattle.spans.specs.Span.{bytes, pair_at}
 use Rattle.args.specs.View.{words_from}
-use Rattle.model.specs.Names.{Command, Named}
+use Rattle.model.specs.Names.{Command as Carried, Named}
 use Rattle.model.specs.Numbers.{named_by}
+use Rattle.cmdnames.specs.Table.{number_of}
+use Rattle.cmdnames.specs.declared.Command.{Command}
+use Rattle.cmdnames.specs.declared.Command.TheVariants as command
 use Rattle.model.specs.Records.{Model}
 use Rattle.model.specs.Commands.{carried_out, unsupported}
 use Rattle.store.specs.declared.state.State.{State}
@@ -55,39 +58,32 @@ pub record Told (b : Brief) (ds : Few Domain) (ns : Few Below) (is : Few Isolati
   pub isolations : s.isolations ≡ is
   pub tables : s.tables ≡ ts
 
-above : (k c : ℕ) → k ≤ c → (c ≡ k → ⊥) → k + 1 ≤ c
-above k c h n = omega arith
-
-under : (k c : ℕ) → c ≤ k + 1 → (c ≡ k + 1 → ⊥) → c ≤ k
-under k c h n = omega arith
-
 -- what no other arm takes
-pub left_over : (n c : ℕ) → Enters n c → (c ≡ 0 → ⊥) → (c ≡ 3 → ⊥) → (c ≡ 5 → ⊥) → (c ≡ 6 → ⊥) → (c ≡ 7 → ⊥) → (c ≡ 8 → ⊥) → (c ≡ 9 → ⊥) → (c ≡ 22 → ⊥) → (c ≡ 23 → ⊥) → (c ≡ 24 → ⊥) → (c ≡ 25 → ⊥) → (c ≡ 26 → ⊥) → (c ≡ 28 → ⊥) → (c ≡ 29 → ⊥) → (c ≡ 30 → ⊥) → (10 ≤ c) × (c ≤ 20)
-left_over n c e n0 n3 n5 n6 n7 n8 n9 n22 n23 n24 n25 n26 n28 n29 n30 =
-    let a1 : 1 ≤ c = above 0 c (omega arith) (n0) in
-    let a2 : 2 ≤ c = above 1 c a1 e.no_puts in
-    let a3 : 3 ≤ c = above 2 c a2 e.no_load in
-    let a4 : 4 ≤ c = above 3 c a3 (n3) in
-    let a5 : 5 ≤ c = above 4 c a4 e.no_scope in
-    let a6 : 6 ≤ c = above 5 c a5 (n5) in
-    let a7 : 7 ≤ c = above 6 c a6 (n6) in
-    let a8 : 8 ≤ c = above 7 c a7 (n7) in
-    let a9 : 9 ≤ c = above 8 c a8 (n8) in
-    let a10 : 10 ≤ c = above 9 c a9 (n9) in
-    let b29 : c ≤ 29 = under 29 c e.named (n30) in
-    let b28 : c ≤ 28 = under 28 c b29 (n29) in
-    let b27 : c ≤ 27 = under 27 c b28 (n28) in
-    let b26 : c ≤ 26 = under 26 c b27 e.no_port_state in
-    let b25 : c ≤ 25 = under 25 c b26 (n26) in
-    let b24 : c ≤ 24 = under 24 c b25 (n25) in
-    let b23 : c ≤ 23 = under 23 c b24 (n24) in
-    let b22 : c ≤ 22 = under 22 c b23 (n23) in
-    let b21 : c ≤ 21 = under 21 c b22 (n22) in
-    let b20 : c ≤ 20 = under 20 c b21 e.no_switch in
-    (a10, b20)
+pub left_over : (n : ℕ) (c : Command) → Enters n (number_of c) → (c ≡ command.Set → ⊥) → (c ≡ command.SetDesignTop → ⊥) → (c ≡ command.CreatePowerDomain → ⊥) → (c ≡ command.CreateSupplyNet → ⊥) → (c ≡ command.CreateSupplyPort → ⊥) → (c ≡ command.ConnectSupplyNet → ⊥) → (c ≡ command.SetDomainSupplyNet → ⊥) → (c ≡ command.SetIsolation → ⊥) → (c ≡ command.SetIsolationControl → ⊥) → (c ≡ command.SetRetention → ⊥) → (c ≡ command.SetRetentionControl → ⊥) → (c ≡ command.SetLevelShifter → ⊥) → (c ≡ command.CreatePst → ⊥) → (c ≡ command.AddPstState → ⊥) → (c ≡ command.Unknown → ⊥) → (c ≡ command.NotSimulated → ⊥) → ⊥
+left_over n command.Set e n0 n3 n5 n6 n7 n8 n9 n22 n23 n24 n25 n26 n28 n29 n30 n10 = n0 refl
+left_over n command.Puts e n0 n3 n5 n6 n7 n8 n9 n22 n23 n24 n25 n26 n28 n29 n30 n10 = e.no_puts refl
+left_over n command.LoadUpf e n0 n3 n5 n6 n7 n8 n9 n22 n23 n24 n25 n26 n28 n29 n30 n10 = e.no_load refl
+left_over n command.SetDesignTop e n0 n3 n5 n6 n7 n8 n9 n22 n23 n24 n25 n26 n28 n29 n30 n10 = n3 refl
+left_over n command.SetScope e n0 n3 n5 n6 n7 n8 n9 n22 n23 n24 n25 n26 n28 n29 n30 n10 = e.no_scope refl
+left_over n command.CreatePowerDomain e n0 n3 n5 n6 n7 n8 n9 n22 n23 n24 n25 n26 n28 n29 n30 n10 = n5 refl
+left_over n command.CreateSupplyNet e n0 n3 n5 n6 n7 n8 n9 n22 n23 n24 n25 n26 n28 n29 n30 n10 = n6 refl
+left_over n command.CreateSupplyPort e n0 n3 n5 n6 n7 n8 n9 n22 n23 n24 n25 n26 n28 n29 n30 n10 = n7 refl
+left_over n command.ConnectSupplyNet e n0 n3 n5 n6 n7 n8 n9 n22 n23 n24 n25 n26 n28 n29 n30 n10 = n8 refl
+left_over n command.SetDomainSupplyNet e n0 n3 n5 n6 n7 n8 n9 n22 n23 n24 n25 n26 n28 n29 n30 n10 = n9 refl
+left_over n command.CreatePowerSwitch e n0 n3 n5 n6 n7 n8 n9 n22 n23 n24 n25 n26 n28 n29 n30 n10 = e.no_switch refl
+left_over n command.SetIsolation e n0 n3 n5 n6 n7 n8 n9 n22 n23 n24 n25 n26 n28 n29 n30 n10 = n22 refl
+left_over n command.SetIsolationControl e n0 n3 n5 n6 n7 n8 n9 n22 n23 n24 n25 n26 n28 n29 n30 n10 = n23 refl
+left_over n command.SetRetention e n0 n3 n5 n6 n7 n8 n9 n22 n23 n24 n25 n26 n28 n29 n30 n10 = n24 refl
+left_over n command.SetRetentionControl e n0 n3 n5 n6 n7 n8 n9 n22 n23 n24 n25 n26 n28 n29 n30 n10 = n25 refl
+left_over n command.SetLevelShifter e n0 n3 n5 n6 n7 n8 n9 n22 n23 n24 n25 n26 n28 n29 n30 n10 = n26 refl
+left_over n command.AddPortState e n0 n3 n5 n6 n7 n8 n9 n22 n23 n24 n25 n26 n28 n29 n30 n10 = e.no_port_state refl
+left_over n command.CreatePst e n0 n3 n5 n6 n7 n8 n9 n22 n23 n24 n25 n26 n28 n29 n30 n10 = n28 refl
+left_over n command.AddPstState e n0 n3 n5 n6 n7 n8 n9 n22 n23 n24 n25 n26 n28 n29 n30 n10 = n29 refl
+left_over n command.NotSimulated e n0 n3 n5 n6 n7 n8 n9 n22 n23 n24 n25 n26 n28 n29 n30 n10 = n10 refl
+left_over n command.Unknown e n0 n3 n5 n6 n7 n8 n9 n22 n23 n24 n25 n26 n28 n29 n30 n10 = n30 refl
 
 -- ten names are before those that are not simulated, and these are eleven
-eleven : (k : ℕ) → k ≤ 10 → named_by (suc (suc (suc (suc (suc (suc (suc (suc (suc (suc k)))))))))) ≡ Named.other Command.not_simulated
+eleven : (k : ℕ) → k ≤ 10 → named_by (suc (suc (suc (suc (suc (suc (suc (suc (suc (suc k)))))))))) ≡ Named.other Carried.not_simulated
 eleven zero h = refl
 eleven (suc zero) h = refl
 eleven (suc (suc zero)) h = refl
@@ -101,7 +97,7 @@ eleven (suc (suc (suc (suc (suc (suc (suc (suc (suc zero))))))))) h = refl
 eleven (suc (suc (suc (suc (suc (suc (suc (suc (suc (suc zero)))))))))) h = refl
 eleven (suc (suc (suc (suc (suc (suc (suc (suc (suc (suc (suc k))))))))))) h = absurd (omega arith)
 
-parsed : (c : ℕ) → 10 ≤ c → c ≤ 20 → named_by c ≡ Named.other Command.not_simulated
+parsed : (c : ℕ) → 10 ≤ c → c ≤ 20 → named_by c ≡ Named.other Carried.not_simulated
 parsed c h g =
     let e : c ≡ suc (suc (suc (suc (suc (suc (suc (suc (suc (suc (c - 10)))))))))) = omega arith in
     ap named_by e ∙ eleven (c - 10) (omega arith)
@@ -127,8 +123,8 @@ module _ (files area : Bytes) (words : List ℕ) (n c : ℕ) where
     unknown_done e h d = done_by_lem Named.unknown K e (λ s k. k) (first_by (λ (m : Model). unsupported m w) h d)
 
     -- not simulated
-    pub parsed_done : 10 ≤ c → c ≤ 20 → 0 < n → Does files area words 1 (λ (s : State). Unit {0}) r (λ (m : Model). carried_out Command.not_simulated m w []) → Does files area words n K r (λ (m : Model). done (named_by c) m w ws)
-    parsed_done a b h d = done_by_lem (Named.other Command.not_simulated) K (parsed c a b) (λ s k. k) (first_by (λ (m : Model). carried_out Command.not_simulated m w []) h d)
+    pub parsed_done : 10 ≤ c → c ≤ 20 → 0 < n → Does files area words 1 (λ (s : State). Unit {0}) r (λ (m : Model). carried_out Carried.not_simulated m w []) → Does files area words n K r (λ (m : Model). done (named_by c) m w ws)
+    parsed_done a b h d = done_by_lem (Named.other Carried.not_simulated) K (parsed c a b) (λ s k. k) (first_by (λ (m : Model). carried_out Carried.not_simulated m w []) h d)
 
   -- set_retention_control leaves the records as they are
   pub nothing_done : (K : State → Type 0) → c ≡ 25 → Does files area words n K deed.Nothing (λ (m : Model). done (named_by c) m w ws)

@@ -1,14 +1,17 @@
-// A command by its number in the table of names, where it writes neither the area nor the log nor words of states.
+// A command, where it writes neither the area nor the log nor words of states.
 #![tactic(auto)]
 
 ghost use Rattle.std.specs.Prelude.{◌++◌};
 ghost use Rattle.spans.specs.Span.{bytes, pair_at};
 ghost use Rattle.args.specs.View.{words_from};
 ghost use Rattle.model.specs.Numbers.{named_by};
+ghost use Rattle.cmdnames.specs.Table.{number_of};
 ghost use Rattle.model.specs.Records.{Model};
 ghost use Rattle.made.specs.Made.{Does};
 ghost use Rattle.enter.specs.Entered.{done, Entering, Told};
+ghost use Rattle.spans.specs.Memory.{memory};
 
+use cmdnames::Command;
 use domaincmds::{create_power_domain, set_domain_supply_net};
 use isolationcmds::{set_isolation, set_isolation_control};
 use made::{Brief, Deed};
@@ -17,42 +20,43 @@ use plaincmds::{
     not_simulated, set, set_design_top, set_level_shifter, set_retention, unsupported,
 };
 use portcmds::{connect_supply_net, create_supply_port};
+use spans::span::Memory;
 use store::state::{Domain, Few, Isolation, Table};
 use store::stored::Below;
 use tablecmds::{add_pst_state, create_pst};
+use text::part::Rows;
 
 // What the command does to the records; its words begin with its name.
 pub fn enter<'a>(
-    files: &'a [u8],
-    area: &'a [u8],
-    words: &[u32],
-    n: usize,
+    mem: &Memory<'a>,
+    command: &Rows,
     b: Brief,
     domains: Few<Domain>,
     nets: Few<Below>,
     isolations: Few<Isolation>,
     tables: Few<Table>,
-    c: usize,
+    c: Command,
 ) -> Deed
-    requires { Entering words.now n c domains nets isolations tables }
-    ensures { Does files.now area.now words.now n (Told b domains nets isolations tables) result (λ (m : Model). done (named_by c) m (bytes (files.now ++ area.now) (pair_at words.now 0)) (words_from (files.now ++ area.now) words.now n 1)) }
+    requires { Entering command.now.rows.now command.now.n (number_of c) domains nets isolations tables }
+    ensures { Does mem.now.files.now mem.now.area.now command.now.rows.now command.now.n (Told b domains nets isolations tables) result (λ (m : Model). done (named_by (number_of c)) m (bytes (memory mem.now) (pair_at command.now.rows.now 0)) (words_from (memory mem.now) command.now.rows.now command.now.n 1)) }
 {
     match c {
-        0 => set(files, area, words, n, b),
-        3 => set_design_top(files, area, words, n, b),
-        5 => create_power_domain(files, area, words, n, b),
-        6 => create_supply_net(files, area, words, n, b, nets),
-        7 => create_supply_port(files, area, words, n, b),
-        8 => connect_supply_net(files, area, words, n, b),
-        9 => set_domain_supply_net(files, area, words, n, b, domains),
-        22 => set_isolation(files, area, words, n, b, isolations),
-        23 => set_isolation_control(files, area, words, n, b, isolations),
-        24 => set_retention(files, area, words, n, b),
-        25 => Deed::Nothing,
-        26 => set_level_shifter(files, area, words, n, b),
-        28 => create_pst(files, area, words, n, b),
-        29 => add_pst_state(files, area, words, n, b, tables),
-        30 => unsupported(files, area, words),
-        _ => not_simulated(words),
+        Command::Set => set(mem, command, b),
+        Command::SetDesignTop => set_design_top(mem, command, b),
+        Command::CreatePowerDomain => create_power_domain(mem, command, b),
+        Command::CreateSupplyNet => create_supply_net(mem, command, b, nets),
+        Command::CreateSupplyPort => create_supply_port(mem, command, b),
+        Command::ConnectSupplyNet => connect_supply_net(mem, command, b),
+        Command::SetDomainSupplyNet => set_domain_supply_net(mem, command, b, domains),
+        Command::SetIsolation => set_isolation(mem, command, b, isolations),
+        Command::SetIsolationControl => set_isolation_control(mem, command, b, isolations),
+        Command::SetRetention => set_retention(mem, command, b),
+        Command::SetRetentionControl => Deed::Nothing,
+        Command::SetLevelShifter => set_level_shifter(mem, command, b),
+        Command::CreatePst => create_pst(mem, command, b),
+        Command::AddPstState => add_pst_state(mem, command, b, tables),
+        Command::Unknown => unsupported(mem, command.rows),
+        Command::NotSimulated => not_simulated(command.rows),
+        _ => unreachable!(),
     }
 }

@@ -17,7 +17,8 @@ use Rattle.tcl.specs.Join.{joint_by, joint, joined_by, join}
 use Rattle.tcl.specs.Substitution.{escape, unescape}
 use Rattle.entries.specs.Entry.{entry_bytes}
 use Rattle.entries.specs.Raw.{join_first, join_here, join_end}
-use Rattle.entries.specs.View.{join_got}
+use Rattle.entries.specs.View.{entry_got, join_got}
+use Rattle.std.specs.Option.{option_or}
 
 -- ---- joined
 
@@ -158,6 +159,14 @@ module _ (mem : Bytes) (quoted : Bool) (w : Bytes) (p : Option (ℕ × Span)) (f
 
       pub got_next : (c : ℕ) (u : Span) → q ≡ Some (c, u) → b ≡ byte "\\" → entry_bytes quoted w ≡ c ∷ entry_bytes quoted (bytes mem u)
       got_next c u g l = entry_next quoted w b (bytes mem t) head c (bytes mem u) (not-false quoted z) l (rw g at k)
+
+      -- the second byte where there is one, else the first
+      pub got_or : (r : Option (ℕ × Span)) → r ≡ option_or q (Some (b, t)) → b ≡ byte "\\" → entry_bytes quoted w ≡ entry_got quoted mem r
+      got_or r e l = rw e (go q refl)
+        where
+          go : (x : Option (ℕ × Span)) → q ≡ x → entry_bytes quoted w ≡ entry_got quoted mem (option_or x (Some (b, t)))
+          go None g = got_last g
+          go (Some (c, u)) g = got_next c u g l
 
 pub ruleset gots = (rules, got_none, got_raw, got_plain, got_last, got_next)
 

@@ -4,8 +4,9 @@ ghost use Rattle.spans.specs.Span.{bytes};
 ghost use Rattle.tcl.specs.Join.{join};
 ghost use Rattle.entries.specs.Entry.{entry_bytes};
 ghost use Rattle.entries.specs.View.{entry_got, join_got, next_of};
+ghost use Rattle.spans.specs.Memory.{memory};
 
-use spans::span::{Span, first};
+use spans::span::{Memory, Span, first};
 use tcl::join::{joined_by, joint};
 
 // The byte at i of an entry that lies in one slice.
@@ -33,14 +34,14 @@ pub fn next_byte(raw: &[u8], i: usize, quoted: bool) -> Option<(u8, usize)>
 }
 
 // The first byte of a string whose lines are joined.
-fn first_joined(files: &[u8], area: &[u8], s: Span) -> Option<(u8, Span)>
-    ensures { join (bytes (files.now ++ area.now) s) ≡ join_got (files.now ++ area.now) result }
+fn first_joined(mem: &Memory, s: Span) -> Option<(u8, Span)>
+    ensures { join (bytes (memory mem.now) s) ≡ join_got (memory mem.now) result }
 {
-    let (a, t) = first(files, area, s)?;
+    let (a, t) = first(mem, s)?;
     if a != b'\\' {
         return Some((a, t));
     }
-    let Some((b, u)) = first(files, area, t) else {
+    let Some((b, u)) = first(mem, t) else {
         return Some((a, t));
     };
     if b == b'\n' {
@@ -49,7 +50,7 @@ fn first_joined(files: &[u8], area: &[u8], s: Span) -> Option<(u8, Span)>
     if b != b'\r' {
         return Some((a, t));
     }
-    let Some((c, w)) = first(files, area, u) else {
+    let Some((c, w)) = first(mem, u) else {
         return Some((a, t));
     };
     if c == b'\n' {
@@ -59,15 +60,15 @@ fn first_joined(files: &[u8], area: &[u8], s: Span) -> Option<(u8, Span)>
 }
 
 // The first byte of an entry that is a span of the files and the area.
-pub fn first_byte(files: &[u8], area: &[u8], s: Span, quoted: bool) -> Option<(u8, Span)>
-    ensures { entry_bytes quoted (bytes (files.now ++ area.now) s) ≡ entry_got quoted (files.now ++ area.now) result }
+pub fn first_byte(mem: &Memory, s: Span, quoted: bool) -> Option<(u8, Span)>
+    ensures { entry_bytes quoted (bytes (memory mem.now) s) ≡ entry_got quoted (memory mem.now) result }
 {
-    let (b, t) = first_joined(files, area, s)?;
+    let (b, t) = first_joined(mem, s)?;
     if !quoted {
         return Some((b, t));
     }
     if b != b'\\' {
         return Some((b, t));
     }
-    first_joined(files, area, t).or(Some((b, t)))
+    first_joined(mem, t).or(Some((b, t)))
 }

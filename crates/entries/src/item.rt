@@ -5,7 +5,7 @@ ghost use Rattle.entries.specs.Entry.{entries_left};
 ghost use Rattle.entries.specs.View.{Begins, Finds};
 
 use super::scan::scan;
-use spans::span::{Span, least};
+use spans::span::Span;
 use tcl::join::{joined_by, joint};
 use text::class::is_space;
 
@@ -41,7 +41,7 @@ fn entry_at(v: &[u8], i: usize, b: u8) -> Option<Item>
     }
     if b == b'[' {
         let e = scan(v, a, b'[');
-        let z = least(e + 1, v.len());
+        let z = (e + 1).min(v.len());
         return Some(Item {
             entry: Span { at: i, len: z - i },
             quoted: false,

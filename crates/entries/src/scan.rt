@@ -19,7 +19,7 @@ fn until(stop: bool) -> usize
     1
 }
 
-// The state behind a byte of what began with k: 0 where it ends.
+// The state behind a byte of what began with k: 0 where it ends. k is the byte itself, and a state counts open braces, so an enum is no plainer.
 fn state(k: u8, d: usize, b: u8) -> usize
     requires { (1 ≤ d) × (d + 1 < 2 ^ 64) }
     ensures { (result ≡ state_of k d b) × (result ≤ d + 1) }

@@ -3,14 +3,13 @@
 
 ghost use Rattle.std.specs.Prelude.{◌≡◌};
 ghost use Rattle.fields.specs.Fields.{is_name, is_part, is_path, dims_of, dir_of, kind_of, style_of, is_net};
-ghost use Rattle.fields.specs.Meant.{dims_meant, dir_meant, kind_meant, style_meant, style_number, is_some, body_of};
+ghost use Rattle.fields.specs.Meant.{dims_meant, dir_meant, kind_meant, style_meant, style_number, body_of};
 
 // D: whether there are unpacked dimensions.
 #[derive(PartialEq, Eq, Clone, Copy, Debug)]
 pub enum Dims {
     Zero,
     One,
-    Bad,
 }
 
 // DIR, of a port line.
@@ -21,7 +20,6 @@ pub enum Dir {
     Inout,
     Ref,
     None,
-    Bad,
 }
 
 // KIND, of a declaration line.
@@ -34,7 +32,6 @@ pub enum Kind {
     Out,
     Inout,
     Ref,
-    Bad,
 }
 
 // The style of a module.
@@ -84,6 +81,7 @@ pub fn is_path(w: &[u8]) -> bool
     ensures { result ≡ is_path w.now }
 {
     let mut i = 0;
+    // No `while let`: the part behind the last `/` is one too, and would have to be tested in a second place.
     loop {
         let e = text::scan::find(w, i, b'/');
         if !is_part(&w[i..e]) {
@@ -96,115 +94,74 @@ pub fn is_path(w: &[u8]) -> bool
     }
 }
 
-// The D that w is.
-pub fn read_dims(w: &[u8]) -> Dims
+// The D that w is, if it is one.
+pub fn read_dims(w: &[u8]) -> Option<Dims>
     ensures { dims_meant result ≡ dims_of w.now }
 {
     if text::compare::same(w, b"0") {
-        return Dims::Zero;
+        return Some(Dims::Zero);
     }
     if text::compare::same(w, b"1") {
-        return Dims::One;
+        return Some(Dims::One);
     }
-    Dims::Bad
+    None
 }
 
-// Whether a D was read.
-pub fn known_dims(d: Dims) -> bool
-    ensures { result ≡ is_some (dims_meant d) }
-{
-    match d {
-        Dims::Zero => true,
-        Dims::One => true,
-        Dims::Bad => false,
-    }
-}
-
-// The DIR that w is.
-pub fn read_dir(w: &[u8]) -> Dir
+// The DIR that w is, if it is one.
+pub fn read_dir(w: &[u8]) -> Option<Dir>
     ensures { dir_meant result ≡ dir_of w.now }
 {
     if text::compare::same(w, b"in") {
-        return Dir::In;
+        return Some(Dir::In);
     }
     if text::compare::same(w, b"out") {
-        return Dir::Out;
+        return Some(Dir::Out);
     }
     if text::compare::same(w, b"inout") {
-        return Dir::Inout;
+        return Some(Dir::Inout);
     }
     if text::compare::same(w, b"ref") {
-        return Dir::Ref;
+        return Some(Dir::Ref);
     }
     if text::compare::same(w, b"none") {
-        return Dir::None;
+        return Some(Dir::None);
     }
-    Dir::Bad
+    None
 }
 
-// Whether a DIR was read.
-pub fn known_dir(d: Dir) -> bool
-    ensures { result ≡ is_some (dir_meant d) }
-{
-    match d {
-        Dir::In => true,
-        Dir::Out => true,
-        Dir::Inout => true,
-        Dir::Ref => true,
-        Dir::None => true,
-        Dir::Bad => false,
-    }
-}
-
-// The KIND that w is.
-pub fn read_kind(w: &[u8]) -> Kind
+// The KIND that w is, if it is one.
+pub fn read_kind(w: &[u8]) -> Option<Kind>
     ensures { kind_meant result ≡ kind_of w.now }
 {
     if text::compare::same(w, b"net") {
-        return Kind::Net;
+        return Some(Kind::Net);
     }
     if text::compare::same(w, b"data") {
-        return Kind::Data;
+        return Some(Kind::Data);
     }
     if text::compare::same(w, b"odd") {
-        return Kind::Odd;
+        return Some(Kind::Odd);
     }
     body_kind(w)
 }
 
-// The KIND of a body port that w is.
-fn body_kind(w: &[u8]) -> Kind
+// The KIND of a body port that w is, if it is one.
+fn body_kind(w: &[u8]) -> Option<Kind>
     ensures { kind_meant result ≡ body_of w.now }
 {
     if text::compare::same(w, b"in") {
-        return Kind::In;
+        return Some(Kind::In);
     }
     if text::compare::same(w, b"out") {
-        return Kind::Out;
+        return Some(Kind::Out);
     }
     if text::compare::same(w, b"inout") {
-        return Kind::Inout;
+        return Some(Kind::Inout);
     }
     if text::compare::same(w, b"ref") {
-        return Kind::Ref;
+        return Some(Kind::Ref);
     }
-    Kind::Bad
-}
-
-// Whether a KIND was read.
-pub fn known_kind(k: Kind) -> bool
-    ensures { result ≡ is_some (kind_meant k) }
-{
-    match k {
-        Kind::Net => true,
-        Kind::Data => true,
-        Kind::Odd => true,
-        Kind::In => true,
-        Kind::Out => true,
-        Kind::Inout => true,
-        Kind::Ref => true,
-        Kind::Bad => false,
-    }
+    None
 }
 
 // The style that w is.

@@ -1,5 +1,5 @@
 -- Laws: a command from what its parts come to: a load, a line of the log, another scope, a deed. Assumes nothing.
-use Rattle.std.specs.Prelude.{Option, Some, None}
+use Rattle.std.specs.Prelude.{Option, Some, None, Result, Ok, Err}
 use Prim.Native.Nat.{ℕ, ◌+◌, ◌-◌, ◌≤◌, ◌<◌}
 use native.Mathlib.Omega.{arith}
 use mathlib.Core.Path.{◌≡◌, refl, sym, ap, ◌∙◌}
@@ -30,13 +30,16 @@ use Rattle.made.specs.declared.Deed.{Deed}
 use Rattle.made.specs.declared.Brief.{Brief}
 use Rattle.made.specs.Made.{brief_of, done_by, Fits}
 use Rattle.scopes.specs.declared.go.Out.{Out}
+use Rattle.scopes.specs.declared.go.Stop.TheVariants as stop
+use Rattle.scopes.specs.Stops.{tag_of}
 use Rattle.scopes.specs.declared.go.Place.{Place}
-use Rattle.scopes.specs.declared.go.Went.{Went}
+use Rattle.scopes.specs.declared.go.Stop.{Stop}
 use Rattle.scopes.specs.Moves.{scope_fits, moved_to, Moves}
 use Rattle.scopes.specs.Moves as Scopes
 use Rattle.held.specs.Held.{mem_of, model_at, counted_of, Ran}
 use Rattle.held.specs.Laws.{with_entries}
-use Rattle.loads.specs.Loads.{Loading, Loaded, Restores, head_back}
+use Rattle.loads.specs.declared.Load.{Load}
+use Rattle.loads.specs.Loads.{opened, file_of, Loading, Loaded, Restores, head_back}
 use Rattle.loads.specs.Behind.{restores_by}
 use Rattle.loads.specs.Steps.{line_at, counted_out, acted, command_reads, file_reads, Doing, Opening}
 use Rattle.plain.specs.Acts.{Acting, Acts}
@@ -52,10 +55,10 @@ use Rattle.files.specs.Loads.{Loads}
 use Rattle.files.proofs.Moved.{scope_ran}
 
 -- ---- a load has no value that is read as a list
-load_past : (s : State) (l : Line) → 1024 < s.count.commands → ◌≡◌ {A = Out} (record { tag = 10; state = s }) (counted_out s (entries_of (lists_by (named_by 2) l.name l.rest)))
+load_past : (s : State) (l : Line) → 1024 < s.count.commands → ◌≡◌ {A = Out} (record { stop = Some stop.PastLimit; state = s }) (counted_out s (entries_of (lists_by (named_by 2) l.name l.rest)))
 load_past s l h = rw (lt-leb s.count.commands 1024 h)
 
-load_within : (s : State) (l : Line) → s.count.commands ≤ 1024 → s.count.entries ≤ 1024 → ◌≡◌ {A = Out} (record { tag = 0; state = s }) (counted_out s (entries_of (lists_by (named_by 2) l.name l.rest)))
+load_within : (s : State) (l : Line) → s.count.commands ≤ 1024 → s.count.entries ≤ 1024 → ◌≡◌ {A = Out} (record { stop = None; state = s }) (counted_out s (entries_of (lists_by (named_by 2) l.name l.rest)))
 unfolding all total
 load_within s l h g = let e : s.count.entries + 0 ≡ s.count.entries = omega arith in rw (e, le-leb s.count.commands 1024 h, le-leb s.count.entries 1024 g)
 
@@ -64,33 +67,37 @@ module _ (job files area nums words : List ℕ) (count n k left : ℕ) (s : Stat
   load_reads = command_reads job files area nums count words n k left s
 
   -- there are too many commands
-  pub load_over : 1024 < s.count.commands → (log : List ℕ) → Ran files area area nums nums log log s (record { tag = 10; state = s }) load_reads
-  load_over h log = command_over job files area nums words count n k left s v.doing 2 v.is (record { tag = 10; state = s }) (load_past s (line_at files area words n s) h) log (λ z. absurd (omega (arith, z)))
+  pub load_over : 1024 < s.count.commands → (log : List ℕ) → Ran files area area nums nums log log s (record { stop = Some stop.PastLimit; state = s }) load_reads
+  load_over h log = command_over job files area nums words count n k left s v.doing 2 v.is (record { stop = Some stop.PastLimit; state = s }) (load_past s (line_at files area words n s) h) log (λ z. absurd (omega (arith, z)))
 
   module _ (h : s.count.commands ≤ 1024) where
-    ex : ◌≡◌ {A = Out} (record { tag = 0; state = s }) (counted_out s (entries_of (lists_by (named_by 2) (line_at files area words n s).name (line_at files area words n s).rest)))
+    ex : ◌≡◌ {A = Out} (record { stop = None; state = s }) (counted_out s (entries_of (lists_by (named_by 2) (line_at files area words n s).name (line_at files area words n s).rest)))
     ex = load_within s (line_at files area words n s) h v.doing.held.entries
 
     pub load_asks : Loading job files area nums words count n k left s
-    load_asks = load_before job files area nums words count n k left s v.doing 2 v.is (record { tag = 0; state = s }) ex refl refl
+    load_asks = load_before job files area nums words count n k left s v.doing 2 v.is (record { stop = None; state = s }) ex refl refl
 
     module _ (area' : List ℕ) (b : Out) (m : ℕ) (w : Loaded job files area area' nums count words n k left s b m) where
-      pub not_opened : (log : List ℕ) → (b.tag ≡ 0 → ⊥) → Ran files area area' nums nums log log s b load_reads
-      not_opened = load_refused job files area nums words count n k left s v.doing 2 v.is (record { tag = 0; state = s }) ex refl refl area' b m w
+      pub not_opened : (log : List ℕ) → (tag_of b.stop ≡ 0 → ⊥) → Ran files area area' nums nums log log s b load_reads
+      not_opened = load_refused job files area nums words count n k left s v.doing 2 v.is (record { stop = None; state = s }) ex refl refl area' b m w
 
-      module _ (z : b.tag ≡ 0) where
+      module _ (z : tag_of b.stop ≡ 0) where
         pub deep : 1 ≤ left
-        deep = load_deep job files area nums words count n k left s v.doing 2 v.is (record { tag = 0; state = s }) ex refl refl area' b m w z
+        deep = load_deep job files area nums words count n k left s v.doing 2 v.is (record { stop = None; state = s }) ex refl refl area' b m w z
 
         pub opening : Opening job files area' nums count m (left - 1) b.state
-        opening = load_opening job files area nums words count n k left s v.doing 2 v.is (record { tag = 0; state = s }) ex refl refl area' b m w z
+        opening = load_opening job files area nums words count n k left s v.doing 2 v.is (record { stop = None; state = s }) ex refl refl area' b m w z
 
         module _ (area'' nums'' log log'' : List ℕ) (r : Out) (g : Ran files area' area'' nums nums'' log log'' b.state r (file_reads job files area' nums count m (left - 1) b.state)) where
-          pub failed : (r.tag ≡ 0 → ⊥) → Ran files area area'' nums nums'' log log'' s r load_reads
-          failed = load_failed job files area nums words count n k left s v.doing 2 v.is (record { tag = 0; state = s }) ex refl refl area' b m w z area'' nums'' log log'' r g
+          pub failed : (tag_of r.stop ≡ 0 → ⊥) → Ran files area area'' nums nums'' log log'' s r load_reads
+          failed = load_failed job files area nums words count n k left s v.doing 2 v.is (record { stop = None; state = s }) ex refl refl area' b m w z area'' nums'' log log'' r g
 
-          pub behind : r.tag ≡ 0 → (u : State) → Restores s r.state u → Ran files area area'' nums nums'' log log'' s (record { tag = 0; state = u }) load_reads
-          behind = load_done job files area nums words count n k left s v.doing 2 v.is (record { tag = 0; state = s }) ex refl refl area' b m w z area'' nums'' log log'' r g
+          pub behind : tag_of r.stop ≡ 0 → (u : State) → Restores s r.state u → Ran files area area'' nums nums'' log log'' s (record { stop = None; state = u }) load_reads
+          behind = load_done job files area nums words count n k left s v.doing 2 v.is (record { stop = None; state = s }) ex refl refl area' b m w z area'' nums'' log log'' r g
+
+-- a load by what it is found to be
+pub loaded_as : (job files area area' nums words : List ℕ) (count n k left : ℕ) (s : State) (b d : Result Load Stop) → b ≡ d → Loaded job files area area' nums count words n k left s (opened s b) (file_of b) → Loaded job files area area' nums count words n k left s (opened s d) (file_of d)
+loaded_as job files area area' nums words count n k left s b d e w = rw e at w
 
 -- so many rows and warnings
 abbrev pub with_counts : State → ℕ → ℕ → State
@@ -134,23 +141,23 @@ with_place s h p =
       variables = s.variables;
     }
 
-module _ (s : State) (h : Head) (w : Went) (e : h ≡ record { scope = w.place.scope; top = s.head.top }) where
-  placed : with_place s h w.place ≡ moved_to s w.place.scope w.place.scopes w.place.end
-  placed = ap (λ (g : Head). with_place s g w.place) e
+module _ (s : State) (h : Head) (q : Place) (e : h ≡ record { scope = q.scope; top = s.head.top }) where
+  placed : with_place s h q ≡ moved_to s q.scope q.scopes q.end
+  placed = ap (λ (g : Head). with_place s g q) e
 
-  pub placed_ran : (files area area' nums nums' log log' : List ℕ) (D : Bytes → Reading) → Ran files area area' nums nums' log log' s (Scopes.out_of s w) D
-      → Ran files area area' nums nums' log log' s (record { tag = w.tag; state = with_place s h w.place }) D
-  placed_ran files area area' nums nums' log log' D g = ran_to (with_place s h w.place) (moved_to s w.place.scope w.place.scopes w.place.end) placed g
+  pub placed_ran : (files area area' nums nums' log log' : List ℕ) (D : Bytes → Reading) → Ran files area area' nums nums' log log' s (Scopes.out_of s (Ok q)) D
+      → Ran files area area' nums nums' log log' s (record { stop = None; state = with_place s h q }) D
+  placed_ran files area area' nums nums' log log' D g = ran_to (with_place s h q) (moved_to s q.scope q.scopes q.end) placed g
     where
-      ran_to : (u v : State) → u ≡ v → Ran files area area' nums nums' log log' s (record { tag = w.tag; state = v }) D → Ran files area area' nums nums' log log' s (record { tag = w.tag; state = u }) D
-      ran_to u v q x = rw q x
+      ran_to : (u v : State) → u ≡ v → Ran files area area' nums nums' log log' s (record { stop = None; state = v }) D → Ran files area area' nums nums' log log' s (record { stop = None; state = u }) D
+      ran_to u v i x = rw i x
 
-  pub placed_opening : (job files area nums : List ℕ) (count m left : ℕ) → Opening job files area nums count m left (Scopes.out_of s w).state → Opening job files area nums count m left (with_place s h w.place)
+  pub placed_opening : (job files area nums : List ℕ) (count m left : ℕ) → Opening job files area nums count m left (Scopes.out_of s (Ok q)).state → Opening job files area nums count m left (with_place s h q)
   placed_opening job files area nums count m left g = rw placed g
 
   pub placed_reads : (job files area area' nums nums' log log' : List ℕ) (count m left : ℕ) (r : Out)
-      → Ran files area area' nums nums' log log' (with_place s h w.place) r (file_reads job files area nums count m left (with_place s h w.place))
-      → Ran files area area' nums nums' log log' (Scopes.out_of s w).state r (file_reads job files area nums count m left (Scopes.out_of s w).state)
+      → Ran files area area' nums nums' log log' (with_place s h q) r (file_reads job files area nums count m left (with_place s h q))
+      → Ran files area area' nums nums' log log' (Scopes.out_of s (Ok q)).state r (file_reads job files area nums count m left (Scopes.out_of s (Ok q)).state)
   placed_reads job files area area' nums nums' log log' count m left r g = rw (← placed) g
 
 -- behind a load
@@ -171,7 +178,7 @@ module _ (files area nums words : List ℕ) (n c : ℕ) (s : State) where
 
   -- puts
   module _ (e1 : c ≡ 1) (v : Asks files area nums words n c s) where
-    pub said : (log log' : Bytes) (e : ℕ) → log' ▸ e ≡ emit (log ▸ s.fill.log) (saying (words_from (mem_of files area s) words n 1)) → Does area nums log log' (record { tag = 0; state = log_set s e })
+    pub said : (log log' : Bytes) (e : ℕ) → log' ▸ e ≡ emit (log ▸ s.fill.log) (saying (words_from (mem_of files area s) words n 1)) → Does area nums log log' (record { stop = None; state = log_set s e })
     said log log' e g = rw e1 (puts_ran files area nums words n s (asks_at files area nums words n c 1 s e1 v) log log' e g)
 
   -- set_scope
@@ -179,8 +186,8 @@ module _ (files area nums words : List ℕ) (n c : ℕ) (s : State) where
     abbrev to : Bytes
     to = moved (string (mem_of files area s) s.head.scope) (name_of (words_from (mem_of files area s) words n 1))
 
-    pub scoped : (area' : List ℕ) (w : Went) (log : Bytes) → length area' ≡ length area → Moves files area area' s to (Scopes.out_of s w) (scope_fits s.count.scopes to) → Does area' nums log log (Scopes.out_of s w)
-    scoped area' w log len g = rw e4 (scope_ran files area nums words n c s v area' (Scopes.out_of s w) log len g)
+    pub scoped : (area' : List ℕ) (w r : Result Place Stop) (log : Bytes) → length area' ≡ length area → w ≡ r → Moves files area area' s to (Scopes.out_of s w) (scope_fits s.count.scopes to) → Does area' nums log log (Scopes.out_of s r)
+    scoped area' w r log len i g = rw e4 (scope_ran files area nums words n c s v area' (Scopes.out_of s r) log len (rw i at g))
 
   pub acting : Asks files area nums words n c s → (b : Brief) → b ≡ brief_of s → (c ≡ 1 → ⊥) → (c ≡ 4 → ⊥)
       → Acting files (take s.fill.end area) nums words n c s.fill.rows s.fill.warnings b s.domains s.nets s.isolations s.tables
@@ -208,20 +215,20 @@ module _ (files area nums words : List ℕ) (n c : ℕ) (s : State) where
     ran_as : (o : Out) → out_of (done_by s d) ≡ o → Does area nums' log log o
     ran_as o e = rw e at (g.ran log)
 
-    pub deed_refused : refused_by s.fill.warnings d ≡ true → Does area nums' log log (record { tag = 10; state = s })
-    deed_refused h = ran_as (record { tag = 10; state = s }) (ap out_of (refused_is s d h))
+    pub deed_refused : refused_by s.fill.warnings d ≡ true → Does area nums' log log (record { stop = Some stop.PastLimit; state = s })
+    deed_refused h = ran_as (record { stop = Some stop.PastLimit; state = s }) (ap out_of (refused_is s d h))
 
     module _ (h : refused_by s.fill.warnings d ≡ false) (a b : ℕ) (ea : a ≡ rows_by d s.fill.rows) (eb : b ≡ warnings_by d s.fill.warnings) where
       counts_are : with_counts s a b ≡ counted_by s d
       counts_are = λ i. with_counts s (ea i) (eb i)
 
-      done_as : (u : State) → record_by (counted_by s d) d ≡ u → out_of (done_by s d) ≡ record { tag = 0; state = u }
-      done_as u e = λ i. record { tag = cond (eqb (taken_tag s d h i) 0) 0 10; state = (taken_is s d h ∙ e) i }
+      done_as : (u : State) → record_by (counted_by s d) d ≡ u → out_of (done_by s d) ≡ record { stop = None; state = u }
+      done_as u e = λ i. record { stop = cond (eqb (taken_tag s d h i) 0) None (Some stop.PastLimit); state = (taken_is s d h ∙ e) i }
 
       pub deed_fits : Fits (with_counts s a b) d
       deed_fits = rw counts_are (fits_counted s d g.fits)
 
-      pub deed_done : (u : State) → u ≡ record_by (with_counts s a b) d → Does area nums' log log (record { tag = 0; state = u })
+      pub deed_done : (u : State) → u ≡ record_by (with_counts s a b) d → Does area nums' log log (record { stop = None; state = u })
       deed_done u e = ran_as _ (done_as u (ap (λ (x : State). record_by x d) (sym counts_are) ∙ sym e))
 
 -- what a deed leaves: its place is in its table, there are fewer commands left, and the state with its record goes on
@@ -250,24 +257,24 @@ module _ (job files area nums words : List ℕ) (count n k left : ℕ) (s : Stat
     abbrev ls : List ℕ
     ls = entries_of (lists_by (named_by c) (line_at files area words n s).name (line_at files area words n s).rest)
 
-    pub past : r ≡ None → (log : List ℕ) → Ran files area area nums nums log log s (record { tag = 10; state = s }) (command_reads job files area nums count words n k left s)
-    past q log = command_over job files area nums words count n k left s v c ec (record { tag = 10; state = s }) (out_past s ls r er q) log (λ z. absurd (omega (arith, z)))
+    pub past : r ≡ None → (log : List ℕ) → Ran files area area nums nums log log s (record { stop = Some stop.PastLimit; state = s }) (command_reads job files area nums count words n k left s)
+    past q log = command_over job files area nums words count n k left s v c ec (record { stop = Some stop.PastLimit; state = s }) (out_past s ls r er q) log (λ z. absurd (omega (arith, z)))
 
     module _ (t : ℕ) (q : r ≡ Some t) (no : c ≡ 2 → ⊥) where
       pub asks : c ≤ 30 → Asks files area nums words n c (with_entries s t)
       asks h =
           record {
-            held = counted_held job files area nums words count n k left s v c ec (record { tag = 0; state = with_entries s t }) (out_within s ls r er t q) refl;
-            worded = counted_worded job files area nums words count n k left s v c ec (record { tag = 0; state = with_entries s t }) (out_within s ls r er t q) refl;
+            held = counted_held job files area nums words count n k left s v c ec (record { stop = None; state = with_entries s t }) (out_within s ls r er t q) refl;
+            worded = counted_worded job files area nums words count n k left s v c ec (record { stop = None; state = with_entries s t }) (out_within s ls r er t q) refl;
             named = v.named;
             few = v.few;
-            counted = counted_few job files area nums words count n k left s v c ec (record { tag = 0; state = with_entries s t }) (out_within s ls r er t q) refl;
+            counted = counted_few job files area nums words count n k left s v c ec (record { stop = None; state = with_entries s t }) (out_within s ls r er t q) refl;
             known = h;
             no_load = no;
-            is = counted_named job files area nums words count n k left s v c ec (record { tag = 0; state = with_entries s t }) (out_within s ls r er t q) refl;
+            is = counted_named job files area nums words count n k left s v c ec (record { stop = None; state = with_entries s t }) (out_within s ls r er t q) refl;
           }
 
       pub does : (area' nums' log log' : List ℕ) (d : Out)
           → Ran files area area' nums nums' log log' (with_entries s t) d (λ text. acted (named_by c) (line_at files area words n (with_entries s t)) (counted_of (with_entries s t)) (model_at files area nums (with_entries s t) text))
           → Ran files area area' nums nums' log log' s d (command_reads job files area nums count words n k left s)
-      does = command_plain job files area nums words count n k left s v c ec (record { tag = 0; state = with_entries s t }) (out_within s ls r er t q) refl no
+      does = command_plain job files area nums words count n k left s v c ec (record { stop = None; state = with_entries s t }) (out_within s ls r er t q) refl no

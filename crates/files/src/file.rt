@@ -4,19 +4,19 @@ ghost use Rattle.held.specs.Held.{Ran};
 ghost use Rattle.loads.specs.Steps.{command_reads, file_reads, Opening};
 ghost use Rattle.files.specs.Loads.{Loads};
 
-use cmdnames::number;
+use cmdnames::{Command, named_command};
 use commands::next::{Words, next_command};
 use deeds::{add, add_variable, refused, replace, rows_with, warnings_with, with_top};
 use held::begun;
 use loads::{back, before_load};
 use made::{Deed, brief_of};
 use plain::{act, counted, puts};
-use scopes::go::{Out, Place, set_scope};
-use spans::span::pair;
+use scopes::go::{Out, Place, Stop, set_scope};
+use spans::span::{Memory, pair};
 use store::state::{Head, State};
 use store::stored::Stored;
 use substitution::put::Full;
-use text::part::place;
+use text::part::{Rows, place};
 
 // The head with another scope.
 fn in_scope(h: Head, scope: Stored) -> Head
@@ -30,6 +30,7 @@ fn in_scope(h: Head, scope: Stored) -> Head
 }
 
 // The load with these words, of file k; `left` loads may still be nested. It has no value that is read as a list.
+// The area is written here, so it stays apart from the files.
 #[cycle(load_read_file)]
 fn load(
     job: &[u8],
@@ -38,17 +39,19 @@ fn load(
     nums: &mut [u32],
     log: &mut [u8],
     count: usize,
-    words: &[u32],
-    n: usize,
+    command: &Rows,
     s: State,
     k: usize,
     left: usize,
 ) -> Out
-    requires { Loads job.now files.now area.old nums.old words.now count n k left s }
-    ensures { Ran files.now area.old area.new nums.old nums.new log.old log.new s result (command_reads job.now files.now area.old nums.old count words.now n k left s) }
+    requires { Loads job.now files.now area.old nums.old command.now.rows.now count command.now.n k left s }
+    ensures { Ran files.now area.old area.new nums.old nums.new log.old log.new s result (command_reads job.now files.now area.old nums.old count command.now.rows.now command.now.n k left s) }
 {
     if 1024 < s.count.commands {
-        return Out { tag: 10, state: s };
+        return Out {
+            stop: Some(Stop::PastLimit),
+            state: s,
+        };
     }
     let h = s.head;
     let scope = h.scope;
@@ -57,30 +60,34 @@ fn load(
         scopes: s.count.scopes,
         end: s.fill.end,
     };
-    let b = before_load(job, files, area, nums, count, words, n, p, k, left);
-    let w = b.went;
-    let q = w.place;
-    let mut u = s;
-    u.head = in_scope(h, q.scope);
-    u.count.scopes = q.scopes;
-    u.fill.end = q.end;
-    if w.tag != 0 {
-        return Out {
-            tag: w.tag,
-            state: u,
-        };
+    match before_load(job, files, area, nums, count, command, p, k, left) {
+        Err(x) => Out {
+            stop: Some(x),
+            state: s,
+        },
+        Ok(b) => {
+            let q = b.place;
+            let mut u = s;
+            u.head = in_scope(h, q.scope);
+            u.count.scopes = q.scopes;
+            u.fill.end = q.end;
+            let r = read_file(job, files, area, nums, log, count, u, b.file, left - 1);
+            if r.stop.is_some() {
+                return r;
+            }
+            u = r.state;
+            u.head = back(h, u.head);
+            Out {
+                stop: None,
+                state: u,
+            }
+        }
     }
-    let r = read_file(job, files, area, nums, log, count, u, b.file, left - 1);
-    if r.tag != 0 {
-        return r;
-    }
-    u = r.state;
-    u.head = back(h, u.head);
-    Out { tag: 0, state: u }
 }
 
 // File k, command by command, its words substituted with the variables known when it is opened. What is no load is
 // carried out here: the state would be copied for each call that it is passed to.
+// The area is written here, so it stays apart from the files.
 #[cycle(load_read_file)]
 pub fn read_file(
     job: &[u8],
@@ -104,14 +111,31 @@ pub fn read_file(
     let mut words: [u32; 256] = [0; 256];
     let mut at = 0;
     let mut u = s;
+    // Counted by hand: where the next command begins is known when this one is read, and a load is nested in it, so an iterator is no plainer.
     loop {
         let o = u.fill.end;
         let limit = o + (16384 - u.count.substituted);
-        match next_command(files, base, len, at, &vars, nv, area, o, limit, &mut words) {
-            Ok(None) => return Out { tag: 0, state: u },
+        match next_command(
+            files,
+            base,
+            len,
+            at,
+            &Rows { rows: &vars, n: nv },
+            area,
+            o,
+            limit,
+            &mut words,
+        ) {
+            Ok(None) => return Out {
+                stop: None,
+                state: u,
+            },
             Err(Full) => {
                 let v = begun(u, o);
-                return Out { tag: 10, state: v };
+                return Out {
+                    stop: Some(Stop::PastLimit),
+                    state: v,
+                };
             }
             Ok(
                 Some(
@@ -127,10 +151,25 @@ pub fn read_file(
                 u.count.commands = commands;
                 u.count.substituted = substituted;
                 u.fill.end = e;
-                let c = number(files, &area[..e], pair(&words, 0));
-                if c == 2 {
-                    let r = load(job, files, area, nums, log, count, &words, n, u, k, left);
-                    if r.tag != 0 {
+                let mem = Memory {
+                    files,
+                    area: &area[..e],
+                };
+                let c = named_command(&mem, pair(&words, 0));
+                if let Command::LoadUpf = c {
+                    let r = load(
+                        job,
+                        files,
+                        area,
+                        nums,
+                        log,
+                        count,
+                        &Rows { rows: &words, n },
+                        u,
+                        k,
+                        left,
+                    );
+                    if r.stop.is_some() {
                         return r;
                     }
                     u = r.state;
@@ -138,43 +177,44 @@ pub fn read_file(
                     continue;
                 }
                 let before = u.count.entries;
-                let Some(t) = counted(files, &area[..e], &words, n, commands, before, c) else {
-                    return Out { tag: 10, state: u };
+                let Some(t) = counted(&mem, &Rows { rows: &words, n }, commands, before, c) else {
+                    return Out {
+                        stop: Some(Stop::PastLimit),
+                        state: u,
+                    };
                 };
                 u.count.entries = t;
                 at = next;
-                if c == 1 {
-                    let end = puts(files, &area[..e], log, &words, n, u.fill.log);
+                if let Command::Puts = c {
+                    let end = puts(&mem, log, &Rows { rows: &words, n }, u.fill.log);
                     u.fill.log = end;
                     continue;
                 }
-                if c == 4 {
+                if let Command::SetScope = c {
                     let scope = u.head.scope;
                     let p = Place {
                         scope: scope,
                         scopes: u.count.scopes,
                         end: e,
                     };
-                    let w = set_scope(files, area, &words, n, p);
-                    let q = w.place;
-                    u.head = in_scope(u.head, q.scope);
-                    u.count.scopes = q.scopes;
-                    u.fill.end = q.end;
-                    if w.tag != 0 {
-                        return Out {
-                            tag: w.tag,
+                    match set_scope(files, area, &Rows { rows: &words, n }, p) {
+                        Err(x) => return Out {
+                            stop: Some(x),
                             state: u,
-                        };
+                        },
+                        Ok(q) => {
+                            u.head = in_scope(u.head, q.scope);
+                            u.count.scopes = q.scopes;
+                            u.fill.end = q.end;
+                            continue;
+                        }
                     }
-                    continue;
                 }
                 let b = brief_of(u);
                 let d = act(
-                    files,
-                    &area[..e],
+                    &mem,
                     nums,
-                    &words,
-                    n,
+                    &Rows { rows: &words, n },
                     b,
                     u.fill.rows,
                     u.fill.warnings,
@@ -185,7 +225,10 @@ pub fn read_file(
                     c,
                 );
                 if refused(d, u.fill.warnings) {
-                    return Out { tag: 10, state: u };
+                    return Out {
+                        stop: Some(Stop::PastLimit),
+                        state: u,
+                    };
                 }
                 let rows = rows_with(d, u.fill.rows);
                 let warnings = warnings_with(d, u.fill.warnings);

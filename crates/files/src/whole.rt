@@ -7,6 +7,7 @@ use scopes::go::Out;
 use store::start::start;
 
 // Reads the first `count` files of the index, beginning with file `first`.
+// The area is written here, so it stays apart from the files.
 pub fn read(
     job: &[u8],
     files: &mut [u8],

@@ -5,13 +5,13 @@ use mathlib.Core.Path.{◌≡◌, refl, ap, ◌∙◌, sym}
 use Prim.Native.Nat.{ℕ, suc, ◌+◌, ◌-◌, ◌<◌, ◌≤◌}
 use native.Mathlib.Numerals.{add-one}
 use native.Mathlib.Omega.{arith}
-use mathlib.Core.Bool.{Bool, true, false, not}
+use mathlib.Core.Bool.{Bool, true, false}
 use mathlib.Core.List.{List, [], ◌∷◌, ◌++◌}
-use Rattle.std.specs.Prelude.{Option, Some}
+use Rattle.std.specs.Prelude.{Option, Some, option_map, Result, Ok, Err}
 use lib.ListN.{length, take, drop, get_or, drop_of_length-le, length-take, length-drop, length-append, length-map}
 use lib.Seq.{drop-cons, take_at, drop_at}
 use borrow.Author.Rules.{rules}
-use borrow.Author.Tests.{ltb-true, ltb-false, le-leb, lt-leb, not-false, not-true}
+use borrow.Author.Tests.{le-leb, lt-leb}
 use Rattle.text.specs.Ascii.{Bytes, ascii}
 use Rattle.text.specs.Compare.{same}
 use Rattle.text.specs.Sames.{differ, same_refl}
@@ -31,24 +31,26 @@ use Rattle.design.specs.Limits.{most_calls}
 use Rattle.design.specs.Lookup.{module_at}
 use Rattle.design.specs.Search.{search_type, calls_made}
 use Rattle.lines.specs.Cursors.{spanned}
-use Rattle.lookup.specs.Rows.{modules, row_is, ModuleSeen, at_none, row_none, row_some}
+use Rattle.lookup.specs.Rows.{modules, row_is, ModuleSeen, at_none}
 use Rattle.corrupt.specs.RowMem.{row_mem}
 use Rattle.search.specs.declared.Found.{Found}
-use Rattle.search.specs.Found.{way_from, way, Searched}
+use Rattle.search.specs.declared.Way.{Way}
+use Rattle.search.specs.Found.{way_from, Made, Deeper}
 use Rattle.store.specs.Strings.{span_of, maybe_of}
 use Rattle.store.specs.declared.stored.Stored.{Stored}
 use Rattle.texts.specs.Scope.{Scope, at, along, existing, found_at, path_to, by_design_top, without_top, override_parts, scope_along, scope_of}
 use Rattle.scope.specs.Parts.{parts, no_parts}
+use Rattle.findscope.specs.declared.NoScope.{NoScope}
 use Rattle.findscope.specs.declared.ScopeAt.{ScopeAt}
-use Rattle.findscope.specs.Scopes.{path_text, scope_is, refused_by, topmost, Tells, Told, Taken, Whole}
+use Rattle.findscope.specs.Scopes.{path_text, number_of, topmost, Tells, Told, Taken, Whole}
 use Rattle.findscope.specs.Ways.{AllNames, search_named, joined_parts, joined_short}
 
 -- ---- the way, written name by name: what is left, written from here, is the answer w
-pub record Writes (job : Bytes) (f : Found) (sep : Bytes) (w t : Out) (i : ℕ) : Type 0 where
+pub record Writes (job : Bytes) (f : Way) (sep : Bytes) (w t : Out) (i : ℕ) : Type 0 where
   pub keeps : emit t (rest sep i (way_from job i f)) ≡ w
   pub many : length f.names ≡ 33
 
-module _ (job : Bytes) (f : Found) (sep : Bytes) where
+module _ (job : Bytes) (f : Way) (sep : Bytes) where
   pub writes_start : (t : Out) → length f.names ≡ 33 → Writes job f sep (emit t (joined sep (way_from job 0 f))) t 0
   unfolding rest
   writes_start t h = record { keeps = refl; many = h }
@@ -94,17 +96,17 @@ module _ (job : Bytes) (index : List ℕ) (head : Header) (ok : Taken job index 
   abbrev m : Module
   m = module_row job index head.topmodule
 
-  told : (s : Scope) (n : ℕ) (r : ScopeAt) → r ≡ refused_by n → ((way : Bytes) → scope_is job index head way (refused_by n) ≡ s) → Told job index head s r
-  told s n r e h way =
-      rw e record {
-        says = h way;
-        within = omega (arith, ok.indexed.top_row);
+  told : (s : Scope) (e : NoScope) → Scope.no_scope (number_of e) ≡ s → Told job index head s (Err e)
+  told s e h way =
+      record {
+        says = h;
+        within = tt;
         long = refl;
         kept = refl;
       }
 
   -- the top itself
-  top_told : (r : ScopeAt) → r ≡ topmost head.topmodule → Told job index head (scope_along d m (along [])) r
+  top_told : (r : ScopeAt) → r ≡ topmost head.topmodule → Told job index head (scope_along d m (along [])) (Ok r)
   top_told r e way =
       rw e record {
         says = rw (no_parts, at_none d m);
@@ -114,75 +116,79 @@ module _ (job : Bytes) (index : List ℕ) (head : Header) (ok : Taken job index 
       }
 
   -- ---- by the override: what is left of it leads to a row
-  module _ (over top : Bytes) (eo : over ≡ spanned job head.over) (et : top ≡ spanned job head.top) (from : ℕ) (here : parts over from ≡ without_top top (override_parts over)) (q : ℕ) (seen : ModuleSeen job index head.modules (module_at d m (parts over from)) q) where
+  module _ (over top : Bytes) (eo : over ≡ spanned job head.over) (et : top ≡ spanned job head.top) (from : ℕ) (here : parts over from ≡ without_top top (override_parts over)) where
     abbrev overridden : Scope
     overridden = scope_along d m (along (without_top (spanned job head.top) (override_parts (spanned job head.over))))
 
-    leads : overridden ≡ existing (parts over from) (row_is job index q)
-    leads = rw (← eo, ← et, ← here, seen.says)
+    abbrev AlongIs : Option ℕ → Type 0
+    AlongIs = ModuleSeen job index head.modules (module_at d m (parts over from))
 
-    pub override_none : (r : ScopeAt) → r ≡ refused_by 12 → q ≡ 0 → Told job index head overridden r
-    override_none r e h = told overridden 12 r e (λ way. sym (leads ∙ rw (h, row_none job index)))
+    leads : (q : Option ℕ) → AlongIs q → overridden ≡ existing (parts over from) (row_is job index q)
+    leads q seen = rw (← eo, ← et, ← here, seen.says)
 
-    pub override_some : (q ≡ 0 → ⊥) → Told job index head overridden (record { number = 0; row = q - 1; way = false; from = from; len = 0 })
-    override_some h way =
+    pub override_none : AlongIs None → Told job index head overridden (Err NoScope.NoModule)
+    override_none seen = told overridden NoScope.NoModule (sym (leads None seen))
+
+    pub override_some : (q : ℕ) → AlongIs (Some q) → Told job index head overridden (Ok (record { row = q; way = false; from = from; len = 0 }))
+    override_some q seen way =
         record {
-          says = ap (λ (t : Bytes). at (parts t from) (module_row job index (q - 1))) (sym eo) ∙ sym (leads ∙ rw (row_some job index q h));
-          within = omega (arith, seen.within);
+          says = ap (λ (t : Bytes). at (parts t from) (module_row job index q)) (sym eo) ∙ sym (leads (Some q) seen);
+          within = seen.within;
           long = refl;
           kept = refl;
         }
 
   -- ---- by a type
-  module _ (kind : Bytes) (f : Found) (s : Searched job 0 0 (search_type d m kind) f) where
+  module _ (kind : Bytes) where
     abbrev typed : Scope
     typed = scope_along d m (path_to d m kind)
 
-    pub type_over : (r : ScopeAt) → r ≡ refused_by 13 → f.over ≡ true → Told job index head typed r
-    type_over r e h =
-        let l : most_calls < 0 + calls_made d m kind = ltb-true most_calls (0 + calls_made d m kind) (sym s.over_is ∙ h) in
-        told typed 13 r e (λ way. rw (lt-leb (calls_made d m kind) most_calls (omega arith)))
+    pub type_over : most_calls < 0 + calls_made d m kind → Told job index head typed (Err NoScope.TooMany)
+    type_over l = told typed NoScope.TooMany (rw (lt-leb (calls_made d m kind) most_calls (omega arith)))
 
-    module _ (h : f.over ≡ false) where
-      path_is : path_to d m kind ≡ found_at (way job 0 f)
+    module _ (f : Found) (s : Made job 0 0 (search_type d m kind) f) where
+      path_is : path_to d m kind ≡ found_at (option_map (way_from job 0) f.way)
       path_is =
-          let l : 0 + calls_made d m kind ≤ most_calls = ltb-false most_calls (0 + calls_made d m kind) (sym s.over_is ∙ h) in
-          rw (le-leb (calls_made d m kind) most_calls (omega arith), s.way_is h)
+          let l : calls_made d m kind ≤ most_calls = omega (arith, s.calls_is, s.few) in
+          rw (le-leb (calls_made d m kind) most_calls l, s.way_is)
 
-      pub type_none : (r : ScopeAt) → r ≡ refused_by 11 → not f.found ≡ true → Told job index head typed r
-      type_none r e g = told typed 11 r e (λ way. rw (path_is, not-true f.found g))
+      pub type_none : f.way ≡ None → Told job index head typed (Err NoScope.NoInstance)
+      type_none g = told typed NoScope.NoInstance (rw (path_is, g))
 
-      module _ (u : not f.found ≡ false) (q : ℕ) (seen : ModuleSeen job index head.modules (module_at d m (way_from job 0 f)) q) where
-        g : f.found ≡ true
-        g = not-false f.found u
+      pub type_long : (v : Way) → f.way ≡ Some v → length v.names ≡ 33
+      type_long v g = let k : Deeper 0 (Some v) = rw g at s.goes in k.1
 
-        typed_is : typed ≡ existing (way_from job 0 f) (row_is job index q)
-        typed_is = rw (path_is, g, seen.says)
+      module _ (v : Way) (g : f.way ≡ Some v) where
+        abbrev FoundIs : Option ℕ → Type 0
+        FoundIs = ModuleSeen job index head.modules (module_at d m (way_from job 0 v))
 
-        pub type_lost : (r : ScopeAt) → r ≡ refused_by 12 → q ≡ 0 → Told job index head typed r
-        type_lost r e z = told typed 12 r e (λ way. sym (typed_is ∙ rw (z, row_none job index)))
+        typed_is : (q : Option ℕ) → FoundIs q → typed ≡ existing (way_from job 0 v) (row_is job index q)
+        typed_is q seen = rw (path_is, g, seen.says)
+
+        pub type_lost : FoundIs None → Told job index head typed (Err NoScope.NoModule)
+        type_lost seen = told typed NoScope.NoModule (sym (typed_is None seen))
 
         all_named : AllNamed d
         all_named = accepted_names job (job_of job index head) ok.is_accepted
 
-        names_are : AllNames (way_from job 0 f)
-        names_are = search_named d all_named kind 33 m (all_named m (row_mem (module_row job index) head.modules head.topmodule ok.indexed.top_row)) (way_from job 0 f) (sym (s.way_is h) ∙ rw g)
+        names_are : AllNames (way_from job 0 v)
+        names_are = search_named d all_named kind 33 m (all_named m (row_mem (module_row job index) head.modules head.topmodule ok.indexed.top_row)) (way_from job 0 v) (sym s.way_is ∙ rw g)
 
-        few_names : length (way_from job 0 f) ≤ 33
-        few_names = omega (arith, length-map (take (f.count - 0) (drop 0 f.names)) (spanned job), length-take (f.count - 0) (drop 0 f.names), s.long)
+        few_names : length (way_from job 0 v) ≤ 33
+        few_names = omega (arith, length-map (take (v.count - 0) (drop 0 v.names)) (spanned job), length-take (v.count - 0) (drop 0 v.names), type_long v g)
 
-        pub type_some : (q ≡ 0 → ⊥) → (w w' : Bytes) (n : ℕ) → 2144 ≤ length w → w' ▸ n ≡ emit (w ▸ 0) (joined (ascii ".") (way_from job 0 f))
-            → Tells job index head w w' typed (record { number = 0; row = q - 1; way = true; from = 0; len = n })
-        type_some z w w' n room e =
-            let t = joined (ascii ".") (way_from job 0 f) in
-            let l : length t ≤ length w = omega (arith, joined_short (way_from job 0 f) names_are few_names) in
+        pub type_some : (q : ℕ) → FoundIs (Some q) → (w w' : Bytes) (n : ℕ) → 2144 ≤ length w → w' ▸ n ≡ emit (w ▸ 0) (joined (ascii ".") (way_from job 0 v))
+            → Tells job index head w w' typed (Ok (record { row = q; way = true; from = 0; len = n }))
+        type_some q seen w w' n room e =
+            let t = joined (ascii ".") (way_from job 0 v) in
+            let l : length t ≤ length w = omega (arith, joined_short (way_from job 0 v) names_are few_names) in
             let o : w' ▸ n ≡ (t ++ drop (length t) w) ▸ length t = e ∙ emit_fits t w l in
             let en : n ≡ length t = ap (λ (x : Out). x.at) o in
             let ew : w' ≡ t ++ drop (length t) w = ap (λ (x : Out). x.bytes) o in
             let front : take n w' ≡ t = rw (ew) (take_at t (drop (length t) w) n (sym en)) in
             record {
-              says = rw front (ap (λ (ps : List Bytes). at ps (module_row job index (q - 1))) (joined_parts (way_from job 0 f) names_are) ∙ sym (typed_is ∙ rw (row_some job index q z)));
-              within = omega (arith, seen.within);
+              says = rw front (ap (λ (ps : List Bytes). at ps (module_row job index q)) (joined_parts (way_from job 0 v) names_are) ∙ sym (typed_is (Some q) seen));
+              within = seen.within;
               long = rw ew (omega (arith, length-append t (drop (length t) w), length-drop (length t) w));
               kept = rw ew (drop_at t (drop (length t) w) n (sym en) ∙ rw en);
             }
@@ -192,15 +198,15 @@ module _ (job : Bytes) (index : List ℕ) (head : Header) (ok : Taken job index 
     abbrev designed : Scope
     designed = scope_along d m (by_design_top d m (spanned job head.top) (Some kind))
 
-    pub design_top : (r : ScopeAt) → r ≡ topmost head.topmodule → b ≡ true → Told job index head designed r
+    pub design_top : (r : ScopeAt) → r ≡ topmost head.topmodule → b ≡ true → Told job index head designed (Ok r)
     design_top r e h way = let z : same kind (spanned job head.top) ≡ true = rw (← et) (sym eb ∙ h) in rw z (top_told r e way)
 
-    pub design_other : (w w' : Bytes) (r : ScopeAt) → b ≡ false → Tells job index head w w' (scope_along d m (path_to d m kind)) r → Tells job index head w w' designed r
+    pub design_other : (w w' : Bytes) (r : Result ScopeAt NoScope) → b ≡ false → Tells job index head w w' (scope_along d m (path_to d m kind)) r → Tells job index head w w' designed r
     design_other w w' r h t = let z : same kind (spanned job head.top) ≡ false = rw (← et) (sym eb ∙ h) in rw z t
 
   -- ---- the scope
   module _ (over : Bytes) (eo : over ≡ spanned job head.over) where
-    pub scope_override : (length over ≡ 0 → ⊥) → (t : Option Bytes) (r : ScopeAt) → Told job index head (scope_along d m (along (without_top (spanned job head.top) (override_parts (spanned job head.over))))) r
+    pub scope_override : (length over ≡ 0 → ⊥) → (t : Option Bytes) (r : Result ScopeAt NoScope) → Told job index head (scope_along d m (along (without_top (spanned job head.top) (override_parts (spanned job head.over))))) r
         → Told job index head (scope_of (job_of job index head) m t) r
     unfolding scope_of
     scope_override h t r k way = let z : same (spanned job head.over) [] ≡ false = rw (← eo) (sym (differ over [] h)) in rw z (k way)
@@ -214,7 +220,7 @@ module _ (job : Bytes) (index : List ℕ) (head : Header) (ok : Taken job index 
           go (b ∷ p) e = absurd (omega arith)
 
       module _ (mem : Bytes) (t : Option Stored) where
-        pub scope_top : t ≡ None → (r : ScopeAt) → r ≡ topmost head.topmodule → Told job index head (scope_of (job_of job index head) m (maybe_of mem t)) r
+        pub scope_top : t ≡ None → (r : ScopeAt) → r ≡ topmost head.topmodule → Told job index head (scope_of (job_of job index head) m (maybe_of mem t)) (Ok r)
         unfolding scope_of
         scope_top g r e way = rw (no_override, g) (top_told r e way)
 
@@ -222,7 +228,7 @@ module _ (job : Bytes) (index : List ℕ) (head : Header) (ok : Taken job index 
         value_is : p ≡ bytes (files ++ area) (span_of s)
         value_is = let k : Held (length files) (span_of s) = rw g at whole in rw ev at (ep (rw ev k))
 
-        pub scope_type : (w w' : Bytes) (r : ScopeAt) → Tells job index head w w' (scope_along d m (by_design_top d m (spanned job head.top) (Some p))) r
+        pub scope_type : (w w' : Bytes) (r : Result ScopeAt NoScope) → Tells job index head w w' (scope_along d m (by_design_top d m (spanned job head.top) (Some p))) r
             → Tells job index head w w' (scope_of (job_of job index head) m (maybe_of (files ++ area) t)) r
         unfolding scope_of
         scope_type w w' r k = rw (no_override, g, ← value_is) k
@@ -231,6 +237,6 @@ pub ruleset scoping = (rules, scope_override, scope_top, scope_type)
 
 pub ruleset overriding = (rules, override_none, override_some)
 
-pub ruleset typing = (rules, type_over, type_none, type_lost, type_some)
+pub ruleset typing = (rules, type_over, type_none, type_long, type_lost, type_some)
 
 pub ruleset designing = (rules, design_top, design_other)

@@ -4,3 +4,4 @@
 pub mod arg;
 pub mod fill;
 pub mod path;
+pub mod source;

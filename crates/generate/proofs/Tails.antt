@@ -39,7 +39,7 @@ use Rattle.reportlines.specs.Lines.{shifters_seen, warnings_seen, warnings_count
 use Rattle.tablelines.specs.Tables.{OfTables}
 use Rattle.tablelines.specs.Seen.{orders_tables, tables_seen}
 use Rattle.domainwarnings.specs.Missing as domains
-use Rattle.domainwarnings.specs.declared.Warned.{Warned}
+use Rattle.generate.specs.declared.tail.Warned.{Warned}
 use Rattle.keep.specs.declared.Cover.{Cover}
 use Rattle.isolation.specs.Asked.{Isolated}
 use Rattle.generate.specs.Generates.{Asks}
@@ -73,6 +73,13 @@ sum_low n b c o o' ws t h g = omega (arith, t.few)
 
 pub part_low : (n b : ℕ) (o o' : Out) (ws : List Bytes) → switches.Told (2 ^ 54) o n ws o' b → n ≤ 2 ^ 58 → b ≤ 2 ^ 60
 part_low n b o o' ws t h = omega (arith, t.few)
+
+-- what is told, where the places are spelled otherwise
+pub switches_by : (most : ℕ) (o o' q q' : Out) (n n' : ℕ) (ws : List Bytes) → switches.Told most o n ws o' n' → q ≡ o → q' ≡ o' → switches.Told most q n ws q' n'
+switches_by most o o' q q' n n' ws h e f = rw (e, f) h
+
+pub domains_by : (most : ℕ) (o o' q q' : Out) (n n' : ℕ) (ws : List Bytes) → domains.Told most o n ws o' n' → q ≡ o → q' ≡ o' → domains.Told most q n ws q' n'
+domains_by most o o' q q' n n' ws h e f = rw (e, f) h
 
 -- ---- what is told
 module _ (job : Bytes) (nums : List ℕ) (count k : ℕ) (files area path : Bytes) (from : ℕ) (top : Bytes) (s : State) (g : Asks job nums count k files area path s) where

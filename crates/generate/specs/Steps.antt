@@ -21,7 +21,7 @@ use Rattle.keep.specs.declared.Cover.{Cover}
 use Rattle.isolation.specs.Asked.{Isolated}
 use Rattle.domains.specs.Told.{shown_ports}
 use Rattle.domainlists.specs.Lists.{all_entries}
-use Rattle.domainwarnings.specs.declared.Warned.{Warned}
+use Rattle.generate.specs.declared.tail.Warned.{Warned}
 use Rattle.answers.specs.Stage.{limited, Staged}
 use Rattle.answers.specs.declared.Texts.{Texts}
 

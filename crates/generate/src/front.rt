@@ -5,117 +5,73 @@ ghost use Rattle.out.specs.Text.{shown, SameRoom};
 ghost use Rattle.setting.specs.Orders.{Orders};
 ghost use Rattle.alike.specs.Ruled.{Ruled};
 ghost use Rattle.generate.specs.Steps.{HasNets, ReportFronts, GlueFronts};
+ghost use Rattle.spans.specs.Memory.{memory};
 
+use format::source::Source;
 use out::emit::Text;
 use processes::processes;
 use reportlines::scope_line;
 use store::state::State;
 use supplies::write::net_blocks;
 use switches::write::{switch_lines, switches_glue};
-use text::part::place;
+use text::part::{Rows, place};
 
-// The lines of the scope and of the switches. Module k is the scope's, `nets` has n supply nets.
-fn put_report<'a>(
-    to: &mut Text,
-    job: &[u8],
-    nums: &[u32],
-    k: usize,
-    files: &'a [u8],
-    area: &'a [u8],
-    path: &[u8],
-    from: usize,
-    top: &[u8],
-    s: State,
-    nets: &[u32],
-    n: usize,
-)
-    requires { (k ≤ 128) × (Orders files.now area.now nums.now s × HasNets files.now area.now nums.now s nets.now n) }
+// The lines of the scope and of the switches. Module k is the scope's, `nets` are the supply nets.
+fn put_report<'a>(to: &mut Text, src: &Source<'a>, k: usize, s: State, nets: &Rows)
+    requires { (k ≤ 128) × (Orders src.now.mem.files.now src.now.mem.area.now src.now.design.index.rows.now s × HasNets src.now.mem.files.now src.now.mem.area.now src.now.design.index.rows.now s nets.now.rows.now nets.now.n) }
     ensures same_room { SameRoom to.old to.new }
-    ensures front { ReportFronts job.now nums.now k files.now area.now path.now from top.now s (shown to.old) (shown to.new) }
+    ensures front { ReportFronts src.now.design.index.job.now src.now.design.index.rows.now k src.now.mem.files.now src.now.mem.area.now src.now.scope.over.now src.now.scope.from src.now.top.now s (shown to.old) (shown to.new) }
 {
     let row = 128 + 8 * k;
-    let name = place(nums, row);
-    let len = place(nums, row + 1);
+    let name = place(src.design.index.rows, row);
+    let len = place(src.design.index.rows, row + 1);
     let switches = s.switches;
-    scope_line(to, job, files, area, path, from, top, name, len, nets, n);
-    switch_lines(to, job, files, area, path, from, top, switches)
+    scope_line(to, src, name, len, nets);
+    switch_lines(to, src, switches)
 }
 
 // The same from the start of a buffer on.
 pub fn report_front<'a>(
     report: &mut [u8],
-    job: &[u8],
-    nums: &[u32],
+    src: &Source<'a>,
     k: usize,
-    files: &'a [u8],
-    area: &'a [u8],
-    path: &[u8],
-    from: usize,
-    top: &[u8],
     s: State,
-    nets: &[u32],
-    n: usize,
+    nets: &Rows,
 ) -> usize
-    requires { (k ≤ 128) × (Orders files.now area.now nums.now s × HasNets files.now area.now nums.now s nets.now n) }
-    ensures { ReportFronts job.now nums.now k files.now area.now path.now from top.now s (report.old ▸ 0) (report.new ▸ result) }
+    requires { (k ≤ 128) × (Orders src.now.mem.files.now src.now.mem.area.now src.now.design.index.rows.now s × HasNets src.now.mem.files.now src.now.mem.area.now src.now.design.index.rows.now s nets.now.rows.now nets.now.n) }
+    ensures { ReportFronts src.now.design.index.job.now src.now.design.index.rows.now k src.now.mem.files.now src.now.mem.area.now src.now.scope.over.now src.now.scope.from src.now.top.now s (report.old ▸ 0) (report.new ▸ result) }
 {
     let mut to = Text::over(report, 0);
-    put_report(
-        &mut to, job, nums, k, files, area, path, from, top, s, nets, n,
-    );
+    put_report(&mut to, src, k, s, nets);
     to.end()
 }
 
-// The first line of the glue, the nets, the switches, the processes. `ports` has m isolated ports.
-fn put_glue<'a>(
-    to: &mut Text,
-    job: &[u8],
-    nums: &[u32],
-    files: &'a [u8],
-    area: &'a [u8],
-    path: &[u8],
-    from: usize,
-    top: &[u8],
-    s: State,
-    nets: &[u32],
-    n: usize,
-    ports: &[u32],
-    m: usize,
-)
-    requires { Orders files.now area.now nums.now s × (HasNets files.now area.now nums.now s nets.now n × Ruled (files.now ++ area.now) s.isolations ports.now m) }
+// The first line of the glue, the nets, the switches, the processes. `ports` are the isolated ports.
+fn put_glue<'a>(to: &mut Text, src: &Source<'a>, s: State, nets: &Rows, ports: &Rows)
+    requires { Orders src.now.mem.files.now src.now.mem.area.now src.now.design.index.rows.now s × (HasNets src.now.mem.files.now src.now.mem.area.now src.now.design.index.rows.now s nets.now.rows.now nets.now.n × Ruled (memory src.now.mem) s.isolations ports.now.rows.now ports.now.n) }
     ensures same_room { SameRoom to.old to.new }
-    ensures front { GlueFronts job.now nums.now files.now area.now path.now from top.now s ports.now m (shown to.old) (shown to.new) }
+    ensures front { GlueFronts src.now.design.index.job.now src.now.design.index.rows.now src.now.mem.files.now src.now.mem.area.now src.now.scope.over.now src.now.scope.from src.now.top.now s ports.now.rows.now ports.now.n (shown to.old) (shown to.new) }
 {
     let switches = s.switches;
     let isolations = s.isolations;
     to.put(b"  // ---- IEEE 1801 power intent (generated by xezim from UPF) ----\n");
-    net_blocks(to, job, files, area, path, from, top, nets, n);
-    switches_glue(to, job, files, area, nums, path, from, top, switches);
-    processes(to, job, files, area, path, from, top, isolations, ports, m)
+    net_blocks(to, src, nets);
+    switches_glue(to, src, switches);
+    processes(to, src, isolations, ports)
 }
 
 // The same from the start of a buffer on.
 pub fn glue_front<'a>(
     glue: &mut [u8],
-    job: &[u8],
-    nums: &[u32],
-    files: &'a [u8],
-    area: &'a [u8],
-    path: &[u8],
-    from: usize,
-    top: &[u8],
+    src: &Source<'a>,
     s: State,
-    nets: &[u32],
-    n: usize,
-    ports: &[u32],
-    m: usize,
+    nets: &Rows,
+    ports: &Rows,
 ) -> usize
-    requires { Orders files.now area.now nums.now s × (HasNets files.now area.now nums.now s nets.now n × Ruled (files.now ++ area.now) s.isolations ports.now m) }
-    ensures { GlueFronts job.now nums.now files.now area.now path.now from top.now s ports.now m (glue.old ▸ 0) (glue.new ▸ result) }
+    requires { Orders src.now.mem.files.now src.now.mem.area.now src.now.design.index.rows.now s × (HasNets src.now.mem.files.now src.now.mem.area.now src.now.design.index.rows.now s nets.now.rows.now nets.now.n × Ruled (memory src.now.mem) s.isolations ports.now.rows.now ports.now.n) }
+    ensures { GlueFronts src.now.design.index.job.now src.now.design.index.rows.now src.now.mem.files.now src.now.mem.area.now src.now.scope.over.now src.now.scope.from src.now.top.now s ports.now.rows.now ports.now.n (glue.old ▸ 0) (glue.new ▸ result) }
 {
     let mut to = Text::over(glue, 0);
-    put_glue(
-        &mut to, job, nums, files, area, path, from, top, s, nets, n, ports, m,
-    );
+    put_glue(&mut to, src, s, nets, ports);
     to.end()
 }

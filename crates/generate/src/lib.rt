@@ -14,6 +14,7 @@ ghost use Rattle.generate.specs.Steps.{HasNets, Bodied};
 
 use answers::{Texts, stopped};
 use domains::Told;
+use format::source::Source;
 use front::{glue_front, report_front};
 use isolate::isolate;
 use rooms::walked;
@@ -21,53 +22,56 @@ use store::state::State;
 use supplies::nets::supply_nets;
 use supplies::write::package_text;
 use tail::tail;
+use text::part::Rows;
 
-// The texts from the isolation on: the report goes on at `at`, the package ends at `end`. `nets` has n supply nets, `ports` is for the isolated ports.
+// The texts from the isolation on: the report goes on at `at`, the package ends at `end`. `nets` are the supply nets, `ports` is for the isolated ports.
 fn bodies_by<'a>(
-    job: &[u8],
-    nums: &[u32],
-    count: usize,
+    src: &Source<'a>,
     k: usize,
-    files: &'a [u8],
-    area: &'a [u8],
-    path: &[u8],
-    from: usize,
-    top: &[u8],
     s: State,
-    nets: &[u32],
-    n: usize,
+    nets: &Rows,
     ports: &mut [u32],
     glue: &mut [u8],
     end: usize,
     report: &mut [u8],
     at: usize,
 ) -> Texts
-    requires { Asks job.now nums.now count k files.now area.now path.now s × (HasNets files.now area.now nums.now s nets.now n × (5120 ≤ length ports.old)) }
-    ensures { Bodied job.now nums.now count k files.now area.now path.now from top.now s glue.old glue.new end (report.old ▸ at) report.new result }
+    requires { Asks src.now.design.index.job.now src.now.design.index.rows.now src.now.design.count k src.now.mem.files.now src.now.mem.area.now src.now.scope.over.now s × (HasNets src.now.mem.files.now src.now.mem.area.now src.now.design.index.rows.now s nets.now.rows.now nets.now.n × (5120 ≤ length ports.old)) }
+    ensures { Bodied src.now.design.index.job.now src.now.design.index.rows.now src.now.design.count k src.now.mem.files.now src.now.mem.area.now src.now.scope.over.now src.now.scope.from src.now.top.now s glue.old glue.new end (report.old ▸ at) report.new result }
 {
-    let c = isolate(
-        report, at, false, job, nums, count, k, files, area, s, ports,
-    );
+    let c = isolate(report, at, false, &src.design, k, &src.mem, s, ports);
     if c.over {
         return stopped(13);
     }
     let g = glue_front(
-        glue, job, nums, files, area, path, from, top, s, nets, n, ports, c.ports,
+        glue,
+        src,
+        s,
+        nets,
+        &Rows {
+            rows: ports,
+            n: c.ports,
+        },
     );
     let o = Told {
-        over: false,
         glue: g,
         report: c.at,
     };
-    let u = walked(
-        job, nums, count, k, files, area, path, from, top, s, ports, c.ports, glue, report, o,
-    );
-    if u.over {
+    let Ok(u) = walked(
+        src,
+        k,
+        s,
+        &Rows {
+            rows: ports,
+            n: c.ports,
+        },
+        glue,
+        report,
+        o,
+    ) else {
         return stopped(13);
-    }
-    let x = tail(
-        report, u.report, job, nums, count, k, files, area, path, from, top, s, c.warnings,
-    );
+    };
+    let x = tail(report, u.report, src, k, s, c.warnings);
     if 512 < x.count {
         return stopped(13);
     }
@@ -81,84 +85,53 @@ fn bodies_by<'a>(
 
 // The same with a table of its own.
 fn bodies<'a>(
-    job: &[u8],
-    nums: &[u32],
-    count: usize,
+    src: &Source<'a>,
     k: usize,
-    files: &'a [u8],
-    area: &'a [u8],
-    path: &[u8],
-    from: usize,
-    top: &[u8],
     s: State,
-    nets: &[u32],
-    n: usize,
+    nets: &Rows,
     glue: &mut [u8],
     end: usize,
     report: &mut [u8],
     at: usize,
 ) -> Texts
-    requires { Asks job.now nums.now count k files.now area.now path.now s × HasNets files.now area.now nums.now s nets.now n }
-    ensures { Bodied job.now nums.now count k files.now area.now path.now from top.now s glue.old glue.new end (report.old ▸ at) report.new result }
+    requires { Asks src.now.design.index.job.now src.now.design.index.rows.now src.now.design.count k src.now.mem.files.now src.now.mem.area.now src.now.scope.over.now s × HasNets src.now.mem.files.now src.now.mem.area.now src.now.design.index.rows.now s nets.now.rows.now nets.now.n }
+    ensures { Bodied src.now.design.index.job.now src.now.design.index.rows.now src.now.design.count k src.now.mem.files.now src.now.mem.area.now src.now.scope.over.now src.now.scope.from src.now.top.now s glue.old glue.new end (report.old ▸ at) report.new result }
 {
     let mut ports: [u32; 5120] = [0; 5120];
-    bodies_by(
-        job, nums, count, k, files, area, path, from, top, s, nets, n, &mut ports, glue, end,
-        report, at,
-    )
+    bodies_by(src, k, s, nets, &mut ports, glue, end, report, at)
 }
 
 // The texts by a table for the supply nets.
 fn generate_by<'a>(
-    job: &[u8],
-    nums: &[u32],
-    count: usize,
+    src: &Source<'a>,
     k: usize,
-    files: &'a [u8],
-    area: &'a [u8],
-    path: &[u8],
-    from: usize,
-    top: &[u8],
     s: State,
     nets: &mut [u32],
     glue: &mut [u8],
     pkg: &mut [u8],
     report: &mut [u8],
 ) -> Texts
-    requires { Asks job.now nums.now count k files.now area.now path.now s × (640 ≤ length nets.old) }
-    ensures { Generated job.now nums.now count k files.now area.now path.now from top.now s glue.old glue.new pkg.old pkg.new report.old report.new result }
+    requires { Asks src.now.design.index.job.now src.now.design.index.rows.now src.now.design.count k src.now.mem.files.now src.now.mem.area.now src.now.scope.over.now s × (640 ≤ length nets.old) }
+    ensures { Generated src.now.design.index.job.now src.now.design.index.rows.now src.now.design.count k src.now.mem.files.now src.now.mem.area.now src.now.scope.over.now src.now.scope.from src.now.top.now s glue.old glue.new pkg.old pkg.new report.old report.new result }
 {
-    let n = supply_nets(files, area, nums, s, nets);
-    let end = package_text(pkg, job, files, area, path, from, top, nets, n);
-    let at = report_front(
-        report, job, nums, k, files, area, path, from, top, s, nets, n,
-    );
-    bodies(
-        job, nums, count, k, files, area, path, from, top, s, nets, n, glue, end, report, at,
-    )
+    let n = supply_nets(&src.mem, src.design.index.rows, s, nets);
+    let end = package_text(pkg, src, &Rows { rows: nets, n });
+    let at = report_front(report, src, k, s, &Rows { rows: nets, n });
+    bodies(src, k, s, &Rows { rows: nets, n }, glue, end, report, at)
 }
 
 // The texts of the records s in a scope: module k of `count`, the parts of `path` from `from` on; `top` is the top's name. Or 13 where a limit is passed.
 pub fn generate<'a>(
-    job: &[u8],
-    nums: &[u32],
-    count: usize,
+    src: &Source<'a>,
     k: usize,
-    files: &'a [u8],
-    area: &'a [u8],
-    path: &[u8],
-    from: usize,
-    top: &[u8],
     s: State,
     glue: &mut [u8],
     pkg: &mut [u8],
     report: &mut [u8],
 ) -> Texts
-    requires { Asks job.now nums.now count k files.now area.now path.now s }
-    ensures { Generated job.now nums.now count k files.now area.now path.now from top.now s glue.old glue.new pkg.old pkg.new report.old report.new result }
+    requires { Asks src.now.design.index.job.now src.now.design.index.rows.now src.now.design.count k src.now.mem.files.now src.now.mem.area.now src.now.scope.over.now s }
+    ensures { Generated src.now.design.index.job.now src.now.design.index.rows.now src.now.design.count k src.now.mem.files.now src.now.mem.area.now src.now.scope.over.now src.now.scope.from src.now.top.now s glue.old glue.new pkg.old pkg.new report.old report.new result }
 {
     let mut nets: [u32; 640] = [0; 640];
-    generate_by(
-        job, nums, count, k, files, area, path, from, top, s, &mut nets, glue, pkg, report,
-    )
+    generate_by(src, k, s, &mut nets, glue, pkg, report)
 }

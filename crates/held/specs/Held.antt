@@ -14,6 +14,7 @@ use Rattle.store.specs.Rows.{store_of}
 use Rattle.store.specs.declared.state.State.{State}
 use Rattle.made.specs.Made.{reach_of}
 use Rattle.scopes.specs.declared.go.Out.{Out}
+use Rattle.scopes.specs.Stops.{tag_of}
 
 -- ---- what the state stands for
 
@@ -37,7 +38,7 @@ log_of (refused x k) = []
 -- what an answer stands for: the records and what was counted, or the refusal with the command that is being carried out
 abbrev pub reading_of : Bytes → Bytes → List ℕ → Bytes → Out → Reading
 reading_of files area nums log r =
-    cond (eqb r.tag 0) (done (counted_of r.state) (model_at files area nums r.state log)) (refused r.tag r.state.count.commands)
+    cond (eqb (tag_of r.stop) 0) (done (counted_of r.state) (model_at files area nums r.state log)) (refused (tag_of r.stop) r.state.count.commands)
 
 -- the log's buffer was log₀, and text has been written to it
 abbrev pub Logged : Bytes → Bytes → ℕ → Bytes → Type 0
@@ -79,11 +80,11 @@ pub record Lent (o : ℕ) (area₀ area nums₀ nums : List ℕ) : Type 0 where
 -- an answer stands for the reading d, and what d has in its log was written to the buffer, which was log₀ at the start
 pub record Comes (files area nums log₀ log : List ℕ) (r : Out) (d : Reading) : Type 0 where
   pub result : reading_of files area nums (log_of d) r ≡ d
-  pub logged : r.tag ≡ 0 → Logged log₀ log r.state.fill.log (log_of d)
+  pub logged : tag_of r.stop ≡ 0 → Logged log₀ log r.state.fill.log (log_of d)
 
 -- what is carried out from the state s on, when the log's buffer was log₁: by what stood in the log it comes to the reading D
 pub record Ran (files area₀ area nums₀ nums log₁ log : List ℕ) (s : State) (r : Out) (D : Bytes → Reading) : Type 0 where
-  pub held : r.tag ≡ 0 → Held files area nums 0 r.state
-  pub more : r.tag ≡ 0 → s.fill.end ≤ r.state.fill.end
+  pub held : tag_of r.stop ≡ 0 → Held files area nums 0 r.state
+  pub more : tag_of r.stop ≡ 0 → s.fill.end ≤ r.state.fill.end
   pub lent : Lent s.fill.end area₀ area nums₀ nums
   pub reads : (log₀ text : Bytes) → Logged log₀ log₁ s.fill.log text → Comes files area nums log₀ log r (D text)

@@ -16,27 +16,29 @@ ghost use Rattle.strategies.specs.Gains.{covered_gain, domain_gain};
 ghost use Rattle.listnames.specs.Lists.{Rooms};
 ghost use Rattle.domainlists.specs.Lists.{OfDomain};
 ghost use Rattle.indomain.specs.Asked.{OfOwn, OfStrategy};
+ghost use Rattle.spans.specs.Memory.{memory};
+ghost use Rattle.lookup.specs.Design.{modules_in};
+ghost use Rattle.jobindex.specs.Modules.{module_in};
 
 use clamps::{is_outputs, stored};
 use domainlists::{domain_elements, put_below};
+use jobindex::Design;
 use keep::Cover;
 use lists::has_entries;
 use names::name::Name;
 use remarks::not_outputs;
+use spans::span::{Memory, Span};
 use store::state::{Domain, Isolation};
-use store::stored::span;
 use strategies::{given, in_elements};
+use text::part::Rows;
 
 // The ports that a strategy's own elements are, which go through a table.
 fn own_by<'a>(
     out: &mut [u8],
     warn: bool,
-    job: &[u8],
-    index: &[u32],
-    count: usize,
+    design: &Design,
     k: usize,
-    files: &'a [u8],
-    area: &'a [u8],
+    mem: &Memory<'a>,
     ports: &mut [u32],
     c: Cover,
     number: usize,
@@ -44,14 +46,25 @@ fn own_by<'a>(
     signal: Name,
     table: &mut [u32],
 ) -> Cover
-    requires { Ready c ports.old × (Asks job.now files.now area.now count k number × Rooms files.now area.now (span_of x.scope) (span_of x.elements) table.old 0) }
-    ensures { Answer job.now (files.now ++ area.now) warn c out.old (covered_gain number (isolation_of (files.now ++ area.now) x) (name_of (files.now ++ area.now) signal) (flat_map (aims_for false (modules job.now index.now count) (module_row job.now index.now k)) (isolation_of (files.now ++ area.now) x).elements) (kept_in job.now (files.now ++ area.now) ports.old c.ports)) result out.new ports.new }
+    requires { Ready c ports.old × (Asks design.now.index.job.now mem.now.files.now mem.now.area.now design.now.count k number × Rooms mem.now.files.now mem.now.area.now (span_of x.scope) (span_of x.elements) table.old 0) }
+    ensures { Answer design.now.index.job.now (memory mem.now) warn c out.old (covered_gain number (isolation_of (memory mem.now) x) (name_of (memory mem.now) signal) (flat_map (aims_for false (modules_in design.now) (module_in design.now.index k)) (isolation_of (memory mem.now) x).elements) (kept_in design.now.index.job.now (memory mem.now) ports.old c.ports)) result out.new ports.new }
 {
     let scope = x.scope;
     let elements = x.elements;
-    let n = put_below(files, area, scope, elements, table, 0);
+    let n = put_below(mem, scope, elements, table, 0);
     in_elements(
-        out, warn, job, index, count, k, files, area, ports, c, number, x, signal, false, table, n,
+        out,
+        warn,
+        design,
+        k,
+        mem,
+        ports,
+        c,
+        number,
+        x,
+        signal,
+        false,
+        &Rows { rows: table, n },
     )
 }
 
@@ -59,24 +72,21 @@ fn own_by<'a>(
 fn own_elements<'a>(
     out: &mut [u8],
     warn: bool,
-    job: &[u8],
-    index: &[u32],
-    count: usize,
+    design: &Design,
     k: usize,
-    files: &'a [u8],
-    area: &'a [u8],
+    mem: &Memory<'a>,
     ports: &mut [u32],
     c: Cover,
     number: usize,
     x: Isolation,
     signal: Name,
 ) -> Cover
-    requires { Ready c ports.old × (Asks job.now files.now area.now count k number × OfOwn files.now area.now x) }
-    ensures { Answer job.now (files.now ++ area.now) warn c out.old (covered_gain number (isolation_of (files.now ++ area.now) x) (name_of (files.now ++ area.now) signal) (flat_map (aims_for false (modules job.now index.now count) (module_row job.now index.now k)) (isolation_of (files.now ++ area.now) x).elements) (kept_in job.now (files.now ++ area.now) ports.old c.ports)) result out.new ports.new }
+    requires { Ready c ports.old × (Asks design.now.index.job.now mem.now.files.now mem.now.area.now design.now.count k number × OfOwn mem.now.files.now mem.now.area.now x) }
+    ensures { Answer design.now.index.job.now (memory mem.now) warn c out.old (covered_gain number (isolation_of (memory mem.now) x) (name_of (memory mem.now) signal) (flat_map (aims_for false (modules_in design.now) (module_in design.now.index k)) (isolation_of (memory mem.now) x).elements) (kept_in design.now.index.job.now (memory mem.now) ports.old c.ports)) result out.new ports.new }
 {
     let mut table: [u32; 325] = [0; 325];
     own_by(
-        out, warn, job, index, count, k, files, area, ports, c, number, x, signal, &mut table,
+        out, warn, design, k, mem, ports, c, number, x, signal, &mut table,
     )
 }
 
@@ -84,12 +94,9 @@ fn own_elements<'a>(
 fn outputs_by<'a>(
     out: &mut [u8],
     warn: bool,
-    job: &[u8],
-    index: &[u32],
-    count: usize,
+    design: &Design,
     k: usize,
-    files: &'a [u8],
-    area: &'a [u8],
+    mem: &Memory<'a>,
     ports: &mut [u32],
     c: Cover,
     number: usize,
@@ -98,12 +105,23 @@ fn outputs_by<'a>(
     d: Domain,
     table: &mut [u32],
 ) -> Cover
-    requires { Ready c ports.old × (Asks job.now files.now area.now count k number × OfDomain files.now area.now d table.old) }
-    ensures { Answer job.now (files.now ++ area.now) warn c out.old (covered_gain number (isolation_of (files.now ++ area.now) x) (name_of (files.now ++ area.now) signal) (flat_map (aims_for true (modules job.now index.now count) (module_row job.now index.now k)) (domain_of (files.now ++ area.now) d).elements) (kept_in job.now (files.now ++ area.now) ports.old c.ports)) result out.new ports.new }
+    requires { Ready c ports.old × (Asks design.now.index.job.now mem.now.files.now mem.now.area.now design.now.count k number × OfDomain mem.now.files.now mem.now.area.now d table.old) }
+    ensures { Answer design.now.index.job.now (memory mem.now) warn c out.old (covered_gain number (isolation_of (memory mem.now) x) (name_of (memory mem.now) signal) (flat_map (aims_for true (modules_in design.now) (module_in design.now.index k)) (domain_of (memory mem.now) d).elements) (kept_in design.now.index.job.now (memory mem.now) ports.old c.ports)) result out.new ports.new }
 {
-    let n = domain_elements(files, area, d, table);
+    let n = domain_elements(mem, d, table);
     in_elements(
-        out, warn, job, index, count, k, files, area, ports, c, number, x, signal, true, table, n,
+        out,
+        warn,
+        design,
+        k,
+        mem,
+        ports,
+        c,
+        number,
+        x,
+        signal,
+        true,
+        &Rows { rows: table, n },
     )
 }
 
@@ -111,12 +129,9 @@ fn outputs_by<'a>(
 fn domain_outputs<'a>(
     out: &mut [u8],
     warn: bool,
-    job: &[u8],
-    index: &[u32],
-    count: usize,
+    design: &Design,
     k: usize,
-    files: &'a [u8],
-    area: &'a [u8],
+    mem: &Memory<'a>,
     ports: &mut [u32],
     c: Cover,
     number: usize,
@@ -124,12 +139,12 @@ fn domain_outputs<'a>(
     signal: Name,
     d: Domain,
 ) -> Cover
-    requires { Ready c ports.old × (Asks job.now files.now area.now count k number × OfStrategy files.now area.now x d) }
-    ensures { Answer job.now (files.now ++ area.now) warn c out.old (covered_gain number (isolation_of (files.now ++ area.now) x) (name_of (files.now ++ area.now) signal) (flat_map (aims_for true (modules job.now index.now count) (module_row job.now index.now k)) (domain_of (files.now ++ area.now) d).elements) (kept_in job.now (files.now ++ area.now) ports.old c.ports)) result out.new ports.new }
+    requires { Ready c ports.old × (Asks design.now.index.job.now mem.now.files.now mem.now.area.now design.now.count k number × OfStrategy mem.now.files.now mem.now.area.now x d) }
+    ensures { Answer design.now.index.job.now (memory mem.now) warn c out.old (covered_gain number (isolation_of (memory mem.now) x) (name_of (memory mem.now) signal) (flat_map (aims_for true (modules_in design.now) (module_in design.now.index k)) (domain_of (memory mem.now) d).elements) (kept_in design.now.index.job.now (memory mem.now) ports.old c.ports)) result out.new ports.new }
 {
     let mut table: [u32; 325] = [0; 325];
     outputs_by(
-        out, warn, job, index, count, k, files, area, ports, c, number, x, signal, d, &mut table,
+        out, warn, design, k, mem, ports, c, number, x, signal, d, &mut table,
     )
 }
 
@@ -137,12 +152,9 @@ fn domain_outputs<'a>(
 pub fn in_domain<'a>(
     out: &mut [u8],
     warn: bool,
-    job: &[u8],
-    index: &[u32],
-    count: usize,
+    design: &Design,
     k: usize,
-    files: &'a [u8],
-    area: &'a [u8],
+    mem: &Memory<'a>,
     ports: &mut [u32],
     c: Cover,
     number: usize,
@@ -150,23 +162,19 @@ pub fn in_domain<'a>(
     signal: Name,
     d: Domain,
 ) -> Cover
-    requires { Ready c ports.old × (Asks job.now files.now area.now count k number × OfStrategy files.now area.now x d) }
-    ensures { Answer job.now (files.now ++ area.now) warn c out.old (domain_gain (modules job.now index.now count) (module_row job.now index.now k) number (isolation_of (files.now ++ area.now) x) (name_of (files.now ++ area.now) signal) (domain_of (files.now ++ area.now) d) (isolation_of (files.now ++ area.now) x).elements (kept_in job.now (files.now ++ area.now) ports.old c.ports)) result out.new ports.new }
+    requires { Ready c ports.old × (Asks design.now.index.job.now mem.now.files.now mem.now.area.now design.now.count k number × OfStrategy mem.now.files.now mem.now.area.now x d) }
+    ensures { Answer design.now.index.job.now (memory mem.now) warn c out.old (domain_gain (modules_in design.now) (module_in design.now.index k) number (isolation_of (memory mem.now) x) (name_of (memory mem.now) signal) (domain_of (memory mem.now) d) (isolation_of (memory mem.now) x).elements (kept_in design.now.index.job.now (memory mem.now) ports.old c.ports)) result out.new ports.new }
 {
     let elements = x.elements;
-    if has_entries(files, area, span(elements)) {
-        return own_elements(
-            out, warn, job, index, count, k, files, area, ports, c, number, x, signal,
-        );
+    if has_entries(mem, Span::from(elements)) {
+        return own_elements(out, warn, design, k, mem, ports, c, number, x, signal);
     }
     let applies = x.applies;
-    if is_outputs(files, area, applies) {
-        return domain_outputs(
-            out, warn, job, index, count, k, files, area, ports, c, number, x, signal, d,
-        );
+    if is_outputs(mem, applies) {
+        return domain_outputs(out, warn, design, k, mem, ports, c, number, x, signal, d);
     }
     let own = x.name;
     let name = stored(own);
     let written = given(applies);
-    not_outputs(out, warn, job, files, area, c, name, written)
+    not_outputs(out, warn, design.index.job, mem, c, name, written)
 }

@@ -6,7 +6,6 @@ use Rattle.std.specs.Prelude.{ℕ, ◌+◌, ◌*◌, ◌≤◌, ◌<◌, ◌≡�
 use Rattle.std.proofs.Common.{arith, sym, ◌∙◌, length-append, get_or-take, eqb-true}
 use Rattle.std.proofs.Math.Path.{ap}
 use Rattle.text.specs.Ascii.{Bytes}
-use Rattle.text.specs.Sames.{no_true}
 use Rattle.spans.specs.Reach.{held_by}
 use Rattle.joblines.specs.Job.{Job}
 use Rattle.joblines.specs.Parse.{accepted, refused, parse}
@@ -32,10 +31,12 @@ use Rattle.job.specs.declared.Refused.{Refused}
 use Rattle.reader.proofs.AcceptedStarts.{accepted_starts}
 use Rattle.reader.specs.Whole.{reading_at, Starts, WasRead}
 use Rattle.scopes.specs.declared.go.Out.{Out}
+use Rattle.scopes.specs.Stops.{tag_of}
 use Rattle.findscope.specs.Scopes.{Whole}
 use Rattle.setting.specs.Orders.{Orders}
-use Rattle.intent.specs.Intent.{reads, stops, after_reading, intent_of, log_of, records_is, RecordsRead, Stops, records_after}
+use Rattle.intent.specs.Intent.{reads, stops, after_reading, intent_of, log_of, RecordsRead, records_after}
 use Rattle.intent.specs.declared.Records.{Records}
+use Rattle.intent.specs.declared.Stopped.{Stopped}
 
 -- ---- the index: numbers below 1,152 that are kept stand for the same job
 module _ (job : Bytes) (nums nums' : List ℕ) (low : take 1152 nums' ≡ take 1152 nums) where
@@ -99,16 +100,9 @@ module _ (files area nums : List ℕ) (s : State) (v : Held files area nums 0 s)
       go (Some x) h = held_by (length files) (length files + s.fill.end) (span_of x) (omega (arith, end_low files area nums s v, v.lends.small)) h
 
 -- ---- a job that was refused
-pub stopped_read : (job files area : Bytes) (nums : List ℕ) (log₀ log : Bytes) (x n : ℕ) (r : Records) → refused x n ≡ parse job → Stops x n r → RecordsRead job files area nums log₀ log r
+pub stopped_read : (job files area : Bytes) (nums : List ℕ) (log₀ log : Bytes) (x n : ℕ) → refused x n ≡ parse job → RecordsRead job files area nums log₀ log (Err (record { number = x; place = n }))
 unfolding intent_of
-stopped_read job files area nums log₀ log x n r p h =
-    record {
-      says = rw (h.not_taken, h.number_is, h.place_is_lem, ← p);
-      taken = λ t. absurd (no_true (sym h.not_taken ∙ t));
-      orders = λ t. absurd (no_true (sym h.not_taken ∙ t));
-      top = λ t. absurd (no_true (sym h.not_taken ∙ t));
-      logged = λ t. absurd (no_true (sym h.not_taken ∙ t));
-    }
+stopped_read job files area nums log₀ log x n p = record { says = rw (← p); hands = tt }
 
 -- ---- a job that was taken: nums is its index, nums' what reading leaves
 module _ (job : Bytes) (nums nums' : List ℕ) (head : Header) (p : accepted (job_of job nums head) ≡ parse job) (v : Indexed job nums head (job_of job nums head)) (few : (head.files ≤ 32) × (head.modules ≤ 128)) (files₀ files area₀ area log₀ log : Bytes) (o : Out) (w : WasRead job files₀ files area₀ area nums nums' log₀ log head.files head.startfile o) where
@@ -128,7 +122,7 @@ module _ (job : Bytes) (nums nums' : List ℕ) (head : Header) (p : accepted (jo
   unfolding intent_of
   intent_is = rw (← p)
 
-  module _ (z : o.tag ≡ 0) where
+  module _ (z : tag_of o.stop ≡ 0) where
     done_is : reading j ≡ done (counted_of s) (model_at files area nums' s text)
     done_is = sym come ∙ rw z
 
@@ -139,32 +133,33 @@ module _ (job : Bytes) (nums nums' : List ℕ) (head : Header) (p : accepted (jo
     unfolding model_of
     log_is = ap log_of reads_is
 
-  none_else : (b : Bool) → eqb o.tag 0 ≡ b → records_is job files area nums' (log_of (intent_of job)) (records_after head o) ≡ intent_of job
-  none_else true e =
-      let z : o.tag ≡ 0 = eqb-true o.tag 0 e in
-      rw (e, log_is z, job_same job nums nums' w.index head few.0 few.1) (sym (reads_is z))
-  none_else false e =
-      let z : after_reading j (reading_of files area nums' text o) ≡ stops o.tag s.count.commands = rw e in
-      rw e (sym (intent_is ∙ (ap (after_reading j) (sym come) ∙ z)))
-
-  pub taken_read : (r : Records) → r ≡ records_after head o → RecordsRead job files area nums' log₀ log r
-  taken_read r e =
+  read_when : (b : Bool) → eqb (tag_of o.stop) 0 ≡ b → RecordsRead job files area nums' log₀ log (records_after head o)
+  read_when true e =
+      let z : tag_of o.stop ≡ 0 = eqb-true (tag_of o.stop) 0 e in
       rw e record {
-        says = none_else (eqb o.tag 0) refl;
-        taken = λ t. record {
-          is_accepted = sym p ∙ ap accepted (sym (job_same job nums nums' w.index head few.0 few.1));
-          indexed = indexed_same job nums nums' w.index head few.0 few.1 v;
-          few = few.1;
+        says = rw (log_is z, job_same job nums nums' w.index head few.0 few.1) (sym (reads_is z));
+        hands = record {
+          taken = record {
+            is_accepted = sym p ∙ ap accepted (sym (job_same job nums nums' w.index head few.0 few.1));
+            indexed = indexed_same job nums nums' w.index head few.0 few.1 v;
+            few = few.1;
+          };
+          orders = held_orders files area nums' s (w.held z) j text (done_is z);
+          top = held_top files area nums' s (w.held z);
+          logged = rw (log_is z) (rw (reading_is job nums head v) at (w.comes.logged z));
         };
-        orders = λ t. held_orders files area nums' s (w.held (eqb-true o.tag 0 t)) j text (done_is (eqb-true o.tag 0 t));
-        top = λ t. held_top files area nums' s (w.held (eqb-true o.tag 0 t));
-        logged = λ t. let z = eqb-true o.tag 0 t in rw (log_is z) (rw (reading_is job nums head v) at (w.comes.logged z));
       }
+  read_when false e =
+      let z : after_reading j (reading_of files area nums' text o) ≡ stops (tag_of o.stop) s.count.commands = rw e in
+      rw e record { says = sym (intent_is ∙ (ap (after_reading j) (sym come) ∙ z)); hands = tt }
+
+  pub taken_read : (r : Result Records Stopped) → r ≡ records_after head o → RecordsRead job files area nums' log₀ log r
+  taken_read r e = rw e (read_when (eqb (tag_of o.stop) 0) refl)
 
 -- ---- by the job reader's answer
 module _ (job : Bytes) (nums₀ nums : List ℕ) (a : Result Header Refused) (jr : JobRead job nums₀ nums a) where
-  pub halted : (x : Refused) → a ≡ Err x → (k : ℕ) → k ≡ number_of x.refusal → (y : ℕ) → y ≡ k → (r : Records) → Stops y x.line r → (files area log₀ log : Bytes) → RecordsRead job files area nums log₀ log r
-  halted x e k ek y ey r h files area log₀ log = stopped_read job files area nums log₀ log y x.line r (rw (ey, ek) (rw e at jr.says)) h
+  pub halted : (x : Refused) → a ≡ Err x → (k : ℕ) → k ≡ number_of x.refusal → (y : ℕ) → y ≡ k → (files area log₀ log : Bytes) → RecordsRead job files area nums log₀ log (Err (record { number = y; place = x.line }))
+  halted x e k ek y ey files area log₀ log = stopped_read job files area nums log₀ log y x.line (rw (ey, ek) (rw e at jr.says))
 
   module _ (head : Header) (e : a ≡ Ok head) where
     taken_is : accepted (job_of job nums head) ≡ parse job
@@ -180,6 +175,6 @@ module _ (job : Bytes) (nums₀ nums : List ℕ) (a : Result Header Refused) (jr
     started files area h =
         accepted_starts job files area nums head (job_of job nums head) indexed_is (sym taken_is) h.0 (omega (arith, h.1.0)) (omega (arith, h.0, h.1.0)) (omega (arith, jr.long, h.1.1))
 
-    pub ended : (nums' : List ℕ) (files₀ files area₀ area log₀ log : Bytes) (o : Out) → WasRead job files₀ files area₀ area nums nums' log₀ log head.files head.startfile o → (r : Records) → r ≡ records_after head o
+    pub ended : (nums' : List ℕ) (files₀ files area₀ area log₀ log : Bytes) (o : Out) → WasRead job files₀ files area₀ area nums nums' log₀ log head.files head.startfile o → (r : Result Records Stopped) → r ≡ records_after head o
         → RecordsRead job files area nums' log₀ log r
     ended nums' files₀ files area₀ area log₀ log o w r k = taken_read job nums nums' head taken_is indexed_is few_are files₀ files area₀ area log₀ log o w r k

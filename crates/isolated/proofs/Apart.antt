@@ -20,6 +20,8 @@ use Rattle.tcl.specs.Join.{joint_by, joined_by, join}
 use Rattle.tcl.specs.Substitution.{escape, unescape}
 use Rattle.names.specs.Name.{entry_of, slash, name_of}
 use Rattle.names.specs.declared.name.Name.{Name}
+use Rattle.names.specs.declared.name.Form.{Form}
+use Rattle.names.specs.declared.name.Form.TheVariants.{Word, Entry, Quoted}
 use Rattle.nametable.specs.Table.{row_name}
 use Rattle.refs.specs.Text.{text_of, no_name}
 use Rattle.refs.specs.Heads.{Apart}
@@ -99,17 +101,14 @@ unfolding rewrite escape
 unescape_plain b [] e = refl
 unescape_plain b (x ∷ l) e = rw e
 
-entry_plain : (f b : ℕ) (l : Bytes) → eqb b (byte "\\") ≡ false → entry_of f (b ∷ l) ≡ b ∷ entry_of f l
-entry_plain f b l e = go (eqb f 0) (eqb f 2)
-  where
-    go : (p q : Bool) → cond p (b ∷ l) (cond q (unescape (join (b ∷ l))) (join (b ∷ l))) ≡ b ∷ cond p l (cond q (unescape (join l)) (join l))
-    go true q = refl
-    go false true = ap (λ (m : Bytes). unescape m) (join_plain b l e) ∙ unescape_plain b (join l) e
-    go false false = join_plain b l e
+entry_plain : (f : Form) (b : ℕ) (l : Bytes) → eqb b (byte "\\") ≡ false → entry_of f (b ∷ l) ≡ b ∷ entry_of f l
+entry_plain Word b l e = refl
+entry_plain Entry b l e = join_plain b l e
+entry_plain Quoted b l e = ap (λ (m : Bytes). unescape m) (join_plain b l e) ∙ unescape_plain b (join l) e
 
 -- the words are as far the same
 pub record Reads (mem : Bytes) (s t x y : Span) : Type 0 where
-  pub keeps : (f g : ℕ) (p q : Bytes) → same (entry_of f (bytes mem s) ++ p) (entry_of g (bytes mem t) ++ q) ≡ same (entry_of f (bytes mem x) ++ p) (entry_of g (bytes mem y) ++ q)
+  pub keeps : (f g : Form) (p q : Bytes) → same (entry_of f (bytes mem s) ++ p) (entry_of g (bytes mem t) ++ q) ≡ same (entry_of f (bytes mem x) ++ p) (entry_of g (bytes mem y) ++ q)
 
 pub reads_start : (mem : Bytes) (s t : Span) → Reads mem s t s t
 reads_start mem s t = record { keeps = λ f g p q. refl }
@@ -123,10 +122,10 @@ neither false true e = absurd (no_true (sym e))
 neither false false e = (refl, refl)
 
 module _ (mem : Bytes) (s t x y : Span) (inv : Reads mem s t x y) (p q : Option (ℕ × Span)) (e : bytes mem x ≡ got_of mem p) (f : bytes mem y ≡ got_of mem q) (a b : ℕ) (u v : Span) (h : p ≡ Some (a, u)) (g : q ≡ Some (b, v)) (plain : eqb a (byte "\\") || eqb b (byte "\\") ≡ false) where
-  left_is : (k : ℕ) → entry_of k (bytes mem x) ≡ a ∷ entry_of k (bytes mem u)
+  left_is : (k : Form) → entry_of k (bytes mem x) ≡ a ∷ entry_of k (bytes mem u)
   left_is k = ap (λ (l : Bytes). entry_of k l) (e ∙ rw h) ∙ entry_plain k a (bytes mem u) (neither (eqb a (byte "\\")) (eqb b (byte "\\")) plain).0
 
-  right_is : (k : ℕ) → entry_of k (bytes mem y) ≡ b ∷ entry_of k (bytes mem v)
+  right_is : (k : Form) → entry_of k (bytes mem y) ≡ b ∷ entry_of k (bytes mem v)
   right_is k = ap (λ (l : Bytes). entry_of k l) (f ∙ rw g) ∙ entry_plain k b (bytes mem v) (neither (eqb a (byte "\\")) (eqb b (byte "\\")) plain).1
 
   pub words_stop : (a ≡ b → ⊥) → WordsApart mem s t true

@@ -4,9 +4,9 @@ use Rattle.std.proofs.Common.{arith, add-one, add-zero, ◌∙◌, length-set}
 use Rattle.std.specs.Prelude.{◌≡◌, List, [], ◌∷◌, ◌++◌, length}
 use Rattle.std.proofs.Math.Path.{refl, ap}
 use Rattle.text.specs.Ascii.{Bytes}
-use Rattle.names.specs.Name.{name_of, named}
+use Rattle.names.specs.Name.{name_of}
 use Rattle.names.specs.declared.name.Name.{Name}
-use Rattle.nametable.specs.Table.{form_at, tag_of, row_name, row_put as name_put, other_row, row_back, same_row}
+use Rattle.nametable.specs.Table.{row_name, row_put as name_put, other_row, row_back, same_row}
 use Rattle.refs.specs.Text.{text_of}
 use Rattle.isolated.specs.Table.{parts_row, counts_row, port_row, names_put, port_put, Kept, kept_of, kept_from, kept_in}
 use Rattle.isolated.specs.declared.Isolated.{Isolated}
@@ -78,7 +78,7 @@ module _ (t : List ℕ) (k : ℕ) (x : Isolated) where
     unfolding port_put
     counts_back = row_back t3 (4 * k + 3) (counts_row x) (omega (arith, long3))
 
-    parts_back : row_name (port_put t k x) (4 * k + 2) ≡ named (parts_row x).scope x.sep (parts_row x).word (form_at (tag_of 0 x.sep))
+    parts_back : row_name (port_put t k x) (4 * k + 2) ≡ parts_row x
     unfolding port_put
     parts_back = other_row t3 (4 * k + 3) (counts_row x) (4 * k + 2) (omega arith) ∙ row_back t2 (4 * k + 2) (parts_row x) (omega (arith, long2))
 

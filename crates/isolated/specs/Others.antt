@@ -6,13 +6,14 @@ use Rattle.spans.specs.Span.{bytes}
 use Rattle.spans.specs.declared.span.Span.{Span}
 use Rattle.names.specs.Name.{entry_of, name_of}
 use Rattle.names.specs.declared.name.Name.{Name}
+use Rattle.names.specs.declared.name.Form.{Form}
 use Rattle.refs.specs.Text.{text_of}
 use Rattle.isolated.specs.Table.{port_ref}
 use Rattle.isolated.specs.declared.Isolated.{Isolated}
 
 -- words, in whatever forms they are read and whatever stands behind them
 pub record WordsApart (mem : Bytes) (s t : Span) (r : Bool) : Type 0 where
-  pub is : r ≡ true → (f g : ℕ) (p q : Bytes) → false ≡ same (entry_of f (bytes mem s) ++ p) (entry_of g (bytes mem t) ++ q)
+  pub is : r ≡ true → (f g : Form) (p q : Bytes) → false ≡ same (entry_of f (bytes mem s) ++ p) (entry_of g (bytes mem t) ++ q)
 
 -- one scope, by its place; a slash behind it in both or in none
 abbrev pub one_scope : Name → Name → Bool

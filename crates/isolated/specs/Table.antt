@@ -4,6 +4,7 @@ use Rattle.text.specs.Ascii.{Bytes}
 use Rattle.spans.specs.Span.{◌⋯◌}
 use Rattle.names.specs.Name.{named}
 use Rattle.names.specs.declared.name.Name.{Name}
+use Rattle.names.specs.declared.name.Form.TheVariants.{Word}
 use Rattle.nametable.specs.Table.{row_name, Stores, row_put as name_put}
 use Rattle.refs.specs.Text.{no_name, text_of}
 use Rattle.refs.specs.declared.Ref.{Ref}
@@ -11,10 +12,10 @@ use Rattle.isolated.specs.declared.Isolated.{Isolated}
 
 -- ---- a port in four rows: the element; what is left of it as the net; the parts of the job; the strategy, and how many bytes stand before the net
 abbrev pub parts_row : Isolated → Name
-parts_row x = named (x.at ⋯ x.len) x.sep (x.net ⋯ x.size) 0
+parts_row x = named (x.at ⋯ x.len) x.sep (x.net ⋯ x.size) Word
 
 abbrev pub counts_row : Isolated → Name
-counts_row x = named (x.strategy ⋯ x.upto) false (0 ⋯ 0) 0
+counts_row x = named (x.strategy ⋯ x.upto) false (0 ⋯ 0) Word
 
 abbrev pub isolated_of : Name → Name → Name → Name → Isolated
 isolated_of e l p q =

@@ -6,11 +6,12 @@ ghost use Rattle.std.specs.Prelude.{◌+◌, ◌*◌, ◌≤◌, ◌<◌, ◌≡
 ghost use Rattle.refs.specs.Heads.{Apart};
 ghost use Rattle.isolated.specs.Others.{WordsApart, one_scope, NamesApart, Other};
 ghost use Rattle.isolated.specs.Table.{parts_row, counts_row, port_row, names_put, numbers_put, port_put, Fits, port_ref, net_ref};
+ghost use Rattle.spans.specs.Memory.{memory};
 
-use names::name::Name;
+use names::name::{Form, Name};
 use nametable::{put_row, row};
 use refs::{Ref, no_name};
-use spans::span::{Span, first};
+use spans::span::{Memory, Span, first};
 use text::part::{part, place};
 
 // A port that a strategy keeps. The port is the element, a slash where `sep` is set, and `len` bytes of the job from `at` on; the parent's net is the first
@@ -42,7 +43,7 @@ fn parts_row(x: Isolated) -> Name
             at: x.net,
             len: x.size,
         },
-        form: 0,
+        form: Form::Word,
     }
 }
 
@@ -57,7 +58,7 @@ fn counts_row(x: Isolated) -> Name
         },
         sep: false,
         word: Span { at: 0, len: 0 },
-        form: 0,
+        form: Form::Word,
     }
 }
 
@@ -156,13 +157,13 @@ fn ends_apart(u: &[u8], v: &[u8]) -> bool
 
 // Whether two words, read in any form, surely differ: by a byte before which no backslash stands.
 #[tactic(auto, using(crate::proofs::Apart::words))]
-fn words_apart(files: &[u8], area: &[u8], s: Span, t: Span) -> bool
-    ensures { WordsApart (files.now ++ area.now) s t result }
+fn words_apart(mem: &Memory, s: Span, t: Span) -> bool
+    ensures { WordsApart (memory mem.now) s t result }
 {
     let mut x = s;
     let mut y = t;
-    while let Some((p, u)) = first(files, area, x) {
-        let Some((q, v)) = first(files, area, y) else {
+    while let Some((p, u)) = first(mem, x) {
+        let Some((q, v)) = first(mem, y) else {
             return false;
         };
         if (p == b'\\') | (q == b'\\') {
@@ -188,22 +189,22 @@ fn one_scope(a: Name, b: Name) -> bool
 
 // Whether two names in one scope surely differ, whatever stands behind them.
 #[tactic(auto, using(crate::proofs::Apart::scopes))]
-fn names_apart(files: &[u8], area: &[u8], a: Name, b: Name) -> bool
-    ensures { NamesApart (files.now ++ area.now) a b result }
+fn names_apart(mem: &Memory, a: Name, b: Name) -> bool
+    ensures { NamesApart (memory mem.now) a b result }
 {
     if !one_scope(a, b) {
         return false;
     }
     let v = a.word;
     let w = b.word;
-    words_apart(files, area, v, w)
+    words_apart(mem, v, w)
 }
 
 // Whether the port of row k surely is another one: by the last byte of its name, or by its element.
 #[tactic(auto, using(crate::proofs::Apart::others))]
-pub fn is_other(job: &[u8], files: &[u8], area: &[u8], ports: &[u32], k: usize, x: Isolated) -> bool
+pub fn is_other(job: &[u8], mem: &Memory, ports: &[u32], k: usize, x: Isolated) -> bool
     requires { k < 256 }
-    ensures { Other job.now (files.now ++ area.now) x (port_row ports.now k) result }
+    ensures { Other job.now (memory mem.now) x (port_row ports.now k) result }
 {
     let u = part(job, x.at, x.len);
     let v = part_at(job, ports, k);
@@ -212,7 +213,7 @@ pub fn is_other(job: &[u8], files: &[u8], area: &[u8], ports: &[u32], k: usize, 
     }
     let e = x.element;
     let f = row(ports, 4 * k);
-    names_apart(files, area, e, f)
+    names_apart(mem, e, f)
 }
 
 // The port as a text: its instance and its name.

@@ -1,16 +1,16 @@
 -- One strategy: each law is stated as a need asks it. Assumes nothing.
 use Rattle.store.specs.declared.state.Few.{Few}
-use Rattle.std.specs.Prelude.{Option}
+use Rattle.std.specs.Prelude.{Option, is_some}
 use Prim.Native.Nat.{ℕ, suc, ◌+◌, ◌≤◌, ◌<◌}
 use native.Mathlib.Omega.{arith}
 use mathlib.Core.Path.{◌≡◌, refl, sym, ap, ◌∙◌}
 use mathlib.Core.Bool.{Bool, true, false, cond, not}
 use mathlib.Core.List.{List, [], ◌∷◌, ◌++◌, map}
 use Rattle.std.specs.Prelude.{None, Some}
-use lib.Dec.{ltb, eqb}
+use lib.Dec.{ltb}
 use lib.ListN.{length, take, get_or}
 use borrow.Author.Rules.{rules}
-use borrow.Author.Tests.{lt-ltb, ne_eqb}
+use borrow.Author.Tests.{lt-ltb}
 use Rattle.text.specs.Ascii.{Bytes, ascii}
 use Rattle.text.specs.Compare.{same}
 use Rattle.text.specs.Sames.{same_refl, no_true}
@@ -36,12 +36,13 @@ use Rattle.made.specs.Firsts.{first_map}
 use Rattle.made.specs.Made.{reach_of}
 use Rattle.finddomain.specs.Named.{is_named}
 use Rattle.setting.specs.Orders.{holds_few, holds_long, holds_at}
+use Rattle.texts.specs.declared.Literal.{Literal}
 use Rattle.texts.specs.Isolation.{lowered, is_clamp, has_elements}
 use Rattle.isolated.specs.Table.{Kept, kept_in}
 use Rattle.keep.specs.Covered.{Ready, Remarked, Answer}
 use Rattle.keep.specs.Turns.{answer_stay}
 use Rattle.keep.specs.declared.Cover.{Cover}
-use Rattle.clamps.specs.Values.{stored_name, clamp_number}
+use Rattle.clamps.specs.Values.{stored_name, clamp_literal}
 use Rattle.clamps.specs.Laws.{stored_is, clamp_known}
 use Rattle.remarks.specs.Lines.{no_signal, unknown_domain, clamp_unknown}
 use Rattle.strategies.specs.Gains.{remark_gain, domain_gain, found_gain, named, strategy_gain, chosen}
@@ -159,28 +160,28 @@ module _ (job mem : Bytes) (warn : Bool) (c : Cover) (out : Bytes) (d : List Mod
     unfolding strategy_gain
     signal_is l b h = rw (has_signal, h)
 
-    module _ (q : ℕ) (eq : q ≡ clamp_number (lowered (or_else (maybe_of mem x.clamp) (ascii "0")))) where
+    module _ (q : Option Literal) (eq : q ≡ clamp_literal (lowered (or_else (maybe_of mem x.clamp) (ascii "0")))) where
       clamp_is : (isolation_of mem x).clamp ≡ or_else (maybe_of mem x.clamp) (ascii "0")
       unfolding isolation_of
       clamp_is = refl
 
-      simulated : is_clamp (lowered (isolation_of mem x).clamp) ≡ not (eqb q 0)
-      simulated = ap (λ (v : Bytes). is_clamp (lowered v)) clamp_is ∙ clamp_known (lowered (or_else (maybe_of mem x.clamp) (ascii "0"))) ∙ ap (λ (k : ℕ). not (eqb k 0)) (sym eq)
+      simulated : is_clamp (lowered (isolation_of mem x).clamp) ≡ is_some q
+      simulated = ap (λ (v : Bytes). is_clamp (lowered v)) clamp_is ∙ clamp_known (lowered (or_else (maybe_of mem x.clamp) (ascii "0"))) ∙ ap (λ (k : Option Literal). is_some k) (sym eq)
 
-      pub clamp_none : (n : Name) → n ≡ stored_name x.name → q ≡ 0 → (v : Name) → v ≡ given_name x.clamp → Ready c ports → Remarked warn (clamp_unknown (name_of mem n) (lowered (name_of mem v))) c out r out'
+      pub clamp_none : (n : Name) → n ≡ stored_name x.name → (b : Bool) → is_some q ≡ not b → b ≡ true → (v : Name) → v ≡ given_name x.clamp → Ready c ports → Remarked warn (clamp_unknown (name_of mem n) (lowered (name_of mem v))) c out r out'
           → Answer job mem warn c out (strategy_gain d m ds number (isolation_of mem x) (kept_in job mem ports c.ports)) r out' ports
-      clamp_none n en h v ev ready a =
-          let z : is_clamp (lowered (isolation_of mem x).clamp) ≡ false = simulated ∙ rw h in
+      clamp_none n en b eb h v ev ready a =
+          let z : is_clamp (lowered (isolation_of mem x).clamp) ≡ false = simulated ∙ eb ∙ ap not h in
           let z' : is_clamp (lowered (or_else (maybe_of mem x.clamp) (ascii "0"))) ≡ false = rw clamp_is at z in
           let en' : name_of mem n ≡ (isolation_of mem x).name = ap (name_of mem) en ∙ name_is mem x in
           let ev' : lowered (name_of mem v) ≡ lowered (isolation_of mem x).clamp = ap (λ (y : Name). lowered (name_of mem y)) ev ∙ clamp_given mem x.clamp z' ∙ ap lowered (sym clamp_is) in
           let a' : Remarked warn (clamp_unknown (isolation_of mem x).name (lowered (isolation_of mem x).clamp)) c out r out' = rw (en', ev') at a in
           rw (signal_is (kept_in job mem ports c.ports) false z) at (remark_answer job mem warn (clamp_unknown (isolation_of mem x).name (lowered (isolation_of mem x).clamp)) c out ports r out' ready a')
 
-      pub clamp_some : (l : List Kept) → (q ≡ 0 → ⊥) → Answer job mem warn c out (found_gain d m number (isolation_of mem x) (name_of mem w) l (named ds (isolation_of mem x).domain)) r out' ports
+      pub clamp_some : (l : List Kept) → (b : Bool) → is_some q ≡ not b → b ≡ false → Answer job mem warn c out (found_gain d m number (isolation_of mem x) (name_of mem w) l (named ds (isolation_of mem x).domain)) r out' ports
           → Answer job mem warn c out (strategy_gain d m ds number (isolation_of mem x) l) r out' ports
-      clamp_some l h a =
-          let z : is_clamp (lowered (isolation_of mem x).clamp) ≡ true = simulated ∙ ap not (ne_eqb q 0 h) in
+      clamp_some l b eb h a =
+          let z : is_clamp (lowered (isolation_of mem x).clamp) ≡ true = simulated ∙ eb ∙ ap not h in
           let ew' : name_of mem w ≡ string mem s = ap (name_of mem) ew ∙ stored_is mem s in
           rw (signal_is l true z) at (rw ew' at a)
 

@@ -12,28 +12,29 @@ ghost use Rattle.cover.specs.Found.{Asks};
 ghost use Rattle.strategies.specs.Gains.{found_gain, named as Gains·named, strategy_gain, round_gain, isolation_gain};
 ghost use Rattle.isolation.specs.Asked.{OfIsolation, start_at};
 ghost use Rattle.isolation.specs.Turns.{turn_gain, OfOne};
+ghost use Rattle.spans.specs.Memory.{memory};
+ghost use Rattle.lookup.specs.Design.{modules_in};
+ghost use Rattle.jobindex.specs.Modules.{module_in};
 
 use clamps::{clamp, stored};
-use finddomain::find_domain;
+use finddomain::first_named;
 use indomain::in_domain;
+use jobindex::Design;
 use keep::Cover;
 use lists::has_entries;
 use names::name::Name;
 use remarks::{clamp_unknown, no_signal, unknown_domain};
+use spans::span::{Memory, Span};
 use store::state::{Domain, Few, Isolation};
-use store::stored::span;
 use strategies::given;
 
 // A strategy with a signal and a clamp value.
 fn with_clamp<'a>(
     out: &mut [u8],
     warn: bool,
-    job: &[u8],
-    index: &[u32],
-    count: usize,
+    design: &Design,
     k: usize,
-    files: &'a [u8],
-    area: &'a [u8],
+    mem: &Memory<'a>,
     domains: Few<Domain>,
     ports: &mut [u32],
     c: Cover,
@@ -41,56 +42,51 @@ fn with_clamp<'a>(
     x: Isolation,
     signal: Name,
 ) -> Cover
-    requires { Ready c ports.old × (Asks job.now files.now area.now count k number × OfOne files.now area.now x domains) }
-    ensures { Answer job.now (files.now ++ area.now) warn c out.old (found_gain (modules job.now index.now count) (module_row job.now index.now k) number (isolation_of (files.now ++ area.now) x) (name_of (files.now ++ area.now) signal) (kept_in job.now (files.now ++ area.now) ports.old c.ports) (Gains·named (map (domain_of (files.now ++ area.now)) (take domains.n domains.all)) (isolation_of (files.now ++ area.now) x).domain)) result out.new ports.new }
+    requires { Ready c ports.old × (Asks design.now.index.job.now mem.now.files.now mem.now.area.now design.now.count k number × OfOne mem.now.files.now mem.now.area.now x domains) }
+    ensures { Answer design.now.index.job.now (memory mem.now) warn c out.old (found_gain (modules_in design.now) (module_in design.now.index k) number (isolation_of (memory mem.now) x) (name_of (memory mem.now) signal) (kept_in design.now.index.job.now (memory mem.now) ports.old c.ports) (Gains·named (map (domain_of (memory mem.now)) (take domains.n domains.all)) (isolation_of (memory mem.now) x).domain)) result out.new ports.new }
 {
     let domain = x.domain;
-    let i = find_domain(files, area, domains, domain);
+    let i = first_named(mem, &domains, domain);
     if domains.n <= i {
         let own = x.name;
         let name = stored(own);
         let written = stored(domain);
-        return unknown_domain(out, warn, job, files, area, c, name, written);
+        return unknown_domain(out, warn, design.index.job, mem, c, name, written);
     }
     let d = domains.all[i];
-    in_domain(
-        out, warn, job, index, count, k, files, area, ports, c, number, x, signal, d,
-    )
+    in_domain(out, warn, design, k, mem, ports, c, number, x, signal, d)
 }
 
 // A strategy.
 fn strategy<'a>(
     out: &mut [u8],
     warn: bool,
-    job: &[u8],
-    index: &[u32],
-    count: usize,
+    design: &Design,
     k: usize,
-    files: &'a [u8],
-    area: &'a [u8],
+    mem: &Memory<'a>,
     domains: Few<Domain>,
     ports: &mut [u32],
     c: Cover,
     number: usize,
     x: Isolation,
 ) -> Cover
-    requires { Ready c ports.old × (Asks job.now files.now area.now count k number × OfOne files.now area.now x domains) }
-    ensures { Answer job.now (files.now ++ area.now) warn c out.old (strategy_gain (modules job.now index.now count) (module_row job.now index.now k) (map (domain_of (files.now ++ area.now)) (take domains.n domains.all)) number (isolation_of (files.now ++ area.now) x) (kept_in job.now (files.now ++ area.now) ports.old c.ports)) result out.new ports.new }
+    requires { Ready c ports.old × (Asks design.now.index.job.now mem.now.files.now mem.now.area.now design.now.count k number × OfOne mem.now.files.now mem.now.area.now x domains) }
+    ensures { Answer design.now.index.job.now (memory mem.now) warn c out.old (strategy_gain (modules_in design.now) (module_in design.now.index k) (map (domain_of (memory mem.now)) (take domains.n domains.all)) number (isolation_of (memory mem.now) x) (kept_in design.now.index.job.now (memory mem.now) ports.old c.ports)) result out.new ports.new }
 {
     let own = x.name;
     let name = stored(own);
     let control = x.signal;
     let Some(signal) = control else {
-        return no_signal(out, warn, job, files, area, c, name);
+        return no_signal(out, warn, design.index.job, mem, c, name);
     };
     let wire = stored(signal);
     let written = x.clamp;
-    if clamp(files, area, written) == 0 {
+    if clamp(mem, written).is_none() {
         let value = given(written);
-        return clamp_unknown(out, warn, job, files, area, c, name, value);
+        return clamp_unknown(out, warn, design.index.job, mem, c, name, value);
     }
     with_clamp(
-        out, warn, job, index, count, k, files, area, domains, ports, c, number, x, wire,
+        out, warn, design, k, mem, domains, ports, c, number, x, wire,
     )
 }
 
@@ -106,12 +102,9 @@ fn is_chosen(has: bool, having: bool) -> bool
 fn turn<'a>(
     out: &mut [u8],
     warn: bool,
-    job: &[u8],
-    index: &[u32],
-    count: usize,
+    design: &Design,
     k: usize,
-    files: &'a [u8],
-    area: &'a [u8],
+    mem: &Memory<'a>,
     domains: Few<Domain>,
     ports: &mut [u32],
     c: Cover,
@@ -119,15 +112,13 @@ fn turn<'a>(
     x: Isolation,
     having: bool,
 ) -> Cover
-    requires { Ready c ports.old × (Asks job.now files.now area.now count k number × OfOne files.now area.now x domains) }
-    ensures { Answer job.now (files.now ++ area.now) warn c out.old (turn_gain (modules job.now index.now count) (module_row job.now index.now k) (map (domain_of (files.now ++ area.now)) (take domains.n domains.all)) having number (isolation_of (files.now ++ area.now) x) (kept_in job.now (files.now ++ area.now) ports.old c.ports)) result out.new ports.new }
+    requires { Ready c ports.old × (Asks design.now.index.job.now mem.now.files.now mem.now.area.now design.now.count k number × OfOne mem.now.files.now mem.now.area.now x domains) }
+    ensures { Answer design.now.index.job.now (memory mem.now) warn c out.old (turn_gain (modules_in design.now) (module_in design.now.index k) (map (domain_of (memory mem.now)) (take domains.n domains.all)) having number (isolation_of (memory mem.now) x) (kept_in design.now.index.job.now (memory mem.now) ports.old c.ports)) result out.new ports.new }
 {
     let elements = x.elements;
-    let has = has_entries(files, area, span(elements));
+    let has = has_entries(mem, Span::from(elements));
     if is_chosen(has, having) {
-        return strategy(
-            out, warn, job, index, count, k, files, area, domains, ports, c, number, x,
-        );
+        return strategy(out, warn, design, k, mem, domains, ports, c, number, x);
     }
     c
 }
@@ -136,28 +127,23 @@ fn turn<'a>(
 fn round<'a>(
     out: &mut [u8],
     warn: bool,
-    job: &[u8],
-    index: &[u32],
-    count: usize,
+    design: &Design,
     k: usize,
-    files: &'a [u8],
-    area: &'a [u8],
+    mem: &Memory<'a>,
     t: Few<Isolation>,
     domains: Few<Domain>,
     ports: &mut [u32],
     c: Cover,
     having: bool,
 ) -> Cover
-    requires { Ready c ports.old × OfIsolation job.now files.now area.now count k t domains }
-    ensures { Answer job.now (files.now ++ area.now) warn c out.old (round_gain (modules job.now index.now count) (module_row job.now index.now k) (map (domain_of (files.now ++ area.now)) (take domains.n domains.all)) having 0 (map (isolation_of (files.now ++ area.now)) (take t.n t.all)) (kept_in job.now (files.now ++ area.now) ports.old c.ports)) result out.new ports.new }
+    requires { Ready c ports.old × OfIsolation design.now.index.job.now mem.now.files.now mem.now.area.now design.now.count k t domains }
+    ensures { Answer design.now.index.job.now (memory mem.now) warn c out.old (round_gain (modules_in design.now) (module_in design.now.index k) (map (domain_of (memory mem.now)) (take domains.n domains.all)) having 0 (map (isolation_of (memory mem.now)) (take t.n t.all)) (kept_in design.now.index.job.now (memory mem.now) ports.old c.ports)) result out.new ports.new }
 {
     let n = t.n;
     let mut a = c;
     for i in 0..n {
         let x = t.all[i];
-        a = turn(
-            out, warn, job, index, count, k, files, area, domains, ports, a, i, x, having,
-        );
+        a = turn(out, warn, design, k, mem, domains, ports, a, i, x, having);
         if a.over {
             return a;
         }
@@ -170,18 +156,15 @@ pub fn isolation<'a>(
     out: &mut [u8],
     at: usize,
     warn: bool,
-    job: &[u8],
-    index: &[u32],
-    count: usize,
+    design: &Design,
     k: usize,
-    files: &'a [u8],
-    area: &'a [u8],
+    mem: &Memory<'a>,
     t: Few<Isolation>,
     domains: Few<Domain>,
     ports: &mut [u32],
 ) -> Cover
-    requires { OfIsolation job.now files.now area.now count k t domains × (5120 ≤ length ports.old) }
-    ensures { Answer job.now (files.now ++ area.now) warn (start_at at) out.old (isolation_gain (modules job.now index.now count) (module_row job.now index.now k) (map (domain_of (files.now ++ area.now)) (take domains.n domains.all)) (map (isolation_of (files.now ++ area.now)) (take t.n t.all)) []) result out.new ports.new }
+    requires { OfIsolation design.now.index.job.now mem.now.files.now mem.now.area.now design.now.count k t domains × (5120 ≤ length ports.old) }
+    ensures { Answer design.now.index.job.now (memory mem.now) warn (start_at at) out.old (isolation_gain (modules_in design.now) (module_in design.now.index k) (map (domain_of (memory mem.now)) (take domains.n domains.all)) (map (isolation_of (memory mem.now)) (take t.n t.all)) []) result out.new ports.new }
 {
     let c = Cover {
         over: false,
@@ -192,13 +175,9 @@ pub fn isolation<'a>(
     if t.n == 0 {
         return c;
     }
-    let a = round(
-        out, warn, job, index, count, k, files, area, t, domains, ports, c, true,
-    );
+    let a = round(out, warn, design, k, mem, t, domains, ports, c, true);
     if a.over {
         return a;
     }
-    round(
-        out, warn, job, index, count, k, files, area, t, domains, ports, a, false,
-    )
+    round(out, warn, design, k, mem, t, domains, ports, a, false)
 }

@@ -11,34 +11,30 @@ ghost use Rattle.made.specs.Made.{Line, brief_of, Does};
 ghost use Rattle.model.specs.Records.{Model};
 ghost use Rattle.store.specs.declared.state.State.{State};
 ghost use Rattle.isolationcmds.specs.Strategies.{is_strategy_at, IsolationIs, RenewedIs, AnewIs, ControlledIs};
+ghost use Rattle.spans.specs.Memory.{memory};
 
 use args::argument::{flag, name, option};
 use lists::has_entries;
 use made::{Brief, Deed};
-use spans::span::{same_spans, size};
+use spans::span::{Memory, Span, same_spans, size};
 use store::state::{Few, Isolation};
-use store::stored::{Stored, as_maybe, given, narrow, or_empty, span};
+use store::stored::{Stored, as_maybe, given, narrow, or_empty};
+use text::part::Rows;
 
 // The strategy that the words of a command name.
-fn isolation<'a>(
-    files: &'a [u8],
-    area: &'a [u8],
-    words: &[u32],
-    n: usize,
-    scope: Stored,
-) -> Isolation
-    requires { last_of span_end (pairs words.now 0 n) < 2 ^ 32 }
-    ensures { IsolationIs (files.now ++ area.now) words.now n scope result }
+fn isolation<'a>(mem: &Memory<'a>, command: &Rows, scope: Stored) -> Isolation
+    requires { last_of span_end (pairs command.now.rows.now 0 command.now.n) < 2 ^ 32 }
+    ensures { IsolationIs (memory mem.now) command.now.rows.now command.now.n scope result }
 {
-    let named = name(files, area, words, n);
-    let domain = option(files, area, words, n, b"-domain");
-    let applies = option(files, area, words, n, b"-applies_to");
-    let elements = option(files, area, words, n, b"-elements");
-    let clamp = option(files, area, words, n, b"-clamp_value");
-    let signal = option(files, area, words, n, b"-isolation_signal");
-    let sense = option(files, area, words, n, b"-isolation_sense");
-    let power = option(files, area, words, n, b"-isolation_power_net");
-    let ground_net = option(files, area, words, n, b"-isolation_ground_net");
+    let named = name(mem, command);
+    let domain = option(mem, command, b"-domain");
+    let applies = option(mem, command, b"-applies_to");
+    let elements = option(mem, command, b"-elements");
+    let clamp = option(mem, command, b"-clamp_value");
+    let signal = option(mem, command, b"-isolation_signal");
+    let sense = option(mem, command, b"-isolation_sense");
+    let power = option(mem, command, b"-isolation_power_net");
+    let ground_net = option(mem, command, b"-isolation_ground_net");
     Isolation {
         name: narrow(named),
         domain: or_empty(domain),
@@ -55,23 +51,21 @@ fn isolation<'a>(
 
 // The strategy with what the words give anew; its elements are `elements` below `scope`.
 fn updated<'a>(
-    files: &'a [u8],
-    area: &'a [u8],
-    words: &[u32],
-    n: usize,
+    mem: &Memory<'a>,
+    command: &Rows,
     x: Isolation,
     scope: Stored,
     elements: Stored,
 ) -> Isolation
-    requires { last_of span_end (pairs words.now 0 n) < 2 ^ 32 }
-    ensures { RenewedIs (files.now ++ area.now) words.now n x scope elements result }
+    requires { last_of span_end (pairs command.now.rows.now 0 command.now.n) < 2 ^ 32 }
+    ensures { RenewedIs (memory mem.now) command.now.rows.now command.now.n x scope elements result }
 {
-    let applies = option(files, area, words, n, b"-applies_to");
-    let clamp = option(files, area, words, n, b"-clamp_value");
-    let signal = option(files, area, words, n, b"-isolation_signal");
-    let sense = option(files, area, words, n, b"-isolation_sense");
-    let power = option(files, area, words, n, b"-isolation_power_net");
-    let ground_net = option(files, area, words, n, b"-isolation_ground_net");
+    let applies = option(mem, command, b"-applies_to");
+    let clamp = option(mem, command, b"-clamp_value");
+    let signal = option(mem, command, b"-isolation_signal");
+    let sense = option(mem, command, b"-isolation_sense");
+    let power = option(mem, command, b"-isolation_power_net");
+    let ground_net = option(mem, command, b"-isolation_ground_net");
     Isolation {
         applies: given(applies, x.applies),
         scope: scope,
@@ -86,111 +80,77 @@ fn updated<'a>(
 }
 
 // The same, with new elements only where the words give some.
-fn update<'a>(
-    files: &'a [u8],
-    area: &'a [u8],
-    words: &[u32],
-    n: usize,
-    scope: Stored,
-    x: Isolation,
-) -> Isolation
-    requires { last_of span_end (pairs words.now 0 n) < 2 ^ 32 }
-    ensures { AnewIs files.now area.now words.now n scope x result }
+fn update<'a>(mem: &Memory<'a>, command: &Rows, scope: Stored, x: Isolation) -> Isolation
+    requires { last_of span_end (pairs command.now.rows.now 0 command.now.n) < 2 ^ 32 }
+    ensures { AnewIs mem.now.files.now mem.now.area.now command.now.rows.now command.now.n scope x result }
 {
-    match option(files, area, words, n, b"-elements") {
-        Some(v) if has_entries(files, area, v) => {
-            updated(files, area, words, n, x, scope, narrow(v))
-        }
-        Some(_) => updated(files, area, words, n, x, x.scope, x.elements),
-        None => updated(files, area, words, n, x, x.scope, x.elements),
+    match option(mem, command, b"-elements") {
+        Some(v) if has_entries(mem, v) => { updated(mem, command, x, scope, narrow(v)) }
+        Some(_) => updated(mem, command, x, x.scope, x.elements),
+        None => updated(mem, command, x, x.scope, x.elements),
     }
 }
 
 // Whether a strategy has this name, and this domain where one is named.
-fn is_strategy<'a>(
-    files: &'a [u8],
-    area: &'a [u8],
-    x: Isolation,
-    name: Stored,
-    domain: Stored,
-) -> bool
-    ensures { result ≡ is_strategy_at (files.now ++ area.now) name domain x }
+fn is_strategy<'a>(mem: &Memory<'a>, x: Isolation, name: Stored, domain: Stored) -> bool
+    ensures { result ≡ is_strategy_at (memory mem.now) name domain x }
 {
-    same_spans(files, area, span(x.name), span(name))
-        && (size(files, area, span(domain)) == 0
-            || same_spans(files, area, span(x.domain), span(domain)))
+    same_spans(mem, Span::from(x.name), Span::from(name))
+        && (size(mem, Span::from(domain)) == 0
+            || same_spans(mem, Span::from(x.domain), Span::from(domain)))
 }
 
 // The first such strategy; the number of strategies where there is none.
-fn find_strategy<'a>(
-    files: &'a [u8],
-    area: &'a [u8],
-    t: Few<Isolation>,
-    name: Stored,
-    domain: Stored,
-) -> usize
+fn find_strategy<'a>(mem: &Memory<'a>, t: Few<Isolation>, name: Stored, domain: Stored) -> usize
     requires { t.n ≤ 32 }
-    ensures { result ≡ first_at (is_strategy_at (files.now ++ area.now) name domain) (take t.n t.all) }
+    ensures { result ≡ first_at (is_strategy_at (memory mem.now) name domain) (take t.n t.all) }
 {
     t.all[..t.n]
         .iter()
-        .position(|x| is_strategy(files, area, *x, name, domain))
+        .position(|x| is_strategy(mem, *x, name, domain))
         .unwrap_or(t.n)
 }
 
-// A new strategy.
-fn enter<'a>(files: &'a [u8], area: &'a [u8], words: &[u32], n: usize, b: Brief) -> Deed
-    requires { Line words.now n }
-    ensures { Does files.now area.now words.now n (λ (s : State). brief_of s ≡ b) result (λ (m : Model). added m (words_from (files.now ++ area.now) words.now n 1)) }
+// A new strategy. `plaincmds` enters a retention by the same steps; one function for both takes the count and a function for the record, and is no plainer.
+fn enter<'a>(mem: &Memory<'a>, command: &Rows, b: Brief) -> Deed
+    requires { Line command.now.rows.now command.now.n }
+    ensures { Does mem.now.files.now mem.now.area.now command.now.rows.now command.now.n (λ (s : State). brief_of s ≡ b) result (λ (m : Model). added m (words_from (memory mem.now) command.now.rows.now command.now.n 1)) }
 {
     if 32 <= b.isolations {
         return Deed::Full;
     }
-    let x = isolation(files, area, words, n, b.scope);
+    let x = isolation(mem, command, b.scope);
     Deed::Isolation(x)
 }
 
 // A new strategy, or one changed; `-no_isolation` is only remarked.
-pub fn set_isolation<'a>(
-    files: &'a [u8],
-    area: &'a [u8],
-    words: &[u32],
-    n: usize,
-    b: Brief,
-    t: Few<Isolation>,
-) -> Deed
-    requires { Line words.now n × (t.n ≤ 32) }
-    ensures { Does files.now area.now words.now n (λ (s : State). (brief_of s ≡ b) × (s.isolations ≡ t)) result (λ (m : Model). isolation_command m (words_from (files.now ++ area.now) words.now n 1)) }
+pub fn set_isolation<'a>(mem: &Memory<'a>, command: &Rows, b: Brief, t: Few<Isolation>) -> Deed
+    requires { Line command.now.rows.now command.now.n × (t.n ≤ 32) }
+    ensures { Does mem.now.files.now mem.now.area.now command.now.rows.now command.now.n (λ (s : State). (brief_of s ≡ b) × (s.isolations ≡ t)) result (λ (m : Model). isolation_command m (words_from (memory mem.now) command.now.rows.now command.now.n 1)) }
 {
-    let named = narrow(name(files, area, words, n));
-    if flag(files, area, words, n, b"-no_isolation") {
+    let named = narrow(name(mem, command));
+    if flag(mem, command, b"-no_isolation") {
         return Deed::Warning(4, named);
     }
-    if !flag(files, area, words, n, b"-update") {
-        return enter(files, area, words, n, b);
+    if !flag(mem, command, b"-update") {
+        return enter(mem, command, b);
     }
-    let domain = or_empty(option(files, area, words, n, b"-domain"));
-    let i = find_strategy(files, area, t, named, domain);
+    let domain = or_empty(option(mem, command, b"-domain"));
+    let i = find_strategy(mem, t, named, domain);
     if t.n <= i {
-        return enter(files, area, words, n, b);
+        return enter(mem, command, b);
     }
-    let x = update(files, area, words, n, b.scope, t.all[i]);
+    let x = update(mem, command, b.scope, t.all[i]);
     Deed::Controlled(i, x)
 }
 
 // The strategy with the signal and the sense that the words give.
-fn controlled<'a>(
-    files: &'a [u8],
-    area: &'a [u8],
-    words: &[u32],
-    n: usize,
-    x: Isolation,
-) -> Isolation
-    requires { last_of span_end (pairs words.now 0 n) < 2 ^ 32 }
-    ensures { ControlledIs (files.now ++ area.now) words.now n x result }
+fn controlled<'a>(mem: &Memory<'a>, command: &Rows, x: Isolation) -> Isolation
+    requires { last_of span_end (pairs command.now.rows.now 0 command.now.n) < 2 ^ 32 }
+    ensures { ControlledIs (memory mem.now) command.now.rows.now command.now.n x result }
 {
-    let signal = option(files, area, words, n, b"-isolation_signal");
-    let sense = option(files, area, words, n, b"-isolation_sense");
+    let signal = option(mem, command, b"-isolation_signal");
+    let sense = option(mem, command, b"-isolation_sense");
     Isolation {
         signal: given(signal, x.signal),
         sense: given(sense, x.sense),
@@ -200,22 +160,20 @@ fn controlled<'a>(
 
 // The signal and the sense of a strategy anew, or a warning.
 pub fn set_isolation_control<'a>(
-    files: &'a [u8],
-    area: &'a [u8],
-    words: &[u32],
-    n: usize,
+    mem: &Memory<'a>,
+    command: &Rows,
     b: Brief,
     t: Few<Isolation>,
 ) -> Deed
-    requires { Line words.now n × (t.n ≤ 32) }
-    ensures { Does files.now area.now words.now n (λ (s : State). (brief_of s ≡ b) × (s.isolations ≡ t)) result (λ (m : Model). control_command m (words_from (files.now ++ area.now) words.now n 1)) }
+    requires { Line command.now.rows.now command.now.n × (t.n ≤ 32) }
+    ensures { Does mem.now.files.now mem.now.area.now command.now.rows.now command.now.n (λ (s : State). (brief_of s ≡ b) × (s.isolations ≡ t)) result (λ (m : Model). control_command m (words_from (memory mem.now) command.now.rows.now command.now.n 1)) }
 {
-    let named = narrow(name(files, area, words, n));
-    let domain = or_empty(option(files, area, words, n, b"-domain"));
-    let i = find_strategy(files, area, t, named, domain);
+    let named = narrow(name(mem, command));
+    let domain = or_empty(option(mem, command, b"-domain"));
+    let i = find_strategy(mem, t, named, domain);
     if t.n <= i {
         return Deed::Warning(5, named);
     }
-    let x = controlled(files, area, words, n, t.all[i]);
+    let x = controlled(mem, command, t.all[i]);
     Deed::Controlled(i, x)
 }

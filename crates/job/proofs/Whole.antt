@@ -16,10 +16,10 @@ use Rattle.joblines.specs.Job.{File, Module, Job}
 use Rattle.joblines.specs.Parse.{is_nothing, listed, parse}
 use Rattle.jobindex.specs.declared.Header.{Header}
 use Rattle.jobindex.specs.Index.{path_at, file_at, name_at, module_row, row_of, job_of}
-use Rattle.jobindex.specs.Rows.{rows_map, row_any, row_le, row_is_lem}
+use Rattle.jobindex.specs.Rows.{rows_map, row_any, row_within, row_is_lem}
 use Rattle.jobsteps.specs.declared.Due.{Due}
 use Rattle.jobsteps.specs.State.{due_of}
-use Rattle.std.specs.Prelude.{Result, Ok, Err, IsErrAnd}
+use Rattle.std.specs.Prelude.{Option, None, Some, is_some, Result, Ok, Err, IsErrAnd}
 use Rattle.std.proofs.lemmas.Result.{err_from_is_err_and}
 use Rattle.joblines.specs.declared.Refusal.TheVariants.{TooLong, NotAscii, NotListed}
 use Rattle.job.specs.declared.Refused.{Refused}
@@ -50,45 +50,45 @@ module _ (job index : List ℕ) (head : Header) where
   abbrev j : Job
   j = job_of job index head
 
-  start_any : any (λ (f : File). same f.path j.start) j.files ≡ ltb 0 (row_of (path_at job index) j.start head.files)
+  start_any : any (λ (f : File). same f.path j.start) j.files ≡ is_some (row_of (path_at job index) j.start head.files)
   start_any =
       sym (any_map (λ p. same p j.start) (λ (f : File). f.path) j.files)
       ∙ (ap (any (λ p. same p j.start)) (rows_map (file_at job index) (λ (f : File). f.path) head.files) ∙ row_any (path_at job index) j.start head.files)
 
-  top_any : any (λ (m : Module). same m.name j.top) j.modules ≡ ltb 0 (row_of (name_at job index) j.top head.modules)
+  top_any : any (λ (m : Module). same m.name j.top) j.modules ≡ is_some (row_of (name_at job index) j.top head.modules)
   unfolding module_row name_at
   top_any =
       sym (any_map (λ p. same p j.top) (λ (m : Module). m.name) j.modules)
       ∙ (ap (any (λ p. same p j.top)) (rows_map (module_row job index) (λ (m : Module). m.name) head.modules) ∙ row_any (name_at job index) j.top head.modules)
 
-  module _ (s : Bytes) (es : s ≡ take head.start.len (drop head.start.at job)) (f : ℕ) (ef : f ≡ row_of (path_at job index) s head.files) where
-    f_is : f ≡ row_of (path_at job index) j.start head.files
-    f_is = ef ∙ ap (λ p. row_of (path_at job index) p head.files) es
+  module _ (s : Bytes) (es : s ≡ take head.start.len (drop head.start.at job)) where
+    file_is : (f : Option ℕ) → f ≡ row_of (path_at job index) s head.files → f ≡ row_of (path_at job index) j.start head.files
+    file_is f ef = ef ∙ ap (λ p. row_of (path_at job index) p head.files) es
 
-    pub start_not : f ≡ 0 → Listed job index head (Err (record { refusal = NotListed; line = 0 }))
-    start_not z = record { says = sym (rw (start_any, ← f_is, z)); found = tt; counts = omega arith }
+    pub start_not : None ≡ row_of (path_at job index) s head.files → Listed job index head (Err (record { refusal = NotListed; line = 0 }))
+    start_not e = record { says = sym (rw (start_any, ← file_is None e)); found = tt; counts = omega arith }
 
-    module _ (nf : f ≡ 0 → ⊥) (t : Bytes) (et : t ≡ take head.top.len (drop head.top.at job)) (m : ℕ) (em : m ≡ row_of (name_at job index) t head.modules) where
-      m_is : m ≡ row_of (name_at job index) j.top head.modules
-      m_is = em ∙ ap (λ p. row_of (name_at job index) p head.modules) et
+    module _ (q : ℕ) (eq : Some q ≡ row_of (path_at job index) s head.files) (t : Bytes) (et : t ≡ take head.top.len (drop head.top.at job)) where
+      root_is : (m : Option ℕ) → m ≡ row_of (name_at job index) t head.modules → m ≡ row_of (name_at job index) j.top head.modules
+      root_is m em = em ∙ ap (λ p. row_of (name_at job index) p head.modules) et
 
-      pub top_not : m ≡ 0 → Listed job index head (Err (record { refusal = NotListed; line = 0 }))
-      top_not z = record { says = sym (rw (start_any, ← f_is, top_any, ← m_is, z, and-false)); found = tt; counts = omega arith }
+      pub top_not : None ≡ row_of (name_at job index) t head.modules → Listed job index head (Err (record { refusal = NotListed; line = 0 }))
+      top_not e = record { says = sym (rw (start_any, ← file_is (Some q) eq, top_any, ← root_is None e)); found = tt; counts = omega arith }
 
-      pub listed_on : (m ≡ 0 → ⊥) → (head.files ≤ 32) × (head.modules ≤ 128)
-          → Listed job index head (Ok (record { top = head.top; over = head.over; start = head.start; files = head.files; modules = head.modules; startfile = f - 1; topmodule = m - 1 }))
-      listed_on nm b =
-          let lf = row_le (path_at job index) j.start head.files in
-          let lm = row_le (name_at job index) j.top head.modules in
+      pub listed_on : (r : ℕ) → Some r ≡ row_of (name_at job index) t head.modules → (head.files ≤ 32) × (head.modules ≤ 128)
+          → Listed job index head (Ok (record { top = head.top; over = head.over; start = head.start; files = head.files; modules = head.modules; startfile = q; topmodule = r }))
+      listed_on r er b =
+          let file = file_is (Some q) eq in
+          let root = root_is (Some r) er in
           record {
-            says = sym (rw (start_any, ← f_is, top_any, ← m_is, lt-ltb 0 f (omega arith), lt-ltb 0 m (omega arith)));
+            says = sym (rw (start_any, ← file, top_any, ← root));
             found =
                 record {
                   stands = refl;
-                  start_row = omega (arith, f_is, lf);
-                  start_is = rw f_is (row_is_lem (path_at job index) j.start head.files (λ z. nf (f_is ∙ z)));
-                  top_row = omega (arith, m_is, lm);
-                  top_is = rw m_is (row_is_lem (name_at job index) j.top head.modules (λ z. nm (m_is ∙ z)));
+                  start_row = row_within (path_at job index) j.start head.files q file;
+                  start_is = row_is_lem (path_at job index) j.start head.files q file;
+                  top_row = row_within (name_at job index) j.top head.modules r root;
+                  top_is = row_is_lem (name_at job index) j.top head.modules r root;
                 };
             counts = b;
           }

@@ -11,7 +11,7 @@ ghost use Rattle.jobsteps.specs.State.{due_of, job_now, line_of, Stands, Asked, 
 ghost use Rattle.job.specs.Reader.{refused_at, Low, LinesRead, Listed, JobRead};
 
 use fields::Style;
-use jobindex::{Header, Open, Span};
+use jobindex::{Header, Index, Open, Span, Table};
 use joblines::Refusal;
 use jobsteps::{Due, Step};
 
@@ -39,11 +39,29 @@ pub fn line_step(
         Due::Top => jobsteps::top_step(job, from, end, head, opened),
         Due::Override => jobsteps::override_step(job, from, end, head, opened),
         Due::Start => jobsteps::start_step(job, from, end, head, opened),
-        Due::File => jobsteps::file_step(job, &index[..], from, end, head, opened),
+        Due::File => jobsteps::file_step(
+            &Index {
+                job,
+                rows: &index[..],
+            },
+            from,
+            end,
+            head,
+            opened,
+        ),
         Due::Bytes { at, len } => jobsteps::bytes_step(
             job, index, from, end, at, len, head, opened,
         ),
-        Due::More => jobsteps::more_step(job, &index[..], from, end, head, opened),
+        Due::More => jobsteps::more_step(
+            &Index {
+                job,
+                rows: &index[..],
+            },
+            from,
+            end,
+            head,
+            opened,
+        ),
         Due::Style { at, len } => jobsteps::style_step(job, from, end, at, len, head),
         Due::Ports => jobsteps::ports_step(job, index, from, end, head, opened),
         Due::Decls => jobsteps::decls_step(job, index, from, end, head, opened),
@@ -71,6 +89,7 @@ fn ending(job: &[u8], at: usize, line: usize, due: Due, head: Header) -> Result<
 }
 
 // The lines of the job.
+// The index is written here, so it stays apart from the job.
 pub fn lines(job: &[u8], index: &mut [u32]) -> Result<Header, Refused>
     requires { (length job.now ≤ 65536) × (index_size ≤ length index.old) }
     ensures { LinesRead job.now index.old index.new result }
@@ -104,6 +123,7 @@ pub fn lines(job: &[u8], index: &mut [u32]) -> Result<Header, Refused>
         opened,
     };
     let mut n = 0;
+    // No `while let`: a line is counted also where none is left, so that the cut would stand before the loop and at its end.
     loop {
         let m = place::cut_line(job, step.at, n);
         n = m.place.line;
@@ -157,6 +177,7 @@ pub fn is_ascii(job: &[u8]) -> bool
     ensures { result ≡ all is_ascii job.now }
 {
     let mut i = 0;
+    // No `chunks_exact`: the place at hand is where the bytes are then looked at one by one.
     while 8 <= job.len() - i {
         if !eight_low(job, i) {
             return each_low(job, i);
@@ -167,40 +188,36 @@ pub fn is_ascii(job: &[u8]) -> bool
 }
 
 // Whether `start` and `top` are listed; their rows are set.
-fn listed(job: &[u8], index: &[u32], head: Header) -> Result<Header, Refused>
+fn listed(index: &Index, head: Header) -> Result<Header, Refused>
     requires { (head.files ≤ 32) × (head.modules ≤ 128) }
-    ensures { Listed job.now index.now head result }
+    ensures { Listed index.now.job.now index.now.rows.now head result }
 {
     let start = head.start;
     let files = head.files;
-    let file = jobindex::file_row(
-        job,
-        index,
-        files,
-        text::part::part(job, start.at, start.len),
-    );
-    if file == 0 {
+    let path = text::part::part(index.job, start.at, start.len);
+    let Some(file) = jobindex::row_of(index, Table::Files, files, path) else {
         return Err(Refused {
             refusal: Refusal::NotListed,
             line: 0,
         });
-    }
+    };
     let top = head.top;
     let modules = head.modules;
-    let root = jobindex::module_row(job, index, modules, text::part::part(job, top.at, top.len));
-    if root == 0 {
+    let name = text::part::part(index.job, top.at, top.len);
+    let Some(root) = jobindex::row_of(index, Table::Modules, modules, name) else {
         return Err(Refused {
             refusal: Refusal::NotListed,
             line: 0,
         });
-    }
+    };
     let mut head = head;
-    head.startfile = file - 1;
-    head.topmodule = root - 1;
+    head.startfile = file;
+    head.topmodule = root;
     Ok(head)
 }
 
 // The job, read: refused by checks 2 to 7, or taken, with its files and modules in the index.
+// The index is written here, so it stays apart from the job.
 pub fn read_job(job: &[u8], index: &mut [u32]) -> Result<Header, Refused>
     requires { index_size ≤ length index.old }
     ensures { JobRead job.now index.old index.new result }
@@ -218,5 +235,11 @@ pub fn read_job(job: &[u8], index: &mut [u32]) -> Result<Header, Refused>
         });
     }
     let head = lines(job, &mut index[..])?;
-    listed(job, &index[..], head)
+    listed(
+        &Index {
+            job,
+            rows: &index[..],
+        },
+        head,
+    )
 }

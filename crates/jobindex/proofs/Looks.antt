@@ -1,6 +1,6 @@
 -- What lines come to beside the index, from the tests that the code makes: t is whether the line has the key, v its value.
 -- Assumes nothing.
-use Rattle.std.specs.Prelude.{Option, None, Some, Ok, Err}
+use Rattle.std.specs.Prelude.{Option, None, Some, Ok, Err, is_some}
 use mathlib.Core.Path.{◌≡◌, ap, ◌∙◌, sym}
 use Prim.Native.Nat.{ℕ, ◌<◌, ◌≤◌}
 use mathlib.Core.Bool.{Bool, true, false, not}
@@ -37,14 +37,14 @@ module _ (f : ℕ → Bytes) (count : ℕ) (line : Bytes) (t : Bool) (et : t ≡
       unfolding file_read
       file_many m = rw (← et, not-false t h, ← ev, ← ep, not-false p g, rows_length f count, le-ltb count 32 m)
 
-      module _ (m : count < 32) (r : ℕ) (er : r ≡ row_of f v count) where
-        pub file_old : 0 < r → Err 6 ≡ verdict (file_read (rows f count) line)
+      module _ (m : count < 32) (r : Option ℕ) (er : r ≡ row_of f v count) (b : Bool) (eb : b ≡ is_some r) where
+        pub file_old : b ≡ true → Err 6 ≡ verdict (file_read (rows f count) line)
         unfolding file_read
-        file_old n = rw (← et, not-false t h, ← ev, ← ep, not-false p g, rows_length f count, lt-ltb count 32 m, row_any f v count, ← er, lt-ltb 0 r n)
+        file_old n = rw (← et, not-false t h, ← ev, ← ep, not-false p g, rows_length f count, lt-ltb count 32 m, row_any f v count, ← er, ← eb, n)
 
-        pub file_new : r ≤ 0 → Ok true ≡ verdict (file_read (rows f count) line)
+        pub file_new : b ≡ false → Ok true ≡ verdict (file_read (rows f count) line)
         unfolding file_read
-        file_new n = rw (← et, not-false t h, ← ev, ← ep, not-false p g, rows_length f count, lt-ltb count 32 m, row_any f v count, ← er, le-ltb 0 r n)
+        file_new n = rw (← et, not-false t h, ← ev, ← ep, not-false p g, rows_length f count, lt-ltb count 32 m, row_any f v count, ← er, ← eb, n)
 
 pub ruleset file_lines = (rules, file_other, file_bad, file_many, file_old, file_new)
 
@@ -64,14 +64,14 @@ module _ (f : ℕ → Bytes) (count : ℕ) (line : Bytes) (t : Bool) (et : t ≡
       unfolding module_read
       module_many m = rw (← et, not-false t h, ← ev, ← ep, not-false p g, rows_length f count, le-ltb count 128 m)
 
-      module _ (m : count < 128) (r : ℕ) (er : r ≡ row_of f v count) where
-        pub module_old : 0 < r → Err 6 ≡ verdict (module_read (rows f count) line)
+      module _ (m : count < 128) (r : Option ℕ) (er : r ≡ row_of f v count) (b : Bool) (eb : b ≡ is_some r) where
+        pub module_old : b ≡ true → Err 6 ≡ verdict (module_read (rows f count) line)
         unfolding module_read
-        module_old n = rw (← et, not-false t h, ← ev, ← ep, not-false p g, rows_length f count, lt-ltb count 128 m, row_any f v count, ← er, lt-ltb 0 r n)
+        module_old n = rw (← et, not-false t h, ← ev, ← ep, not-false p g, rows_length f count, lt-ltb count 128 m, row_any f v count, ← er, ← eb, n)
 
-        pub module_new : r ≤ 0 → Ok true ≡ verdict (module_read (rows f count) line)
+        pub module_new : b ≡ false → Ok true ≡ verdict (module_read (rows f count) line)
         unfolding module_read
-        module_new n = rw (← et, not-false t h, ← ev, ← ep, not-false p g, rows_length f count, lt-ltb count 128 m, row_any f v count, ← er, le-ltb 0 r n)
+        module_new n = rw (← et, not-false t h, ← ev, ← ep, not-false p g, rows_length f count, lt-ltb count 128 m, row_any f v count, ← er, ← eb, n)
 
 pub ruleset module_lines = (rules, module_other, module_bad, module_many, module_old, module_new)
 
@@ -93,14 +93,14 @@ module _ (f : ℕ → Bytes) (count : ℕ) (line : Bytes) (t : Bool) (et : t ≡
       pub inst_many : 64 ≤ count → InstSeen line (rows f count) (Err OverLimit)
       inst_many g = record { says = sym (ap name_of inst_is_lem ∙ rw (e, le-ltb count 64 g)); within = tt }
 
-      module _ (g : count < 64) (p : Bytes) (ep : p ≡ take x.len (drop x.name v)) (r : ℕ) (er : r ≡ row_of f p count) where
-        pub inst_old : 0 < r → InstSeen line (rows f count) (Err NotNew)
-        inst_old q = record { says = sym (ap name_of inst_is_lem ∙ rw (e, lt-ltb count 64 g, ← ep, row_any f p count, ← er, lt-ltb 0 r q)); within = tt }
+      module _ (g : count < 64) (p : Bytes) (ep : p ≡ take x.len (drop x.name v)) (r : Option ℕ) (er : r ≡ row_of f p count) (b : Bool) (eb : b ≡ is_some r) where
+        pub inst_old : b ≡ true → InstSeen line (rows f count) (Err NotNew)
+        inst_old q = record { says = sym (ap name_of inst_is_lem ∙ rw (e, lt-ltb count 64 g, ← ep, row_any f p count, ← er, ← eb, q)); within = tt }
 
-        pub inst_new : r ≤ 0 → InstSeen line (rows f count) (Ok (Some (record { at = x.name; len = x.len })))
+        pub inst_new : b ≡ false → InstSeen line (rows f count) (Ok (Some (record { at = x.name; len = x.len })))
         inst_new q =
             record {
-              says = sym (ap name_of inst_is_lem ∙ rw (e, lt-ltb count 64 g, ← ep, row_any f p count, ← er, le-ltb 0 r q, ep, ev));
+              says = sym (ap name_of inst_is_lem ∙ rw (e, lt-ltb count 64 g, ← ep, row_any f p count, ← er, ← eb, q, ep, ev));
               within = rw (← ev) (rw e at em.1);
             }
 

@@ -4,13 +4,15 @@
 --                  ends, number of instances
 --   1152 to 1279   64 names of the instances of the module that is being read, 2 numbers each: name at, name length
 -- Assumes nothing.
-use Rattle.std.specs.Prelude.{ℕ, zero, suc, ◌+◌, ◌-◌, ◌*◌, ◌<◌, ◌≡◌, cond, List, [], ◌∷◌, ◌++◌, take, drop, get_or}
+use Rattle.std.specs.Prelude.{ℕ, zero, suc, ◌+◌, ◌-◌, ◌*◌, ◌<◌, ◌≡◌, cond, List, [], ◌∷◌, ◌++◌, take, drop, get_or, Option, None, Some}
 use Rattle.text.specs.Ascii.{Bytes}
 use Rattle.text.specs.Compare.{same}
 use Rattle.fields.specs.Meant.{style_at}
 use Rattle.joblines.specs.Job.{File, Module, Job}
 use Rattle.joblines.specs.Sections.{ports_in, decls_in, insts_in}
 use Rattle.jobindex.specs.declared.Header.{Header}
+use Rattle.jobindex.specs.declared.Table.{Table}
+use Rattle.jobindex.specs.declared.Table.TheVariants as table
 
 -- how many numbers the index has
 abbrev pub index_size : ℕ
@@ -70,10 +72,16 @@ unfoldable pub rows : {A : Type 0} → (ℕ → A) → ℕ → List A
 rows f zero = []
 rows f (suc n) = rows f n ++ (f n ∷ [])
 
--- the last of the first n rows with a name, plus one; 0 where there is none
-unfoldable pub row_of : (ℕ → Bytes) → Bytes → ℕ → ℕ
-row_of f name zero = 0
-row_of f name (suc k) = cond (same (f k) name) (suc k) (row_of f name k)
+-- the name of row k of a table
+abbrev pub named_at : Table → Bytes → List ℕ → ℕ → Bytes
+named_at table.Files = path_at
+named_at table.Modules = name_at
+named_at table.Insts = inst_at
+
+-- the last of the first n rows with a name
+unfoldable pub row_of : (ℕ → Bytes) → Bytes → ℕ → Option ℕ
+row_of f name zero = None
+row_of f name (suc k) = cond (same (f k) name) (Some k) (row_of f name k)
 
 -- ---- the job that an index stands for
 abbrev pub job_of : Bytes → List ℕ → Header → Job

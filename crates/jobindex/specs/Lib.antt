@@ -2,3 +2,4 @@ pub mod Index
 pub mod Stores
 pub mod Looks
 pub mod Rows
+pub mod Modules

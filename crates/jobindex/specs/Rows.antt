@@ -1,8 +1,8 @@
 -- Laws: rows in order, the row with a name, and the rows of an index after one is put.
 -- Assumes nothing.
-use Rattle.std.specs.Prelude.{◌≡◌, Bool, cond, ◌||◌, List, [], ◌∷◌, ◌++◌, map, length, drop, set, ltb, eqb}
+use Rattle.std.specs.Prelude.{◌≡◌, Bool, cond, ◌||◌, List, [], ◌∷◌, ◌++◌, map, length, drop, set, eqb, Option, None, Some, is_some}
 use Rattle.std.proofs.Math.Path.{refl, ap, sym}
-use Rattle.std.proofs.Common.{◌∙◌, add-one, add-zero, length-append, length-set, drop_of_length-le, get_or-set_same, get_or-set_other, drop-set-lt, drop_at, rules, lt-ltb, eqb-true}
+use Rattle.std.proofs.Common.{◌∙◌, add-one, add-zero, length-append, length-set, drop_of_length-le, get_or-set_same, get_or-set_other, drop-set-lt, drop_at, rules, eqb-true}
 use Prim.Native.Nat.{ℕ, zero, suc, ◌+◌, ◌-◌, ◌*◌, ◌<◌, ◌≤◌}
 use native.Mathlib.Omega.{arith}
 use Rattle.std.proofs.Math.Bool.{true, false, or-false, or-true}
@@ -11,7 +11,7 @@ use Rattle.std.proofs.lemmas.Bool.{eqb-false}
 use Rattle.text.specs.Ascii.{Bytes}
 use Rattle.text.specs.Compare.{same}
 use Rattle.text.specs.Scan.{any}
-use Rattle.text.specs.Sames.{same_eq}
+use Rattle.text.specs.Sames.{same_eq, no_true}
 use Rattle.fields.specs.Meant.{style_number}
 use Rattle.jobindex.specs.declared.Open.{Open}
 use Rattle.jobindex.specs.Index.{num, bytes_at, path_at, body_at, file_at, module_of, row_at, module_row, inst_at, rows, row_of}
@@ -62,27 +62,30 @@ any_append t (y ∷ xs) x = rw (any_append t xs x) (go (t y))
     go false = refl
 
 -- ---- the row with a name
-module _ (f : ℕ → Bytes) (name : Bytes) (a k : ℕ) (inv : a ≡ row_of f name k) where
-  pub row_end : k ≤ 0 → 0 ≡ a
+module _ (f : ℕ → Bytes) (name : Bytes) (a : Option ℕ) (k : ℕ) (inv : a ≡ row_of f name k) where
+  pub row_end : k ≤ 0 → None ≡ a
   unfolding row_of
   row_end h = sym (inv ∙ go k h)
     where
-      go : (n : ℕ) → n ≤ 0 → row_of f name n ≡ 0
+      go : (n : ℕ) → n ≤ 0 → row_of f name n ≡ None
       go zero h = refl
       go (suc n) h = absurd (omega arith)
 
   module _ (h : 0 < k) (p : Bytes) (t : Bool) (ep : p ≡ f (k - 1)) (et : t ≡ same p name) where
-    pub row_stop : t ≡ true → k ≡ a
+    test : same (f (k - 1)) name ≡ t
+    test = ap (λ q. same q name) (sym ep) ∙ sym et
+
+    pub row_stop : t ≡ true → Some (k - 1) ≡ a
     unfolding row_of
-    row_stop g = sym (inv ∙ go k h (ap (λ q. same q name) (sym ep) ∙ (sym et ∙ g)))
+    row_stop g = sym (inv ∙ go k h (test ∙ g))
       where
-        go : (n : ℕ) → 0 < n → same (f (n - 1)) name ≡ true → row_of f name n ≡ n
+        go : (n : ℕ) → 0 < n → same (f (n - 1)) name ≡ true → row_of f name n ≡ Some (n - 1)
         go zero h e = absurd (omega arith)
-        go (suc n) h e = let z : suc n - 1 ≡ n = omega arith in rw (rw z at e)
+        go (suc n) h e = let z : suc n - 1 ≡ n = omega arith in rw (z, rw z at e)
 
     pub row_step : t ≡ false → a ≡ row_of f name (k - 1)
     unfolding row_of
-    row_step g = inv ∙ go k h (ap (λ q. same q name) (sym ep) ∙ (sym et ∙ g))
+    row_step g = inv ∙ go k h (test ∙ g)
       where
         go : (n : ℕ) → 0 < n → same (f (n - 1)) name ≡ false → row_of f name n ≡ row_of f name (n - 1)
         go zero h e = absurd (omega arith)
@@ -91,31 +94,32 @@ module _ (f : ℕ → Bytes) (name : Bytes) (a k : ℕ) (inv : a ≡ row_of f na
 pub ruleset row_loops = (rules, row_end, row_stop, row_step)
 
 -- it is there, or no row has the name
-pub row_any : (f : ℕ → Bytes) (name : Bytes) (n : ℕ) → any (λ q. same q name) (rows f n) ≡ ltb 0 (row_of f name n)
+pub row_any : (f : ℕ → Bytes) (name : Bytes) (n : ℕ) → any (λ q. same q name) (rows f n) ≡ is_some (row_of f name n)
 unfolding rows row_of any
 row_any f name zero = refl
 row_any f name (suc n) = any_append (λ q. same q name) (rows f n) (f n) ∙ go (same (f n) name) (row_any f name n)
   where
-    go : (b : Bool) → any (λ q. same q name) (rows f n) ≡ ltb 0 (row_of f name n) → any (λ q. same q name) (rows f n) || b ≡ ltb 0 (cond b (suc n) (row_of f name n))
-    go true e = or-true (any (λ q. same q name) (rows f n)) ∙ sym (lt-ltb 0 (suc n) (omega arith))
+    go : (b : Bool) → any (λ q. same q name) (rows f n) ≡ is_some (row_of f name n) → any (λ q. same q name) (rows f n) || b ≡ is_some (cond b (Some n) (row_of f name n))
+    go true e = or-true (any (λ q. same q name) (rows f n))
     go false e = or-false (any (λ q. same q name) (rows f n)) ∙ e
 
-pub row_le : (f : ℕ → Bytes) (name : Bytes) (n : ℕ) → row_of f name n ≤ n
+-- it is one of the first n, and has the name
+pub row_within : (f : ℕ → Bytes) (name : Bytes) (n k : ℕ) → Some k ≡ row_of f name n → k < n
 unfolding row_of
-row_le f name zero = omega arith
-row_le f name (suc n) = go (same (f n) name) (row_le f name n)
+row_within f name zero k h = absurd (no_true (ap is_some (sym h)))
+row_within f name (suc n) k h = go (same (f n) name) (λ g. row_within f name n k g) h
   where
-    go : (b : Bool) → row_of f name n ≤ n → cond b (suc n) (row_of f name n) ≤ suc n
-    go true h = omega arith
-    go false h = omega arith
+    go : (b : Bool) → (Some k ≡ row_of f name n → k < n) → Some k ≡ cond b (Some n) (row_of f name n) → k < suc n
+    go true r g = let z : k ≡ n = cc in omega arith
+    go false r g = let z : k < n = r g in omega arith
 
-pub row_is_lem : (f : ℕ → Bytes) (name : Bytes) (n : ℕ) → (row_of f name n ≡ 0 → ⊥) → f (row_of f name n - 1) ≡ name
+pub row_is_lem : (f : ℕ → Bytes) (name : Bytes) (n k : ℕ) → Some k ≡ row_of f name n → f k ≡ name
 unfolding row_of
-row_is_lem f name zero h = absurd (h refl)
-row_is_lem f name (suc n) h = go (same (f n) name) refl (λ g. row_is_lem f name n g) h
+row_is_lem f name zero k h = absurd (no_true (ap is_some (sym h)))
+row_is_lem f name (suc n) k h = go (same (f n) name) refl (λ g. row_is_lem f name n k g) h
   where
-    go : (b : Bool) → same (f n) name ≡ b → ((row_of f name n ≡ 0 → ⊥) → f (row_of f name n - 1) ≡ name) → (cond b (suc n) (row_of f name n) ≡ 0 → ⊥) → f (cond b (suc n) (row_of f name n) - 1) ≡ name
-    go true e r g = let z : suc n - 1 ≡ n = omega arith in rw z (same_eq (f n) name e)
+    go : (b : Bool) → same (f n) name ≡ b → (Some k ≡ row_of f name n → f k ≡ name) → Some k ≡ cond b (Some n) (row_of f name n) → f k ≡ name
+    go true e r g = let z : k ≡ n = cc in rw z (same_eq (f n) name e)
     go false e r g = r g
 
 -- ---- after a row is put: what stands before it, behind it and in it

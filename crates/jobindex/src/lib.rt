@@ -7,18 +7,42 @@
 #![tactic(auto)]
 
 ghost use Rattle.std.specs.Prelude.{◌≡◌, ◌+◌, ◌≤◌, ◌<◌, ◌^◌, length};
-ghost use Rattle.jobindex.specs.Index.{index_size, path_at, name_at, inst_at, row_of};
+ghost use Rattle.jobindex.specs.Index.{index_size, num, bytes_at, path_at, name_at, named_at, row_of};
 ghost use Rattle.jobindex.specs.Stores.{Fits, with_four, with_file, with_module, with_name};
 
 pub mod look;
 
 use fields::Style;
+use text::part::place;
 
-// A part of the job: where it begins, and its length.
+// A job and its index.
+#[derive(Clone, Copy)]
+pub struct Index<'a> {
+    pub job: &'a [u8],
+    pub rows: &'a [u32],
+}
+
+// The modules of a job: its index, and how many there are.
+#[derive(Clone, Copy)]
+pub struct Design<'a> {
+    pub index: Index<'a>,
+    pub count: usize,
+}
+
+// A part of the job: where it begins, and its length. It is no `Span` of `spans`, a part of the files and the area: one type for both would be no
+// plainer, since the one could then be taken for the other.
 #[derive(PartialEq, Eq, Clone, Copy, Debug)]
 pub struct Span {
     pub at: usize,
     pub len: usize,
+}
+
+// A table of the index whose rows have a name: the files, the modules, and the instances of the module that is being read.
+#[derive(PartialEq, Eq, Clone, Copy, Debug)]
+pub enum Table {
+    Files,
+    Modules,
+    Insts,
 }
 
 // What was read beside the design, how many files and modules there are, and the rows of the start file and the top module.
@@ -49,79 +73,58 @@ pub struct Open {
     pub nconns: usize,
 }
 
-// The path of file k.
-pub fn path_at<'a>(job: &'a [u8], index: &[u32], k: usize) -> &'a [u8]
-    requires { k ≤ 128 }
-    ensures { result.now ≡ path_at job.now index.now k }
+// The part of the job whose place and length stand from i on, in the index or in another table.
+// The two stay apart: the part lives as long as the job, not as the numbers.
+pub fn part_at<'a>(job: &'a [u8], index: &[u32], i: usize) -> &'a [u8]
+    requires { i ≤ 2 ^ 32 }
+    ensures { result.now ≡ bytes_at job.now (num index.now i) (num index.now (i + 1)) }
 {
-    let at = text::part::num(index, 4 * k) as usize;
-    let len = text::part::num(index, 4 * k + 1) as usize;
-    text::part::part(job, at, len)
+    text::part::part(job, place(index, i), place(index, i + 1))
+}
+
+// The path of file k.
+#[tactic(auto, unfolding(crate::specs::Index::path_at))]
+pub fn path_at<'a>(index: &Index<'a>, k: usize) -> &'a [u8]
+    requires { k ≤ 128 }
+    ensures { result.now ≡ path_at index.now.job.now index.now.rows.now k }
+{
+    part_at(index.job, index.rows, 4 * k)
 }
 
 // The name of module k.
-pub fn name_at<'a>(job: &'a [u8], index: &[u32], k: usize) -> &'a [u8]
+#[tactic(auto, unfolding(crate::specs::Index::name_at))]
+pub fn name_at<'a>(index: &Index<'a>, k: usize) -> &'a [u8]
     requires { k ≤ 128 }
-    ensures { result.now ≡ name_at job.now index.now k }
+    ensures { result.now ≡ name_at index.now.job.now index.now.rows.now k }
 {
-    let at = text::part::num(index, 128 + 8 * k) as usize;
-    let len = text::part::num(index, 128 + 8 * k + 1) as usize;
-    text::part::part(job, at, len)
+    part_at(index.job, index.rows, 128 + 8 * k)
 }
 
-// The name of instance k of the module that is being read.
-fn inst_at<'a>(job: &'a [u8], index: &[u32], k: usize) -> &'a [u8]
+// The name of row k of a table.
+#[tactic(auto, unfolding(crate::specs::Index::inst_at))]
+fn named_at<'a>(index: &Index<'a>, table: Table, k: usize) -> &'a [u8]
     requires { k ≤ 128 }
-    ensures { result.now ≡ inst_at job.now index.now k }
+    ensures { result.now ≡ named_at table index.now.job.now index.now.rows.now k }
 {
-    let at = text::part::num(index, 1152 + 2 * k) as usize;
-    let len = text::part::num(index, 1152 + 2 * k + 1) as usize;
-    text::part::part(job, at, len)
+    match table {
+        Table::Files => path_at(index, k),
+        Table::Modules => name_at(index, k),
+        Table::Insts => part_at(index.job, index.rows, 1152 + 2 * k),
+    }
 }
 
-// The row of the file with a path, plus one; 0 where there is none.
-pub fn file_row(job: &[u8], index: &[u32], count: usize, path: &[u8]) -> usize
+// The last of the first `count` rows of a table with a name.
+#[tactic(auto, using(crate::specs::Rows::row_loops))]
+pub fn row_of(index: &Index, table: Table, count: usize, name: &[u8]) -> Option<usize>
     requires { count ≤ 128 }
-    ensures { result ≡ row_of (path_at job.now index.now) path.now count }
+    ensures { result ≡ row_of (named_at table index.now.job.now index.now.rows.now) name.now count }
 {
-    let mut k = count;
-    while 0 < k {
-        if text::compare::same(path_at(job, index, k - 1), path) {
-            return k;
+    for k in (0..count).rev() {
+        if text::compare::same(named_at(index, table, k), name) {
+            return Some(k);
         }
-        k -= 1;
     }
-    0
-}
-
-// The row of the module with a name, plus one; 0 where there is none.
-pub fn module_row(job: &[u8], index: &[u32], count: usize, name: &[u8]) -> usize
-    requires { count ≤ 128 }
-    ensures { result ≡ row_of (name_at job.now index.now) name.now count }
-{
-    let mut k = count;
-    while 0 < k {
-        if text::compare::same(name_at(job, index, k - 1), name) {
-            return k;
-        }
-        k -= 1;
-    }
-    0
-}
-
-// The row of the instance with a name, plus one; 0 where there is none.
-pub fn inst_row(job: &[u8], index: &[u32], count: usize, name: &[u8]) -> usize
-    requires { count ≤ 128 }
-    ensures { result ≡ row_of (inst_at job.now index.now) name.now count }
-{
-    let mut k = count;
-    while 0 < k {
-        if text::compare::same(inst_at(job, index, k - 1), name) {
-            return k;
-        }
-        k -= 1;
-    }
-    0
+    None
 }
 
 // Four numbers of a row, from i on.

@@ -5,14 +5,15 @@ ghost use Rattle.joblines.specs.Lines.{file_read, module_read};
 ghost use Rattle.jobindex.specs.Index.{path_at, name_at, inst_at, rows};
 ghost use Rattle.jobindex.specs.Looks.{InstSeen, bytes_of};
 
-use super::Span;
+use super::{Index, Span, Table};
 use joblines::Refusal;
 
-// Whether a line is a file line, good in a job that has `count` files. Where its key is another kind's, it is none.
+// Whether a line is a file line, good in a job that has `count` files. Where its key is another kind's, it is none. One function for this and for
+// `module_line` would take the key, the test, the limit and the table of each, and be no plainer.
 #[tactic(auto, using(crate::proofs::Looks::file_lines))]
-pub fn file_line(job: &[u8], index: &[u32], line: &[u8], count: usize) -> Result<bool, Refusal>
+pub fn file_line(index: &Index, line: &[u8], count: usize) -> Result<bool, Refusal>
     requires { count ≤ 32 }
-    ensures { numbered result ≡ verdict (file_read (rows (path_at job.now index.now) count) line.now) }
+    ensures { numbered result ≡ verdict (file_read (rows (path_at index.now.job.now index.now.rows.now) count) line.now) }
 {
     if !text::compare::starts_with(line, b"file=") {
         return Ok(false);
@@ -24,7 +25,7 @@ pub fn file_line(job: &[u8], index: &[u32], line: &[u8], count: usize) -> Result
     if 32 <= count {
         return Err(Refusal::OverLimit);
     }
-    if 0 < super::file_row(job, index, count, v) {
+    if super::row_of(index, Table::Files, count, v).is_some() {
         return Err(Refusal::NotNew);
     }
     Ok(true)
@@ -32,9 +33,9 @@ pub fn file_line(job: &[u8], index: &[u32], line: &[u8], count: usize) -> Result
 
 // Whether a line is a module line, good in a job that has `count` modules.
 #[tactic(auto, using(crate::proofs::Looks::module_lines))]
-pub fn module_line(job: &[u8], index: &[u32], line: &[u8], count: usize) -> Result<bool, Refusal>
+pub fn module_line(index: &Index, line: &[u8], count: usize) -> Result<bool, Refusal>
     requires { count ≤ 128 }
-    ensures { numbered result ≡ verdict (module_read (rows (name_at job.now index.now) count) line.now) }
+    ensures { numbered result ≡ verdict (module_read (rows (name_at index.now.job.now index.now.rows.now) count) line.now) }
 {
     if !text::compare::starts_with(line, b"module=") {
         return Ok(false);
@@ -46,7 +47,7 @@ pub fn module_line(job: &[u8], index: &[u32], line: &[u8], count: usize) -> Resu
     if 128 <= count {
         return Err(Refusal::OverLimit);
     }
-    if 0 < super::module_row(job, index, count, v) {
+    if super::row_of(index, Table::Modules, count, v).is_some() {
         return Err(Refusal::NotNew);
     }
     Ok(true)
@@ -54,14 +55,9 @@ pub fn module_line(job: &[u8], index: &[u32], line: &[u8], count: usize) -> Resu
 
 // The name of the instance line that a line is, good in a module that has `count` instances: where it stands in the line's value.
 #[tactic(auto, using(crate::proofs::Looks::inst_lines))]
-pub fn inst_line(
-    job: &[u8],
-    index: &[u32],
-    line: &[u8],
-    count: usize,
-) -> Result<Option<Span>, Refusal>
+pub fn inst_line(index: &Index, line: &[u8], count: usize) -> Result<Option<Span>, Refusal>
     requires { count ≤ 64 }
-    ensures { InstSeen line.now (rows (inst_at job.now index.now) count) result }
+    ensures { InstSeen line.now (rows (inst_at index.now.job.now index.now.rows.now) count) result }
 {
     if !text::compare::starts_with(line, b"inst=") {
         return Ok(None);
@@ -73,7 +69,8 @@ pub fn inst_line(
     if 64 <= count {
         return Err(Refusal::OverLimit);
     }
-    if 0 < super::inst_row(job, index, count, text::part::part(v, f.name, f.len)) {
+    let own = text::part::part(v, f.name, f.len);
+    if super::row_of(index, Table::Insts, count, own).is_some() {
         return Err(Refusal::NotNew);
     }
     let name = Span {

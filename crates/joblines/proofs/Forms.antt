@@ -15,9 +15,9 @@ use borrow.Author.Tests.{not-true, not-false, ltb-false}
 use Rattle.text.specs.Ascii.{Bytes, ascii, byte}
 use Rattle.text.specs.Compare.{same}
 use Rattle.text.specs.Scan.{before, up_to, Ends}
-use Rattle.text.specs.Sames.{no_true, same_eq}
+use Rattle.text.specs.Sames.{same_eq}
 use Rattle.fields.specs.Fields.{Dir, Style, Kind, ansi, is_name, is_net, dims_of, dir_of, kind_of}
-use Rattle.fields.specs.Meant.{dims_meant, dir_meant, kind_meant, is_some, dims_is, dir_is, kind_is, dims_known, dir_known, kind_known}
+use Rattle.fields.specs.Meant.{dims_meant, dir_meant, kind_meant, dims_is, dir_is, kind_is}
 use Rattle.fields.specs.Splits.{split_step, cut_from, cut_more, cut_last}
 use Rattle.fields.specs.Names.{name_not_with, net_not_with}
 use Rattle.fields.specs.declared.Dims.{Dims}
@@ -108,10 +108,6 @@ conn_none k w i p n = last_field w (λ fs. conn_of (k ∷ fs) ≡ None) (rw (i, 
     go x y (z ∷ zs) = refl
 
 -- ---- as the code tests them: a is where the first field ends, b where the second does
-some_not : {A : Type 0} (o : Option A) (k : Bool) → k ≡ is_some o → not k ≡ true → o ≡ None
-some_not None k e h = refl
-some_not (Some a) k e h = absurd (no_true (sym (not-true k h) ∙ e))
-
 module _ (v : Bytes) (a : ℕ) (at : Ends (0 + up_to space (drop 0 v)) (length v) a) where
   one : a ≡ length v → fields v ≡ v ∷ []
   one l = cut_last space v 0 a at l
@@ -135,25 +131,20 @@ module _ (v : Bytes) (a : ℕ) (at : Ends (0 + up_to space (drop 0 v)) (length v
   conn_one c l e = rw (one l) e
 
   module _ (l : a ≡ length v → ⊥) (p : Bytes) (ep : p ≡ take a (drop 0 v)) where
-    module _ (d : Dir·code) (ed : dir_meant d ≡ dir_of p) (k : Bool) (ek : k ≡ is_some (dir_meant d)) where
-      port_is : port_of ansi (fields v) ≡ as_port ansi (dir_meant d) (drop (a + 1) v)
-      port_is = rw (two l, port_last ansi (take a v) (drop (a + 1) v), ed, ep)
+    port_is : (o : Option Dir) → o ≡ dir_of p → port_of ansi (fields v) ≡ as_port ansi o (drop (a + 1) v)
+    port_is o e = rw (two l, port_last ansi (take a v) (drop (a + 1) v), e, ep)
 
-      pub port_dir : not k ≡ true → None ≡ port_of ansi (fields v)
-      port_dir h = sym (port_is ∙ rw (some_not (dir_meant d) k ek h))
+    pub port_dir : dir_meant None ≡ dir_of p → None ≡ port_of ansi (fields v)
+    port_dir e = sym (port_is None e)
 
-      module _ (w : Bytes) (ew : w ≡ drop (a + 1) v) (m : Bool) (em : m ≡ is_name w) where
-        pub port_name : not m ≡ true → None ≡ port_of ansi (fields v)
-        port_name h = sym (port_is ∙ go (dir_meant d))
-          where
-            go : (o : Option Dir) → as_port ansi o (drop (a + 1) v) ≡ None
-            go None = refl
-            go (Some d) = rw (← ew, ← em, not-true m h)
+    module _ (d : Dir·code) (ed : dir_meant (Some d) ≡ dir_of p) (w : Bytes) (ew : w ≡ drop (a + 1) v) (m : Bool) (em : m ≡ is_name w) where
+      pub port_name : not m ≡ true → None ≡ port_of ansi (fields v)
+      port_name h = sym (port_is (Some (dir_is d)) ed ∙ rw (← ew, ← em, not-true m h))
 
-        pub port_good : not k ≡ false → not m ≡ false → Some (record { dir = dir_is d; name = drop (a + 1) v }) ≡ port_of ansi (fields v)
-        port_good g h =
-            let e : is_name (drop (a + 1) v) ≡ true = ap is_name (sym ew) ∙ (sym em ∙ not-false m h) in
-            sym (port_is ∙ rw (dir_known d k ek g, e))
+      pub port_good : not m ≡ false → Some (record { dir = dir_is d; name = drop (a + 1) v }) ≡ port_of ansi (fields v)
+      port_good h =
+          let e : is_name (drop (a + 1) v) ≡ true = ap is_name (sym ew) ∙ (sym em ∙ not-false m h) in
+          sym (port_is (Some (dir_is d)) ed ∙ rw e)
 
   module _ (l : a ≡ length v → ⊥) (b : ℕ) (bt : Ends (a + 1 + up_to space (drop (a + 1) v)) (length v) b) where
     two_only : b ≡ length v → fields v ≡ take a v ∷ drop (a + 1) v ∷ []
@@ -177,63 +168,44 @@ module _ (v : Bytes) (a : ℕ) (at : Ends (0 + up_to space (drop 0 v)) (length v
     name_within = omega (arith, second_from, bt.within)
 
     module _ (h : b ≡ length v → ⊥) (p : Bytes) (ep : p ≡ take a (drop 0 v)) where
-      module _ (kind : Kind·code) (ek : kind_meant kind ≡ kind_of p) (x : Bool) (ex : x ≡ is_some (kind_meant kind)) where
-        pub decl_kind : not x ≡ true → None ≡ decl_of (fields v)
-        decl_kind g = sym (rw (three h, decl_last (take a v) (take (b - (a + 1)) (drop (a + 1) v)) (drop (b + 1) v), ← ep, ← ek, some_not (kind_meant kind) x ex g))
+      decl_is : (o : Option Kind) → o ≡ kind_of p → (q : Bytes) → q ≡ take (b - (a + 1)) (drop (a + 1) v) → decl_of (fields v) ≡ as_decl o (dims_of q) (drop (b + 1) v)
+      decl_is o e q eq = rw (three h, decl_last (take a v) (take (b - (a + 1)) (drop (a + 1) v)) (drop (b + 1) v), ← ep, ← eq, e)
 
-        module _ (q : Bytes) (eq : q ≡ take (b - (a + 1)) (drop (a + 1) v)) (d : Dims) (ed : dims_meant d ≡ dims_of q) (y : Bool) (ey : y ≡ is_some (dims_meant d)) where
-          decl_is : decl_of (fields v) ≡ as_decl (kind_meant kind) (dims_meant d) (drop (b + 1) v)
-          decl_is = rw (three h, decl_last (take a v) (take (b - (a + 1)) (drop (a + 1) v)) (drop (b + 1) v), ← ep, ← eq, ek, ed)
+      pub decl_kind : kind_meant None ≡ kind_of p → None ≡ decl_of (fields v)
+      decl_kind e = sym (decl_is None e (take (b - (a + 1)) (drop (a + 1) v)) refl)
 
-          pub decl_dims : not y ≡ true → None ≡ decl_of (fields v)
-          decl_dims g = sym (decl_is ∙ rw (some_not (dims_meant d) y ey g) (go (kind_meant kind)))
-            where
-              go : (o : Option Kind) → as_decl o None (drop (b + 1) v) ≡ None
-              go None = refl
-              go (Some k) = refl
+      module _ (kind : Kind·code) (ek : kind_meant (Some kind) ≡ kind_of p) (q : Bytes) (eq : q ≡ take (b - (a + 1)) (drop (a + 1) v)) where
+        pub decl_dims : dims_meant None ≡ dims_of q → None ≡ decl_of (fields v)
+        decl_dims e = sym (decl_is (Some (kind_is kind)) ek q eq ∙ rw (← e))
 
-          module _ (w : Bytes) (ew : w ≡ drop (b + 1) v) (m : Bool) (em : m ≡ is_name w) where
-            pub decl_name : not m ≡ true → None ≡ decl_of (fields v)
-            decl_name g = sym (decl_is ∙ go (kind_meant kind) (dims_meant d))
-              where
-                go : (o : Option Kind) (o' : Option Bool) → as_decl o o' (drop (b + 1) v) ≡ None
-                go None o' = refl
-                go (Some k) None = refl
-                go (Some k) (Some d) = rw (← ew, ← em, not-true m g)
+        module _ (d : Dims) (ed : dims_meant (Some d) ≡ dims_of q) (w : Bytes) (ew : w ≡ drop (b + 1) v) (m : Bool) (em : m ≡ is_name w) where
+          pub decl_name : not m ≡ true → None ≡ decl_of (fields v)
+          decl_name g = sym (decl_is (Some (kind_is kind)) ek q eq ∙ rw (← ed, ← ew, ← em, not-true m g))
 
-            pub decl_good : not x ≡ false → not y ≡ false → not m ≡ false → Some (record { kind = kind_is kind; dims = dims_is d; name = drop (b + 1) v }) ≡ decl_of (fields v)
-            decl_good gx gy g =
-                let e : is_name (drop (b + 1) v) ≡ true = ap is_name (sym ew) ∙ (sym em ∙ not-false m g) in
-                sym (decl_is ∙ rw (kind_known kind x ex gx, dims_known d y ey gy, e))
+          pub decl_good : not m ≡ false → Some (record { kind = kind_is kind; dims = dims_is d; name = drop (b + 1) v }) ≡ decl_of (fields v)
+          decl_good g =
+              let e : is_name (drop (b + 1) v) ≡ true = ap is_name (sym ew) ∙ (sym em ∙ not-false m g) in
+              sym (decl_is (Some (kind_is kind)) ek q eq ∙ rw (← ed, e))
 
-      module _ (d : Dims) (ed : dims_meant d ≡ dims_of p) (y : Bool) (ey : y ≡ is_some (dims_meant d)) where
-        inst_is_lem : inst_of (fields v) ≡ as_inst (dims_meant d) (take (b - (a + 1)) (drop (a + 1) v)) (drop (b + 1) v)
-        inst_is_lem = rw (three h, inst_last (take a v) (take (b - (a + 1)) (drop (a + 1) v)) (drop (b + 1) v), ← ep, ed)
+      inst_is_lem : (o : Option Bool) → o ≡ dims_of p → inst_of (fields v) ≡ as_inst o (take (b - (a + 1)) (drop (a + 1) v)) (drop (b + 1) v)
+      inst_is_lem o e = rw (three h, inst_last (take a v) (take (b - (a + 1)) (drop (a + 1) v)) (drop (b + 1) v), ← ep, e)
 
-        pub inst_dims : not y ≡ true → None ≡ inst_of (fields v)
-        inst_dims g = sym (inst_is_lem ∙ rw (some_not (dims_meant d) y ey g))
+      pub inst_dims : dims_meant None ≡ dims_of p → None ≡ inst_of (fields v)
+      inst_dims e = sym (inst_is_lem None e)
 
-        module _ (q : Bytes) (eq : q ≡ take (b - (a + 1)) (drop (a + 1) v)) (m : Bool) (em : m ≡ is_name q) where
-          pub inst_name : not m ≡ true → None ≡ inst_of (fields v)
-          inst_name g = sym (inst_is_lem ∙ go (dims_meant d))
-            where
-              go : (o : Option Bool) → as_inst o (take (b - (a + 1)) (drop (a + 1) v)) (drop (b + 1) v) ≡ None
-              go None = refl
-              go (Some d) = rw (← eq, ← em, not-true m g)
+      module _ (d : Dims) (ed : dims_meant (Some d) ≡ dims_of p) (q : Bytes) (eq : q ≡ take (b - (a + 1)) (drop (a + 1) v)) (m : Bool) (em : m ≡ is_name q) where
+        pub inst_name : not m ≡ true → None ≡ inst_of (fields v)
+        inst_name g = sym (inst_is_lem (Some (dims_is d)) ed ∙ rw (← eq, ← em, not-true m g))
 
-          module _ (w : Bytes) (ew : w ≡ drop (b + 1) v) (n : Bool) (en : n ≡ is_name w) where
-            pub inst_type : not n ≡ true → None ≡ inst_of (fields v)
-            inst_type g = sym (inst_is_lem ∙ go (dims_meant d))
-              where
-                go : (o : Option Bool) → as_inst o (take (b - (a + 1)) (drop (a + 1) v)) (drop (b + 1) v) ≡ None
-                go None = refl
-                go (Some d) = rw (← ew, ← en, not-true n g, and-false)
+        module _ (w : Bytes) (ew : w ≡ drop (b + 1) v) (n : Bool) (en : n ≡ is_name w) where
+          pub inst_type : not n ≡ true → None ≡ inst_of (fields v)
+          inst_type g = sym (inst_is_lem (Some (dims_is d)) ed ∙ rw (← ew, ← en, not-true n g, and-false))
 
-            pub inst_good : not y ≡ false → not m ≡ false → not n ≡ false → Some (record { dims = dims_is d; name = take (b - (a + 1)) (drop (a + 1) v); type = drop (b + 1) v; conns = [] }) ≡ inst_of (fields v)
-            inst_good gy g g' =
-                let e : is_name (drop (b + 1) v) ≡ true = ap is_name (sym ew) ∙ (sym en ∙ not-false n g') in
-                let f : is_name (take (b - (a + 1)) (drop (a + 1) v)) ≡ true = ap is_name (sym eq) ∙ (sym em ∙ not-false m g) in
-                sym (inst_is_lem ∙ rw (dims_known d y ey gy, e, f))
+          pub inst_good : not m ≡ false → not n ≡ false → Some (record { dims = dims_is d; name = take (b - (a + 1)) (drop (a + 1) v); type = drop (b + 1) v; conns = [] }) ≡ inst_of (fields v)
+          inst_good g g' =
+              let e : is_name (drop (b + 1) v) ≡ true = ap is_name (sym ew) ∙ (sym en ∙ not-false n g') in
+              let f : is_name (take (b - (a + 1)) (drop (a + 1) v)) ≡ true = ap is_name (sym eq) ∙ (sym em ∙ not-false m g) in
+              sym (inst_is_lem (Some (dims_is d)) ed ∙ rw (e, f))
 
   -- a connection of more than one field; t is the first field beside a word
   module _ (l : a ≡ length v → ⊥) (p : Bytes) (ep : p ≡ take a (drop 0 v)) where

@@ -32,7 +32,7 @@ pub struct InstForm {
     pub kind: usize,
 }
 
-// A connection: PORT and NET by their offsets, PORT with its length where NET follows.
+// A connection: PORT and NET by their offsets, PORT with its length where NET follows. Four kinds of line, none of them a missing one: no option.
 #[derive(PartialEq, Eq, Clone, Copy, Debug)]
 pub enum ConnForm {
     Star,
@@ -42,6 +42,7 @@ pub enum ConnForm {
 }
 
 // The port of a port line's value, in a module whose style allows every direction.
+#[tactic(auto, using(crate::proofs::Forms::ports))]
 pub fn port_form(v: &[u8]) -> Option<PortForm>
     ensures { port_meant v.now result ≡ port_of ansi (Lines·fields v.now) }
 {
@@ -50,10 +51,7 @@ pub fn port_form(v: &[u8]) -> Option<PortForm>
         return None;
     }
     let name = a + 1;
-    let dir = fields::read_dir(text::part::part(v, 0, a));
-    if !fields::known_dir(dir) {
-        return None;
-    }
+    let dir = fields::read_dir(text::part::part(v, 0, a))?;
     if !fields::is_name(text::part::rest(v, name)) {
         return None;
     }
@@ -68,13 +66,14 @@ pub fn may_have(style: Style, dir: Dir) -> bool
         Style::Ansi => true,
         Style::Nonansi => match dir {
             Dir::In | Dir::Out | Dir::Inout | Dir::Ref => false,
-            Dir::None | Dir::Bad => true,
+            Dir::None => true,
         },
         Style::Empty => false,
     }
 }
 
 // The declaration of a declaration line's value.
+#[tactic(auto, using(crate::proofs::Forms::decls))]
 pub fn decl_form(v: &[u8]) -> Option<DeclForm>
     ensures { decl_meant v.now result ≡ decl_of (Lines·fields v.now) }
 {
@@ -88,14 +87,8 @@ pub fn decl_form(v: &[u8]) -> Option<DeclForm>
         return None;
     }
     let name = b + 1;
-    let kind = fields::read_kind(text::part::part(v, 0, a));
-    if !fields::known_kind(kind) {
-        return None;
-    }
-    let dims = fields::read_dims(text::part::part(v, second, b - second));
-    if !fields::known_dims(dims) {
-        return None;
-    }
+    let kind = fields::read_kind(text::part::part(v, 0, a))?;
+    let dims = fields::read_dims(text::part::part(v, second, b - second))?;
     if !fields::is_name(text::part::rest(v, name)) {
         return None;
     }
@@ -103,6 +96,7 @@ pub fn decl_form(v: &[u8]) -> Option<DeclForm>
 }
 
 // The instance of an instance line's value.
+#[tactic(auto, using(crate::proofs::Forms::insts))]
 pub fn inst_form(v: &[u8]) -> Option<InstForm>
     ensures { (inst_meant v.now result ≡ inst_of (Lines·fields v.now)) × InstIn v.now result }
 {
@@ -116,10 +110,7 @@ pub fn inst_form(v: &[u8]) -> Option<InstForm>
         return None;
     }
     let kind = b + 1;
-    let dims = fields::read_dims(text::part::part(v, 0, a));
-    if !fields::known_dims(dims) {
-        return None;
-    }
+    let dims = fields::read_dims(text::part::part(v, 0, a))?;
     let len = b - name;
     if !fields::is_name(text::part::part(v, name, len)) {
         return None;

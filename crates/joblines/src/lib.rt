@@ -52,7 +52,7 @@ impl Refusal {
     }
 }
 
-// Whether a line is `top=NAME`.
+// Whether a line is `top=NAME`. One function for this and for `is_start` would take the key and the test of each, and be no plainer.
 pub fn is_top(line: &[u8]) -> bool
     ensures { result ≡ (starts_with (ascii "top=") line.now && is_name (drop 4 line.now)) }
 {
@@ -95,7 +95,8 @@ pub fn port_line(line: &[u8], style: Style, count: usize) -> Result<bool, Refusa
     Ok(true)
 }
 
-// Whether a line is a declaration line, good in a module that has `count` declarations.
+// Whether a line is a declaration line, good in a module that has `count` declarations. One function for this and for `conn_line` would take the key,
+// the form and the limit of each, and be no plainer.
 #[tactic(auto, using(crate::proofs::Looks::decl_lines))]
 pub fn decl_line(line: &[u8], count: usize) -> Result<bool, Refusal>
     ensures { numbered result ≡ verdict (decl_read count line.now) }

@@ -7,10 +7,10 @@ ghost use Rattle.jobindex.specs.Index.{index_size, bytes_at, job_of};
 ghost use Rattle.jobindex.specs.Stores.{with_name};
 ghost use Rattle.jobsteps.specs.State.{line_of, job_in, Outside, Inside, BytesDue, StyleDue, PortsDue, DeclsDue, InstsDue, Alone, Asked, Stepped, file_on, module_on, port_on, decl_on, conn_on, inst_on};
 
-use jobindex::{Header, Open, Span};
+use jobindex::{Header, Index, Open, Span};
 use joblines::Refusal;
 
-// Which lines are due.
+// Which lines are due. `Nothing` is one state of eleven, in which a job is whole: an option around the other ten is no plainer.
 #[derive(PartialEq, Eq, Clone, Copy, Debug)]
 pub enum Due {
     Top,
@@ -35,7 +35,8 @@ pub struct Step {
     pub opened: Open,
 }
 
-// `top=NAME` is due.
+// `top=NAME` is due. One function for this and for `start_step` would take the test, the key's length, the part of the header and what is due next of each,
+// and be no plainer.
 pub fn top_step(
     job: &[u8],
     from: usize,
@@ -125,27 +126,27 @@ pub fn start_step(
     })
 }
 
-// The first `file=PATH` is due.
+// The first `file=PATH` is due. One function for this and for `module_step` would take the count, the test and the step of each, and be no plainer.
 pub fn file_step(
-    job: &[u8],
-    index: &[u32],
+    index: &Index,
     from: usize,
     end: usize,
     head: Header,
     opened: Open,
 ) -> Result<Step, Refusal>
-    requires { Asked job.now index.now from end (Outside job.now head from) }
-    ensures { Stepped job.now index.now index.now from (first_of (file_line ∷ []) (job_of job.now index.now head) (line_of job.now from end) (drop (end + 1) job.now)) result }
+    requires { Asked index.now.job.now index.now.rows.now from end (Outside index.now.job.now head from) }
+    ensures { Stepped index.now.job.now index.now.rows.now index.now.rows.now from (first_of (file_line ∷ []) (job_of index.now.job.now index.now.rows.now head) (line_of index.now.job.now from end) (drop (end + 1) index.now.job.now)) result }
 {
-    let line = text::part::part(job, from, end - from);
+    let line = text::part::part(index.job, from, end - from);
     let count = head.files;
-    if jobindex::look::file_line(job, index, line, count)? {
+    if jobindex::look::file_line(index, line, count)? {
         return Ok(file_on(line, from, end, head, opened));
     }
     Err(Refusal::Malformed)
 }
 
-// A file's path is read, and its bytes are due.
+// A file's path is read, and its bytes are due. One function for this and for `module_on` would take the key's length and the variant of `Due`, and be
+// no plainer.
 fn file_on(line: &[u8], from: usize, end: usize, head: Header, opened: Open) -> Step
     requires { (from < 2 ^ 32) × (end < 2 ^ 32) }
     ensures { result ≡ file_on line.now from end head opened }
@@ -203,39 +204,37 @@ pub fn bytes_step(
 
 // Another file, or the first module, is due.
 pub fn more_step(
-    job: &[u8],
-    index: &[u32],
+    index: &Index,
     from: usize,
     end: usize,
     head: Header,
     opened: Open,
 ) -> Result<Step, Refusal>
-    requires { Asked job.now index.now from end (Outside job.now head from) }
-    ensures { Stepped job.now index.now index.now from (first_of (file_line ∷ module_line ∷ []) (job_of job.now index.now head) (line_of job.now from end) (drop (end + 1) job.now)) result }
+    requires { Asked index.now.job.now index.now.rows.now from end (Outside index.now.job.now head from) }
+    ensures { Stepped index.now.job.now index.now.rows.now index.now.rows.now from (first_of (file_line ∷ module_line ∷ []) (job_of index.now.job.now index.now.rows.now head) (line_of index.now.job.now from end) (drop (end + 1) index.now.job.now)) result }
 {
-    let line = text::part::part(job, from, end - from);
+    let line = text::part::part(index.job, from, end - from);
     let count = head.files;
-    if jobindex::look::file_line(job, index, line, count)? {
+    if jobindex::look::file_line(index, line, count)? {
         return Ok(file_on(line, from, end, head, opened));
     }
-    module_step(job, index, from, end, head, opened)
+    module_step(index, from, end, head, opened)
 }
 
 // A module is due.
 fn module_step(
-    job: &[u8],
-    index: &[u32],
+    index: &Index,
     from: usize,
     end: usize,
     head: Header,
     opened: Open,
 ) -> Result<Step, Refusal>
-    requires { Asked job.now index.now from end (Outside job.now head from) }
-    ensures { Stepped job.now index.now index.now from (first_of (module_line ∷ []) (job_of job.now index.now head) (line_of job.now from end) (drop (end + 1) job.now)) result }
+    requires { Asked index.now.job.now index.now.rows.now from end (Outside index.now.job.now head from) }
+    ensures { Stepped index.now.job.now index.now.rows.now index.now.rows.now from (first_of (module_line ∷ []) (job_of index.now.job.now index.now.rows.now head) (line_of index.now.job.now from end) (drop (end + 1) index.now.job.now)) result }
 {
-    let line = text::part::part(job, from, end - from);
+    let line = text::part::part(index.job, from, end - from);
     let count = head.modules;
-    if jobindex::look::module_line(job, index, line, count)? {
+    if jobindex::look::module_line(index, line, count)? {
         return Ok(module_on(line, from, end, head, opened));
     }
     Err(Refusal::Malformed)
@@ -340,7 +339,7 @@ fn port_on(end: usize, head: Header, opened: Open) -> Step
     }
 }
 
-// In a module, behind a declaration.
+// In a module, behind a declaration. One function for this and for `conns_step` would take the count, the test and the step of each, and be no plainer.
 pub fn decls_step(
     job: &[u8],
     index: &mut [u32],
@@ -429,7 +428,14 @@ fn insts_step(
 {
     let line = text::part::part(job, from, end - from);
     let count = opened.ninsts;
-    if let Some(name) = jobindex::look::inst_line(job, &index[..], line, count)? {
+    if let Some(name) = jobindex::look::inst_line(
+        &Index {
+            job,
+            rows: &index[..],
+        },
+        line,
+        count,
+    )? {
         return Ok(inst_on(index, from + 5 + name.at, name.len, end, head, opened));
     }
     leave_step(job, index, from, end, head, opened)
@@ -471,27 +477,35 @@ fn leave_step(
     jobindex::put_module(index, modules, opened);
     let mut head = head;
     head.modules = modules + 1;
-    next_step(job, &index[..], from, end, head, opened)
+    next_step(
+        &Index {
+            job,
+            rows: &index[..],
+        },
+        from,
+        end,
+        head,
+        opened,
+    )
 }
 
 // Another module, or `end=`, is due.
 fn next_step(
-    job: &[u8],
-    index: &[u32],
+    index: &Index,
     from: usize,
     end: usize,
     head: Header,
     opened: Open,
 ) -> Result<Step, Refusal>
-    requires { Asked job.now index.now from end (Outside job.now head from) }
-    ensures { Stepped job.now index.now index.now from (first_of (module_line ∷ end_line ∷ []) (job_of job.now index.now head) (line_of job.now from end) (drop (end + 1) job.now)) result }
+    requires { Asked index.now.job.now index.now.rows.now from end (Outside index.now.job.now head from) }
+    ensures { Stepped index.now.job.now index.now.rows.now index.now.rows.now from (first_of (module_line ∷ end_line ∷ []) (job_of index.now.job.now index.now.rows.now head) (line_of index.now.job.now from end) (drop (end + 1) index.now.job.now)) result }
 {
-    let line = text::part::part(job, from, end - from);
+    let line = text::part::part(index.job, from, end - from);
     let count = head.modules;
-    if jobindex::look::module_line(job, index, line, count)? {
+    if jobindex::look::module_line(index, line, count)? {
         return Ok(module_on(line, from, end, head, opened));
     }
-    end_step(job, from, end, head, opened)
+    end_step(index.job, from, end, head, opened)
 }
 
 // `end=` is due.

@@ -7,6 +7,7 @@ use tcl::join::join;
 use text::part::{part, place};
 
 // Writes the body of each of the first n files to `files`, says in the numbers where it begins and how long it is, and returns where the last one ends.
+// n files of the index are joined, not all its numbers.
 #[tactic(auto, using(crate::proofs::Turns::turns))]
 pub fn join_files(job: &[u8], files: &mut [u8], nums: &mut [u32], n: usize) -> usize
     requires { Room job.now files.old nums.old n }

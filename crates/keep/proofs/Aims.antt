@@ -28,6 +28,7 @@ use Rattle.actual.specs.declared.Net.{Net}
 use Rattle.actual.specs.declared.Net.TheVariants as net
 use Rattle.texts.specs.Texts.{warning_line}
 use Rattle.texts.specs.Laws.{one_warning}
+use Rattle.format.specs.declared.arg.Wrap.{Wrap}
 use Rattle.format.specs.Args.{arg_of, name_arg, wrapped_arg}
 use Rattle.format.specs.Laws.{name_arg_lem, plain_arg}
 use Rattle.format.specs.declared.arg.Arg.{Arg}
@@ -141,7 +142,7 @@ module _ (warn : Bool) (c : Cover) (out : Bytes) where
   pub plain_warned : (job mem : Bytes) (scope : List Bytes) (top : Bytes) (n : Name) (p : Ref) (a b : Arg) (z₀ z₁ : Out) (out' : Bytes) (o : ℕ) (r : Cover)
       → z₁ ≡ emit z₀ (fill (ascii "warning: isolation strategy '{0}': port '{1}' actual is not a plain net; not simulated\n") (arg_of job mem scope top a) (arg_of job mem scope top b) [] [] [])
       → z₀ ≡ out ▸ c.at → out' ▸ o ≡ z₁
-      → a ≡ name_arg n → b ≡ wrapped_arg 0 p → r ≡ warned_cover c o → not warn ≡ false → Remarked warn (not_plain (name_of mem n) (text_of job mem p)) c out r out'
+      → a ≡ name_arg n → b ≡ wrapped_arg Wrap.Plain p → r ≡ warned_cover c o → not warn ≡ false → Remarked warn (not_plain (name_of mem n) (text_of job mem p)) c out r out'
   plain_warned job mem scope top n p a b z₀ z₁ out' o r e₁ e₀ k f g h w =
       let e : out' ▸ o ≡ emit (out ▸ c.at) (fill (ascii "warning: isolation strategy '{0}': port '{1}' actual is not a plain net; not simulated\n") (arg_of job mem scope top a) (arg_of job mem scope top b) [] [] []) = k ∙ (rw e₀ at e₁) in
       let s : arg_of job mem scope top a ≡ name_of mem n = ap (arg_of job mem scope top) f ∙ name_arg_lem job mem scope top n in

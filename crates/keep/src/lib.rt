@@ -10,16 +10,20 @@ ghost use Rattle.isolated.specs.Table.{Fits, port_row, port_ref, kept_in, keys_o
 ghost use Rattle.keep.specs.Gains.{not_plain, gain_of};
 ghost use Rattle.keep.specs.Held.{held_span, held_name, held_part};
 ghost use Rattle.keep.specs.Covered.{more, refused_cover, warned_cover, Ready, Remarked, KeepSeen, with_net, aim_of, Answer};
+ghost use Rattle.spans.specs.Memory.{memory};
 
 use actual::Net;
-use format::arg::{name as name_arg, wrapped};
+use format::arg::{Wrap, name as name_arg, wrapped};
 use format::fill::fill2;
+use format::source::Source;
 use isolated::{Isolated, is_other, port, port_at, put};
-use jobindex::Span as Part;
+use jobindex::{Design, Index, Span as Part};
 use names::name::Name;
 use out::emit::Text;
 use refs::{Ref, no_name, same_refs};
-use spans::span::{Span, least};
+use scope::ScopePath;
+use spans::span::{Memory, Span};
+use text::part::Rows;
 
 // How many ports are isolated, how many warnings there are, and where the text ends that is written; or more ports than allowed.
 #[derive(Clone, Copy)]
@@ -32,29 +36,29 @@ pub struct Cover {
 
 // A span of the stored memory in numbers that can be held: what lies behind the end has no bytes.
 #[tactic(auto, using(crate::proofs::Aims::numbers))]
-fn held_span(files: &[u8], area: &[u8], s: Span) -> Span
-    requires { length files.now + length area.now < 2 ^ 31 }
-    ensures { result ≡ held_span (files.now ++ area.now) s }
+fn held_span(mem: &Memory, s: Span) -> Span
+    requires { length mem.now.files.now + length mem.now.area.now < 2 ^ 31 }
+    ensures { result ≡ held_span (memory mem.now) s }
 {
-    let size = files.len() + area.len();
+    let size = mem.files.len() + mem.area.len();
     Span {
-        at: least(s.at, size),
-        len: least(s.len, size),
+        at: s.at.min(size),
+        len: s.len.min(size),
     }
 }
 
 // A name in numbers that can be held.
 #[tactic(auto, using(crate::proofs::Aims::made))]
-pub fn held(files: &[u8], area: &[u8], n: Name) -> Name
-    requires { length files.now + length area.now < 2 ^ 31 }
-    ensures { result ≡ held_name (files.now ++ area.now) n }
+pub fn held(mem: &Memory, n: Name) -> Name
+    requires { length mem.now.files.now + length mem.now.area.now < 2 ^ 31 }
+    ensures { result ≡ held_name (memory mem.now) n }
 {
     let s = n.scope;
     let w = n.word;
     Name {
-        scope: held_span(files, area, s),
+        scope: held_span(mem, s),
         sep: n.sep,
-        word: held_span(files, area, w),
+        word: held_span(mem, w),
         form: n.form,
     }
 }
@@ -65,40 +69,32 @@ pub fn held_part(job: &[u8], s: Part) -> Part
     ensures { result ≡ held_part job.now s }
 {
     Part {
-        at: least(s.at, job.len()),
-        len: least(s.len, job.len()),
+        at: s.at.min(job.len()),
+        len: s.len.min(job.len()),
     }
 }
 
 // Whether the port of row k is this one, as a text.
 #[tactic(auto, using(crate::proofs::Aims::rows))]
-fn is_row<'a>(job: &[u8], files: &'a [u8], area: &'a [u8], ports: &[u32], k: usize, p: Ref) -> bool
+fn is_row<'a>(job: &[u8], mem: &Memory<'a>, ports: &[u32], k: usize, p: Ref) -> bool
     requires { k < 256 }
-    ensures { result ≡ same (text_of job.now (files.now ++ area.now) p) (text_of job.now (files.now ++ area.now) (port_ref (port_row ports.now k))) }
+    ensures { result ≡ same (text_of job.now (memory mem.now) p) (text_of job.now (memory mem.now) (port_ref (port_row ports.now k))) }
 {
     let x = port_at(ports, k);
-    same_refs(job, files, area, p, port(x))
+    same_refs(job, mem, p, port(x))
 }
 
 // Whether a port, which as a text is p, is isolated already.
 #[tactic(auto, using(crate::proofs::Aims::seeks))]
-fn is_covered<'a>(
-    job: &[u8],
-    files: &'a [u8],
-    area: &'a [u8],
-    ports: &[u32],
-    n: usize,
-    x: Isolated,
-    p: Ref,
-) -> bool
-    requires { (n ≤ 256) × (p ≡ port_ref x) }
-    ensures { result ≡ is_in (text_of job.now (files.now ++ area.now) p) (keys_of (kept_in job.now (files.now ++ area.now) ports.now n)) }
+fn is_covered<'a>(job: &[u8], mem: &Memory<'a>, ports: &Rows, x: Isolated, p: Ref) -> bool
+    requires { (ports.now.n ≤ 256) × (p ≡ port_ref x) }
+    ensures { result ≡ is_in (text_of job.now (memory mem.now) p) (keys_of (kept_in job.now (memory mem.now) ports.now.rows.now ports.now.n)) }
 {
-    for k in 0..n {
-        if is_other(job, files, area, ports, k, x) {
+    for k in 0..ports.n {
+        if is_other(job, mem, ports.rows, k, x) {
             continue;
         }
-        if is_row(job, files, area, ports, k, p) {
+        if is_row(job, mem, ports.rows, k, p) {
             return true;
         }
     }
@@ -159,17 +155,16 @@ fn keep(ports: &mut [u32], c: Cover, x: Isolated) -> Cover
 
 // A warning more: a port of an instance has no plain net.
 #[tactic(auto, using(crate::proofs::Aims::warns))]
-fn not_plain(
+fn not_plain<'a>(
     out: &mut [u8],
     warn: bool,
-    job: &[u8],
-    files: &[u8],
-    area: &[u8],
+    job: &'a [u8],
+    mem: &Memory<'a>,
     c: Cover,
     name: Name,
     p: Ref,
 ) -> Cover
-    ensures { Remarked warn (not_plain (name_of (files.now ++ area.now) name) (text_of job.now (files.now ++ area.now) p)) c out.old result out.new }
+    ensures { Remarked warn (not_plain (name_of (memory mem.now) name) (text_of job.now (memory mem.now) p)) c out.old result out.new }
 {
     if !warn {
         return warned(c, c.at);
@@ -178,14 +173,17 @@ fn not_plain(
     fill2(
         &mut text,
         b"warning: isolation strategy '{0}': port '{1}' actual is not a plain net; not simulated\n",
-        job,
-        files,
-        area,
-        b"",
-        0,
-        b"",
+        &Source {
+            design: Design {
+                index: Index { job, rows: &[] },
+                count: 0,
+            },
+            mem: *mem,
+            scope: ScopePath { over: b"", from: 0 },
+            top: b"",
+        },
         name_arg(name),
-        wrapped(0, p),
+        wrapped(Wrap::Plain, p),
     );
     let o = text.end();
     warned(c, o)
@@ -227,8 +225,7 @@ pub fn aim<'a>(
     out: &mut [u8],
     warn: bool,
     job: &[u8],
-    files: &'a [u8],
-    area: &'a [u8],
+    mem: &Memory<'a>,
     ports: &mut [u32],
     c: Cover,
     name: Name,
@@ -236,15 +233,15 @@ pub fn aim<'a>(
     net: Net,
 ) -> Cover
     requires { Ready c ports.old × (Fits x × (length job.now < 2 ^ 32)) }
-    ensures { Answer job.now (files.now ++ area.now) warn c out.old (gain_of x.strategy (name_of (files.now ++ area.now) name) (aim_of job.now (files.now ++ area.now) x net) (kept_in job.now (files.now ++ area.now) ports.old c.ports)) result out.new ports.new }
+    ensures { Answer job.now (memory mem.now) warn c out.old (gain_of x.strategy (name_of (memory mem.now) name) (aim_of job.now (memory mem.now) x net) (kept_in job.now (memory mem.now) ports.old c.ports)) result out.new ports.new }
 {
     let p = port(x);
     let n = c.ports;
-    if is_covered(job, files, area, ports, n, x, p) {
+    if is_covered(job, mem, &Rows { rows: ports, n }, x, p) {
         return c;
     }
     match net {
-        Net::None => not_plain(out, warn, job, files, area, c, name, p),
+        Net::None => not_plain(out, warn, job, mem, c, name, p),
         Net::Own => keep(ports, c, x),
         Net::Of(s) => keep_net(job, ports, c, x, s),
     }

@@ -85,7 +85,8 @@ fn span_in(v: &[u8], e: usize, n: usize, len: usize) -> Span
     }
 }
 
-// The port of a line, if it is a port line: offsets are in its value.
+// The port of a line, if it is a port line: offsets are in its value. One function for this and the next three would take the key, and the form as a
+// closure with a contract of its own, and be no plainer.
 #[tactic(auto, using(crate::proofs::Turns::port_heres))]
 fn port_here(line: &[u8]) -> Option<PortForm>
     ensures { port_meant (drop 5 line.now) result ≡ port_here line.now }

@@ -3,6 +3,7 @@ use Prim.Native.Nat.{ℕ, suc, ◌+◌, ◌-◌, ◌%◌, ◌<◌, ◌≤◌, �
 use mathlib.Core.Path.{◌≡◌, refl, sym, ap, ◌∙◌}
 use mathlib.Core.Bool.{Bool, true, false, ◌||◌}
 use mathlib.Core.List.{List, [], ◌∷◌, ◌++◌, append_assoc}
+use Rattle.std.specs.Prelude.{Result, Ok, Err}
 use native.Mathlib.Omega.{arith}
 use native.Mathlib.Numerals.{add-one}
 use lib.ListN.{length, take, drop, get_or, set, length-append, length-set, drop_of_length-le}
@@ -12,7 +13,6 @@ use Rattle.text.specs.Ascii.{Bytes}
 use Rattle.text.specs.Compare.{same}
 use Rattle.text.specs.Lists.{here}
 use Rattle.text.specs.Scan.{any}
-use Rattle.text.specs.Sames.{no_true}
 use Rattle.out.specs.Emit.{◌▸◌, emit}
 use Rattle.names.specs.Name.{name_of}
 use Rattle.names.specs.declared.name.Name.{Name}
@@ -21,10 +21,11 @@ use Rattle.design.specs.Paths.{dotted}
 use Rattle.jobindex.specs.Index.{section}
 use Rattle.paths.specs.Pieces.{Sized}
 use Rattle.pathnumber.specs.Number.{number, number_on}
+use Rattle.listing.specs.declared.TooMany.{TooMany}
 use Rattle.listing.specs.declared.Walk.{Walk}
 use Rattle.listing.specs.Flags.{flag_low, flagged_on}
 use Rattle.listing.specs.Written.{front_kept, piece_there}
-use Rattle.listing.specs.Listing.{cut, paths_of, flag_place, Flagged, cost, cost_on, past, Within, Ready, NewGiven, Answer, ascends_on, cut_same, cut_on, cut_length}
+use Rattle.listing.specs.Listing.{cut, paths_of, flag_place, Flagged, cost, cost_on, Ready, NewGiven, Answer, ascends_on, cut_same, cut_on, cut_length}
 use Rattle.walk.proofs.Retained.{length_dotted}
 
 -- ---- among the rows
@@ -90,17 +91,8 @@ module _ (mem : Bytes) (e : Name) (elen : ℕ) (tail name : Bytes) (flag prefix 
   old_long : length old ≡ s.count
   old_long = cut_length text 0 (take s.count ends) ∙ length-take-le s.count ends (omega (arith, rd.few, rd.ends_long))
 
-  over_limit : (r : Walk) → r ≡ past → (Within prefix s.entered (old ++ (path ∷ [])) → ⊥) → Answer prefix s.entered (old ++ (path ∷ [])) r text ends
-  over_limit r e out =
-      rw e (record {
-        ready = λ o. absurd (no_true (sym o));
-        entered_is = λ o. absurd (no_true (sym o));
-        paths_are = λ o. absurd (no_true (sym o));
-        refused = λ o w. out w;
-      })
-
-  pub new_many : s.count ≡ 1024 → (r : Walk) → r ≡ past → Answer prefix s.entered (old ++ (path ∷ [])) r text ends
-  new_many m r e = over_limit r e (λ w. omega (arith, w.paths, length-append old (path ∷ []), old_long, m))
+  pub new_many : s.count ≡ 1024 → (e : TooMany) → Answer prefix s.entered (old ++ (path ∷ [])) (Err e) text ends
+  new_many m e w = omega (arith, w.paths, length-append old (path ∷ []), old_long, m)
 
   pub len_fits : length tail + length name < 2 ^ 64
   len_fits = omega (arith, sz.fits)
@@ -117,8 +109,8 @@ module _ (mem : Bytes) (e : Name) (elen : ℕ) (tail name : Bytes) (flag prefix 
   cost_is : cost prefix (old ++ (path ∷ [])) ≡ s.used + (prefix + (elen + (length tail + length name)))
   cost_is = cost_on prefix old path ∙ omega (arith, rd.used_is, path_long)
 
-  pub new_long : 32768 < s.used + (prefix + (elen + (length tail + length name))) → (r : Walk) → r ≡ past → Answer prefix s.entered (old ++ (path ∷ [])) r text ends
-  new_long l r e = over_limit r e (λ w. omega (arith, w.bytes, cost_is))
+  pub new_long : 32768 < s.used + (prefix + (elen + (length tail + length name))) → (e : TooMany) → Answer prefix s.entered (old ++ (path ∷ [])) (Err e) text ends
+  new_long l e w = omega (arith, w.bytes, cost_is)
 
   pub flag_room : (x : ℕ) → flag < length (set ends s.count x)
   flag_room x = omega (arith, g.flag_is, flag_low path, rd.ends_long, length-set ends s.count x)
@@ -161,13 +153,12 @@ module _ (mem : Bytes) (e : Name) (elen : ℕ) (tail name : Bytes) (flag prefix 
             ∙ ap (λ (x : List Bytes). x ++ (path ∷ [])) (cut_same text text' 0 (take s.count ends) s.end rd.ascends (front_kept text text' path s.end o room f))
 
         abbrev made : Walk
-        made = record { over = false; entered = s.entered; count = s.count + 1; end = end; used = s.used + (prefix + (elen + (length tail + length name))); stamp = s.stamp }
+        made = record { entered = s.entered; count = s.count + 1; end = end; used = s.used + (prefix + (elen + (length tail + length name))); stamp = s.stamp }
 
-        pub new_put : Answer prefix s.entered (old ++ (path ∷ [])) made text' ends'
+        pub new_put : Answer prefix s.entered (old ++ (path ∷ [])) (Ok made) text' ends'
         new_put =
             record {
-              ready = λ q. record {
-                going = refl;
+              ready = record {
                 ascends = rw ends_are (ascends_on 0 (take s.count ends) s.end end rd.ascends (omega arith));
                 used_is = sym (ap (cost prefix) new_paths ∙ cost_is);
                 end_low = omega (arith, rd.end_low);
@@ -179,9 +170,8 @@ module _ (mem : Bytes) (e : Name) (elen : ℕ) (tail name : Bytes) (flag prefix 
                 flagged = rw (new_paths, g.flag_is) (flagged_on s.stamp ends old path s.count end rd.flagged (omega (arith, rd.few, m)) rd.ends_long);
                 small = rd.small;
               };
-              entered_is = λ q. refl;
-              paths_are = λ q. new_paths;
-              refused = λ q w. no_true q;
+              entered_is = refl;
+              paths_are = new_paths;
             }
 
 pub ruleset news = (rules, new_many, len_fits, path_fits, cost_fits, used_fits, new_long, flag_room, end_fits, end_small, new_room, new_put)
@@ -203,17 +193,11 @@ module _ (mem : Bytes) (e : Name) (elen : ℕ) (tail name : Bytes) (sz : Sized m
     new_given = record { sized = sz; flag_is = flag_is; ready = rd }
 
   module _ (b : Bool) (eb : b ≡ is_in (dotted (name_of mem e) ++ (tail ++ name)) (paths_of text ends s.count)) where
-    pub add_old : b ≡ true → Answer prefix s.entered (add_new (paths_of text ends s.count) (dotted (name_of mem e) ++ (tail ++ name))) s text ends
+    pub add_old : b ≡ true → Answer prefix s.entered (add_new (paths_of text ends s.count) (dotted (name_of mem e) ++ (tail ++ name))) (Ok s) text ends
     unfolding add_new
-    add_old h =
-        record {
-          ready = λ o. rd;
-          entered_is = λ o. refl;
-          paths_are = λ o. sym (rw (← eb, h));
-          refused = λ o w. no_true (sym rd.going ∙ o);
-        }
+    add_old h = record { ready = rd; entered_is = refl; paths_are = sym (rw (← eb, h)) }
 
-pub add_new_lem : (prefix v : ℕ) (old : List Bytes) (path : Bytes) (r : Walk) (text' : Bytes) (ends' : List ℕ) → Answer prefix v (old ++ (path ∷ [])) r text' ends' → (b : Bool) → b ≡ is_in path old → b ≡ false → Answer prefix v (add_new old path) r text' ends'
+pub add_new_lem : (prefix v : ℕ) (old : List Bytes) (path : Bytes) (r : Result Walk TooMany) (text' : Bytes) (ends' : List ℕ) → Answer prefix v (old ++ (path ∷ [])) r text' ends' → (b : Bool) → b ≡ is_in path old → b ≡ false → Answer prefix v (add_new old path) r text' ends'
 unfolding add_new
 add_new_lem prefix v old path r text' ends' a b eb h = rw (← eb, h) a
 

@@ -1,6 +1,6 @@
 -- How a text and its ends stand for a list of paths, how far a walk has come, and what its answer says: a refusal exactly where a limit is passed, else the paths.
 -- Assumes nothing.
-use Rattle.std.specs.Prelude.{ℕ, suc, ◌+◌, ◌%◌, ◌≤◌, ◌<◌, ◌^◌, ◌≡◌, refl, true, false, List, [], ◌∷◌, ◌++◌, length, take, drop, get_or}
+use Rattle.std.specs.Prelude.{ℕ, suc, ◌+◌, ◌%◌, ◌≤◌, ◌<◌, ◌^◌, ◌≡◌, refl, false, List, [], ◌∷◌, ◌++◌, length, take, drop, get_or, Result, Ok, Err, IsErrAnd}
 use Rattle.std.proofs.Common.{sym, ap, ◌∙◌, arith, take-take}
 use Rattle.text.specs.Ascii.{Bytes}
 use Rattle.text.specs.Lists.{drop_take}
@@ -13,6 +13,7 @@ use Rattle.paths.specs.Pieces.{Sized}
 use Rattle.pathnumber.specs.Number.{number}
 use Rattle.walk.specs.Limits.{most_entered, most_paths, most_path_bytes}
 use Rattle.walk.specs.Walk.{sum_over}
+use Rattle.listing.specs.declared.TooMany.{TooMany}
 use Rattle.listing.specs.declared.Walk.{Walk}
 
 -- ---- the list
@@ -59,14 +60,10 @@ pub record Within (prefix v : ℕ) (ps : List Bytes) : Type 0 where
 -- ---- how far a walk has come
 
 abbrev pub nowhere : ℕ → Walk
-nowhere stamp = record { over = false; entered = 0; count = 0; end = 0; used = 0; stamp = stamp }
-
-abbrev pub past : Walk
-past = record { over = true; entered = 0; count = 0; end = 0; used = 0; stamp = 0 }
+nowhere stamp = record { entered = 0; count = 0; end = 0; used = 0; stamp = stamp }
 
 -- a walk that has passed no limit, with its list in the text and the ends
 pub record Ready (prefix : ℕ) (s : Walk) (text : Bytes) (ends : List ℕ) : Type 0 where
-  pub going : s.over ≡ false
   pub ascends : Ascends 0 (take s.count ends) s.end
   pub used_is : s.used ≡ cost prefix (paths_of text ends s.count)
   pub end_low : s.end ≤ s.used
@@ -84,12 +81,23 @@ pub record NewGiven (mem : Bytes) (e : Name) (elen : ℕ) (tail name : Bytes) (f
   pub flag_is : flag ≡ flag_place (dotted (name_of mem e) ++ (tail ++ name))
   pub ready : Ready prefix s text ends
 
--- the answer of a walk that enters v modules and lists ps
-pub record Answer (prefix v : ℕ) (ps : List Bytes) (r : Walk) (text : Bytes) (ends : List ℕ) : Type 0 where
-  pub ready : r.over ≡ false → Ready prefix r text ends
-  pub entered_is : r.over ≡ false → r.entered ≡ v
-  pub paths_are : r.over ≡ false → paths_of text ends r.count ≡ ps
-  pub refused : r.over ≡ true → Within prefix v ps → ⊥
+-- a walk that has entered v modules and listed ps
+pub record Listed (prefix v : ℕ) (ps : List Bytes) (w : Walk) (text : Bytes) (ends : List ℕ) : Type 0 where
+  pub ready : Ready prefix w text ends
+  pub entered_is : w.entered ≡ v
+  pub paths_are : paths_of text ends w.count ≡ ps
+
+-- the answer of a walk that enters v modules and lists ps: a limit is passed, or it has listed them
+abbrev pub Answer : ℕ → ℕ → List Bytes → Result Walk TooMany → Bytes → List ℕ → Type 0
+Answer prefix v ps (Ok w) text ends = Listed prefix v ps w text ends
+Answer prefix v ps (Err _) text ends = Within prefix v ps → ⊥
+
+-- ---- laws: answers
+
+-- a refusal that is handed on
+pub refused : (prefix v : ℕ) (ps : List Bytes) (x : TooMany) (r : Result Walk TooMany) (text : Bytes) (ends : List ℕ) → IsErrAnd r (λ y. y ≡ x) → (Within prefix v ps → ⊥) → Answer prefix v ps r text ends
+refused prefix v ps x (Err _) text ends h out = out
+refused prefix v ps x (Ok _) text ends h out = absurd h
 
 -- ---- laws: places that ascend
 

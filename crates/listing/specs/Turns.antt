@@ -1,14 +1,14 @@
 -- Laws: a walk, turn by turn. What the whole comes to is what was listed so far and what is left; a limit that is passed stays passed.
 -- Assumes nothing.
-use Rattle.std.specs.Prelude.{ℕ, ◌+◌, ◌≤◌, ◌≡◌, refl, Bool, true, false, cond, List, [], ◌∷◌, ◌++◌, length}
+use Rattle.std.specs.Prelude.{ℕ, ◌+◌, ◌≤◌, ◌≡◌, refl, Bool, true, false, cond, List, [], ◌∷◌, ◌++◌, length, Result, IsErrAnd}
 use Rattle.std.proofs.Math.Path.{sym, ap}
 use Rattle.std.proofs.Common.{◌∙◌, arith, add-zero, length-append}
 use Rattle.text.specs.Ascii.{Bytes}
-use Rattle.text.specs.Sames.{no_true}
 use Rattle.design.specs.Lists.{is_in, add_new, add_all}
 use Rattle.design.specs.Laws.{add_all_append}
+use Rattle.listing.specs.declared.TooMany.{TooMany}
 use Rattle.listing.specs.declared.Walk.{Walk}
-use Rattle.listing.specs.Listing.{cost, cost_on, paths_of, Within, Ready, Answer}
+use Rattle.listing.specs.Listing.{cost, cost_on, paths_of, Within, Ready, Listed, Answer, refused}
 
 -- ---- a list only grows
 
@@ -48,36 +48,26 @@ module _ (prefix : ℕ) where
 
   module _ (total : ℕ) (all : List Bytes) (s : Walk) (text : Bytes) (ends : List ℕ) (v : ℕ) (rest : List Bytes) (t : Turn prefix total all s text ends v rest) where
     -- nothing is left
-    pub turn_end : v ≡ 0 → rest ≡ [] → Answer prefix total all s text ends
+    pub turn_end : v ≡ 0 → rest ≡ [] → Listed prefix total all s text ends
     unfolding add_all
-    turn_end z e =
-        record {
-          ready = λ o. t.ready;
-          entered_is = λ o. sym (add-zero s.entered) ∙ ap (λ n. s.entered + n) (sym z) ∙ t.entered_left;
-          paths_are = λ o. rw e at t.paths_left;
-          refused = λ o w. no_true (sym t.ready.going ∙ o);
-        }
+    turn_end z e = record { ready = t.ready; entered_is = sym (add-zero s.entered) ∙ ap (λ n. s.entered + n) (sym z) ∙ t.entered_left; paths_are = rw e at t.paths_left }
 
-    -- a piece of what is left was walked, and came to r
-    module _ (x y : ℕ) (ps qs : List Bytes) (ev : v ≡ x + y) (er : rest ≡ ps ++ qs) (r : Walk) (text' : Bytes) (ends' : List ℕ) (a : Answer prefix (s.entered + x) (add_all (paths_of text ends s.count) ps) r text' ends') where
+    -- a piece of what is left was walked
+    module _ (x y : ℕ) (ps qs : List Bytes) (ev : v ≡ x + y) (er : rest ≡ ps ++ qs) where
       whole : add_all (add_all (paths_of text ends s.count) ps) qs ≡ all
       whole = sym (add_all_append (paths_of text ends s.count) ps qs) ∙ (ap (add_all (paths_of text ends s.count)) (sym er) ∙ t.paths_left)
 
-      pub turn_stop : r.over ≡ true → Answer prefix total all r text' ends'
-      turn_stop o =
-          record {
-            ready = λ n. absurd (no_true (sym n ∙ o));
-            entered_is = λ n. absurd (no_true (sym n ∙ o));
-            paths_are = λ n. absurd (no_true (sym n ∙ o));
-            refused = λ n w. a.refused o (within_less prefix (s.entered + x) total (add_all (paths_of text ends s.count) ps) qs (omega (arith, t.entered_left, ev)) (rw (← whole) at w));
-          }
+      -- past a limit
+      pub turn_stop : (Within prefix (s.entered + x) (add_all (paths_of text ends s.count) ps) → ⊥) → (e : TooMany) (r : Result Walk TooMany) (text' : Bytes) (ends' : List ℕ) → IsErrAnd r (λ y. y ≡ e) → Answer prefix total all r text' ends'
+      turn_stop out e r text' ends' h = refused prefix total all e r text' ends' h (λ w. out (within_less prefix (s.entered + x) total (add_all (paths_of text ends s.count) ps) qs (omega (arith, t.entered_left, ev)) (rw (← whole) at w)))
 
-      pub turn_next : r.over ≡ false → Turn prefix total all r text' ends' y qs
-      turn_next o =
+      -- or it came to r
+      pub turn_next : (r : Walk) (text' : Bytes) (ends' : List ℕ) → Listed prefix (s.entered + x) (add_all (paths_of text ends s.count) ps) r text' ends' → Turn prefix total all r text' ends' y qs
+      turn_next r text' ends' a =
           record {
-            ready = a.ready o;
-            entered_left = omega (arith, a.entered_is o, t.entered_left, ev);
-            paths_left = ap (λ (l : List Bytes). add_all l qs) (a.paths_are o) ∙ whole;
+            ready = a.ready;
+            entered_left = omega (arith, a.entered_is, t.entered_left, ev);
+            paths_left = ap (λ (l : List Bytes). add_all l qs) a.paths_are ∙ whole;
           }
 
 -- one path alone

@@ -8,16 +8,29 @@ ghost use Rattle.design.specs.Lists.{is_in, add_new};
 ghost use Rattle.design.specs.Paths.{dotted};
 ghost use Rattle.paths.specs.Pieces.{Sized};
 ghost use Rattle.pathnumber.specs.Number.{number as Number·number};
-ghost use Rattle.listing.specs.Listing.{paths_of, flag_place, Flagged, nowhere, past, Ready, NewGiven, Answer};
+ghost use Rattle.listing.specs.Listing.{paths_of, flag_place, Flagged, nowhere, Ready, NewGiven, Answer};
+ghost use Rattle.spans.specs.Memory.{memory};
 
 use names::name::Name;
+use spans::span::Memory;
 use text::part::{num, part, place};
 
-// How far a walk has come: whether it passed a limit; else the modules entered, the number of its paths, where the last one ends, and the bytes
-// of all with what the scope's path adds to each; and what it sets flags to.
+// The paths that were listed: one behind the other in a text, with the ends of n.
+#[derive(Clone, Copy)]
+pub struct PathList<'a> {
+    pub text: &'a [u8],
+    pub ends: &'a [u32],
+    pub n: usize,
+}
+
+// A limit of a domain's walk is passed.
+#[derive(Clone, Copy, Debug, PartialEq, Eq)]
+pub struct TooMany;
+
+// How far a walk has come: the modules entered, the number of its paths, where the last one ends, and the bytes of all with what the scope's path
+// adds to each; and what it sets flags to.
 #[derive(Clone, Copy)]
 pub struct Walk {
-    pub over: bool,
     pub entered: usize,
     pub count: usize,
     pub end: usize,
@@ -30,7 +43,6 @@ pub fn start(stamp: u32) -> Walk
     ensures { result ≡ nowhere stamp }
 {
     Walk {
-        over: false,
         entered: 0,
         count: 0,
         end: 0,
@@ -39,21 +51,10 @@ pub fn start(stamp: u32) -> Walk
     }
 }
 
-// Past a limit.
-pub fn refused() -> Walk
-    ensures { result ≡ past }
-{
-    Walk {
-        over: true,
-        ..start(0)
-    }
-}
-
 // Whether a path is one of the first `count` of the list.
 #[tactic(auto, using(crate::proofs::Adds::lefts))]
 fn listed(
-    files: &[u8],
-    area: &[u8],
+    mem: &Memory,
     e: Name,
     elen: usize,
     tail: &[u8],
@@ -62,14 +63,14 @@ fn listed(
     ends: &[u32],
     count: usize,
 ) -> bool
-    requires { Sized (files.now ++ area.now) e elen tail.now name.now × (count ≤ length ends.now) }
-    ensures { result ≡ is_in (dotted (name_of (files.now ++ area.now) e) ++ (tail.now ++ name.now)) (paths_of text.now ends.now count) }
+    requires { Sized (memory mem.now) e elen tail.now name.now × (count ≤ length ends.now) }
+    ensures { result ≡ is_in (dotted (name_of (memory mem.now) e) ++ (tail.now ++ name.now)) (paths_of text.now ends.now count) }
 {
     let mut at = 0;
     for k in 0..count {
         let end = place(ends, k);
-        let row = part(text, at, spans::span::minus(end, at));
-        if paths::path::is_path(files, area, e, elen, tail, name, row) {
+        let row = part(text, at, end.saturating_sub(at));
+        if paths::path::is_path(mem, e, elen, tail, name, row) {
             return true;
         }
         at = end;
@@ -80,8 +81,7 @@ fn listed(
 // The same, where the flags may be asked first: a path whose flag has not the stamp is not listed.
 #[tactic(auto, using(crate::proofs::Adds::flags))]
 fn flagged(
-    files: &[u8],
-    area: &[u8],
+    mem: &Memory,
     e: Name,
     elen: usize,
     tail: &[u8],
@@ -92,17 +92,16 @@ fn flagged(
     ends: &[u32],
     count: usize,
 ) -> bool
-    requires { Sized (files.now ++ area.now) e elen tail.now name.now × ((count ≤ length ends.now) × ((flag ≡ flag_place (dotted (name_of (files.now ++ area.now) e) ++ (tail.now ++ name.now))) × Flagged stamp ends.now (paths_of text.now ends.now count))) }
-    ensures { result ≡ is_in (dotted (name_of (files.now ++ area.now) e) ++ (tail.now ++ name.now)) (paths_of text.now ends.now count) }
+    requires { Sized (memory mem.now) e elen tail.now name.now × ((count ≤ length ends.now) × ((flag ≡ flag_place (dotted (name_of (memory mem.now) e) ++ (tail.now ++ name.now))) × Flagged stamp ends.now (paths_of text.now ends.now count))) }
+    ensures { result ≡ is_in (dotted (name_of (memory mem.now) e) ++ (tail.now ++ name.now)) (paths_of text.now ends.now count) }
 {
-    num(ends, flag) == stamp && listed(files, area, e, elen, tail, name, text, ends, count)
+    num(ends, flag) == stamp && listed(mem, e, elen, tail, name, text, ends, count)
 }
 
 // The list with a path behind it that it does not have.
 #[tactic(auto, using(crate::proofs::Adds::news))]
 fn add_new(
-    files: &[u8],
-    area: &[u8],
+    mem: &Memory,
     e: Name,
     elen: usize,
     tail: &[u8],
@@ -112,41 +111,39 @@ fn add_new(
     text: &mut [u8],
     ends: &mut [u32],
     s: Walk,
-) -> Walk
-    requires { NewGiven (files.now ++ area.now) e elen tail.now name.now flag prefix s text.old ends.old }
-    ensures { Answer prefix s.entered (paths_of text.old ends.old s.count ++ ((dotted (name_of (files.now ++ area.now) e) ++ (tail.now ++ name.now)) ∷ [])) result text.new ends.new }
+) -> Result<Walk, TooMany>
+    requires { NewGiven (memory mem.now) e elen tail.now name.now flag prefix s text.old ends.old }
+    ensures { Answer prefix s.entered (paths_of text.old ends.old s.count ++ ((dotted (name_of (memory mem.now) e) ++ (tail.now ++ name.now)) ∷ [])) result text.new ends.new }
 {
     let count = s.count;
     let stamp = s.stamp;
     if count == 1024 {
-        return refused();
+        return Err(TooMany);
     }
     let len = elen + (tail.len() + name.len());
     let used = s.used + (prefix + len);
     if 32768 < used {
-        return refused();
+        return Err(TooMany);
     }
     let from = s.end;
     let end = from + len;
-    paths::path::put_path(text, from, files, area, e, tail, name);
+    paths::path::put_path(text, from, mem, e, tail, name);
     ends[count] = end as u32;
     ends[flag] = stamp;
-    Walk {
-        over: false,
+    Ok(Walk {
         entered: s.entered,
         count: count + 1,
         end,
         used,
         stamp,
-    }
+    })
 }
 
 // The list with a path behind it, where the list does not have it yet. `prefix` is what the scope's path adds to each path; `number` is that of the path
 // without its name.
 #[tactic(auto, using(crate::proofs::Adds::adds, crate::proofs::Adds::adds_new))]
 pub fn add(
-    files: &[u8],
-    area: &[u8],
+    mem: &Memory,
     e: Name,
     elen: usize,
     tail: &[u8],
@@ -156,19 +153,15 @@ pub fn add(
     text: &mut [u8],
     ends: &mut [u32],
     s: Walk,
-) -> Walk
-    requires { Sized (files.now ++ area.now) e elen tail.now name.now × ((number ≡ Number·number 0 (dotted (name_of (files.now ++ area.now) e) ++ tail.now)) × Ready prefix s text.old ends.old) }
-    ensures { Answer prefix s.entered (add_new (paths_of text.old ends.old s.count) (dotted (name_of (files.now ++ area.now) e) ++ (tail.now ++ name.now))) result text.new ends.new }
+) -> Result<Walk, TooMany>
+    requires { Sized (memory mem.now) e elen tail.now name.now × ((number ≡ Number·number 0 (dotted (name_of (memory mem.now) e) ++ tail.now)) × Ready prefix s text.old ends.old) }
+    ensures { Answer prefix s.entered (add_new (paths_of text.old ends.old s.count) (dotted (name_of (memory mem.now) e) ++ (tail.now ++ name.now))) result text.new ends.new }
 {
     let flag = 1024 + pathnumber::number_on(number, name) % 16384;
     let count = s.count;
     let stamp = s.stamp;
-    if flagged(
-        files, area, e, elen, tail, name, flag, stamp, text, ends, count,
-    ) {
-        return s;
+    if flagged(mem, e, elen, tail, name, flag, stamp, text, ends, count) {
+        return Ok(s);
     }
-    add_new(
-        files, area, e, elen, tail, name, flag, prefix, text, ends, s,
-    )
+    add_new(mem, e, elen, tail, name, flag, prefix, text, ends, s)
 }

@@ -21,6 +21,7 @@ use Rattle.entries.specs.declared.item.Item.{Item}
 use Rattle.names.specs.Scoped.{scoped}
 use Rattle.names.specs.Name.{named, name_of, entry_of, Makes}
 use Rattle.names.specs.declared.name.Name.{Name}
+use Rattle.names.specs.declared.name.Form.{Form}
 use Rattle.names.specs.Frame.{alone_is}
 use Rattle.nametable.specs.Table.{row_name, row_put, names_from, table_names, Stores, put_names, names_next, names_none}
 use Rattle.listnames.specs.Lists.{Rooms, Reads, Listed}
@@ -99,7 +100,7 @@ module _ (g : Bytes → Bytes) (mem text : Bytes) (table₀ : List ℕ) (n : ℕ
         w_small : w.at + w.len < 2 ^ 32
         w_small = rw ew (omega (arith, inside_ends mem v text reads.is (entries_left first (drop at text)) r f x.entry x.quoted x.next h, reads.small))
 
-        pub stores_made : (form : ℕ) (y : Name) → Makes mem scope w form y → Stores y
+        pub stores_made : (form : Form) (y : Name) → Makes mem scope w form y → Stores y
         stores_made form y m =
             record {
               scope_at = omega (arith, m.ends, w_small, reads.scope_small);
@@ -108,7 +109,7 @@ module _ (g : Bytes → Bytes) (mem text : Bytes) (table₀ : List ℕ) (n : ℕ
               word_len = omega (arith, m.ends, w_small, reads.scope_small);
             }
 
-        pub stores_alone : (form : ℕ) (y : Name) → y ≡ named (0 ⋯ 0) false w form → Stores y
+        pub stores_alone : (form : Form) (y : Name) → y ≡ named (0 ⋯ 0) false w form → Stores y
         stores_alone form y ex = rw ex (record { scope_at = omega arith; scope_len = omega arith; word_at = omega (arith, w_small); word_len = omega (arith, w_small) })
 
 -- ---- the two loops
@@ -122,7 +123,7 @@ module _ (mem text : Bytes) (table₀ : List ℕ) (n : ℕ) (table : List ℕ) (
     pub below_end : r ≡ None → Listed mem table₀ n (map (scoped (bytes mem scope)) (list text)) table k
     below_end h = lists_end (scoped (bytes mem scope)) mem text table₀ n table k at first inv r f h
 
-    pub below_step : (x : Item) (w : Span) (form : ℕ) (y : Name) (table' : List ℕ) → r ≡ Some x → table' ≡ row_put table k y → Makes mem scope w form y → w ≡ (v.at + x.entry.at) ⋯ x.entry.len → entry_of form (bytes text x.entry) ≡ entry_bytes x.quoted (bytes text x.entry) → Lists (scoped (bytes mem scope)) mem text table₀ n table' (k + 1) x.next false
+    pub below_step : (x : Item) (w : Span) (form : Form) (y : Name) (table' : List ℕ) → r ≡ Some x → table' ≡ row_put table k y → Makes mem scope w form y → w ≡ (v.at + x.entry.at) ⋯ x.entry.len → entry_of form (bytes text x.entry) ≡ entry_bytes x.quoted (bytes text x.entry) → Lists (scoped (bytes mem scope)) mem text table₀ n table' (k + 1) x.next false
     below_step x w form y table' h et m ew ef =
         let room = row_room (scoped (bytes mem scope)) mem text table₀ n table k at first inv r f x h scope v reads in
         let is : name_of mem y ≡ scoped (bytes mem scope) (entry_bytes x.quoted (bytes text x.entry)) = m.is ∙ rw ew (ap (scoped (bytes mem scope)) (inside_formed mem v text reads.is (entries_left first (drop at text)) r f x.entry x.quoted x.next h form ef)) in
@@ -132,7 +133,7 @@ module _ (mem text : Bytes) (table₀ : List ℕ) (n : ℕ) (table : List ℕ) (
     pub plain_end : r ≡ None → Listed mem table₀ n (list text) table k
     plain_end h = rw (map_same (list text)) at (lists_end (λ (b : Bytes). b) mem text table₀ n table k at first inv r f h)
 
-    pub plain_step : (x : Item) (w : Span) (form : ℕ) (y : Name) (table' : List ℕ) → r ≡ Some x → table' ≡ row_put table k y → y ≡ named (0 ⋯ 0) false w form → w ≡ (v.at + x.entry.at) ⋯ x.entry.len → entry_of form (bytes text x.entry) ≡ entry_bytes x.quoted (bytes text x.entry) → Lists (λ (b : Bytes). b) mem text table₀ n table' (k + 1) x.next false
+    pub plain_step : (x : Item) (w : Span) (form : Form) (y : Name) (table' : List ℕ) → r ≡ Some x → table' ≡ row_put table k y → y ≡ named (0 ⋯ 0) false w form → w ≡ (v.at + x.entry.at) ⋯ x.entry.len → entry_of form (bytes text x.entry) ≡ entry_bytes x.quoted (bytes text x.entry) → Lists (λ (b : Bytes). b) mem text table₀ n table' (k + 1) x.next false
     plain_step x w form y table' h et ex ew ef =
         let room = row_room (λ (b : Bytes). b) mem text table₀ n table k at first inv r f x h scope v reads in
         let is : name_of mem y ≡ entry_bytes x.quoted (bytes text x.entry) = rw ex (alone_is mem w form ∙ rw ew (inside_formed mem v text reads.is (entries_left first (drop at text)) r f x.entry x.quoted x.next h form ef)) in

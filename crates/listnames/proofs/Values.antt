@@ -25,14 +25,16 @@ use Rattle.model.specs.Commands.{nth}
 use Rattle.names.specs.Scoped.{scoped}
 use Rattle.names.specs.Name.{named, name_of, entry_of, Makes}
 use Rattle.names.specs.declared.name.Name.{Name}
+use Rattle.names.specs.declared.name.Form.{Form}
+use Rattle.names.specs.declared.name.Form.TheVariants.{Word, Entry, Quoted}
 use Rattle.names.specs.Frame.{alone_is}
 use Rattle.listnames.specs.Lists.{form_of, form_is, nth_below, Whole, Known}
 use Rattle.listnames.specs.Inside.{inside_fits, inside_ends, inside_formed}
 
-pub form_quoted : (q : Bool) → q ≡ true → 2 ≡ form_of q
+pub form_quoted : (q : Bool) → q ≡ true → Quoted ≡ form_of q
 form_quoted q h = rw h
 
-pub form_plain : (q : Bool) → q ≡ false → 1 ≡ form_of q
+pub form_plain : (q : Bool) → q ≡ false → Entry ≡ form_of q
 form_plain q h = rw h
 
 -- an entry without a backslash is as it stands
@@ -61,10 +63,10 @@ as_it_stands true w h = sym (ap (λ (m : Bytes). unescape m) (join_same w h) ∙
 as_it_stands false w h = sym (join_same w h)
 
 module _ (text : Bytes) (s : Span) (q : Bool) where
-  pub formed_slow : (r : ℕ) → r ≡ form_of q → entry_of r (bytes text s) ≡ entry_bytes q (bytes text s)
+  pub formed_slow : (r : Form) → r ≡ form_of q → entry_of r (bytes text s) ≡ entry_bytes q (bytes text s)
   formed_slow r e = rw e (form_is q (bytes text s))
 
-  pub formed_plain : (w : Bytes) (i : ℕ) → w ≡ take s.len (drop s.at text) → Ends (0 + up_to (byte "\\") (drop 0 w)) (length w) i → length w ≤ i → entry_of 0 (bytes text s) ≡ entry_bytes q (bytes text s)
+  pub formed_plain : (w : Bytes) (i : ℕ) → w ≡ take s.len (drop s.at text) → Ends (0 + up_to (byte "\\") (drop 0 w)) (length w) i → length w ≤ i → entry_of Word (bytes text s) ≡ entry_bytes q (bytes text s)
   unfolding bytes
   formed_plain w i e g h = rw (← e) (as_it_stands q w (omega (arith, g.is_at)))
 
@@ -72,7 +74,7 @@ pub ruleset forms = (rules, form_quoted, form_plain, formed_slow, formed_plain)
 
 -- ---- the k-th
 
-empty_name : (mem : Bytes) → name_of mem (named (0 ⋯ 0) false (0 ⋯ 0) 0) ≡ []
+empty_name : (mem : Bytes) → name_of mem (named (0 ⋯ 0) false (0 ⋯ 0) Word) ≡ []
 unfolding name_of bytes
 empty_name mem = refl
 
@@ -107,13 +109,13 @@ module _ (files area : Bytes) (v : Span) (k : ℕ) (whole : Whole (length files)
   no_entry : r ≡ None → drop k (list (bytes mem v)) ≡ []
   no_entry g = rw (← is) (entries_none text (drop k (list text)) r f g)
 
-  pub nth_missing : (x : Name) → r ≡ None → x ≡ named (0 ⋯ 0) false (0 ⋯ 0) 0 → Known (files ++ area) (nth k (list (bytes (files ++ area) v))) (v.at + v.len) x
+  pub nth_missing : (x : Name) → r ≡ None → x ≡ named (0 ⋯ 0) false (0 ⋯ 0) Word → Known (files ++ area) (nth k (list (bytes (files ++ area) v))) (v.at + v.len) x
   nth_missing x g e = record { is = rw e (empty_name mem ∙ sym (nth_head k (list (bytes mem v)) ∙ ap head_of (no_entry g))); ends = rw e (omega arith) }
 
-  pub below_missing : (scope : Span) (x : Name) → r ≡ None → x ≡ named (0 ⋯ 0) false (0 ⋯ 0) 0 → Known (files ++ area) (nth_below (bytes (files ++ area) scope) k (list (bytes (files ++ area) v))) (max (scope.at + scope.len) (v.at + v.len)) x
+  pub below_missing : (scope : Span) (x : Name) → r ≡ None → x ≡ named (0 ⋯ 0) false (0 ⋯ 0) Word → Known (files ++ area) (nth_below (bytes (files ++ area) scope) k (list (bytes (files ++ area) v))) (max (scope.at + scope.len) (v.at + v.len)) x
   below_missing scope x g e = record { is = rw e (empty_name mem ∙ sym (nth_below_lem (bytes mem scope) k (list (bytes mem v)) ∙ ap (below_of_lem (bytes mem scope)) (no_entry g))); ends = rw e (omega arith) }
 
-  module _ (i : Item) (g : r ≡ Some i) (w : Span) (ew : w ≡ (v.at + i.entry.at) ⋯ i.entry.len) (form : ℕ) (ef : entry_of form (bytes text i.entry) ≡ entry_bytes i.quoted (bytes text i.entry)) where
+  module _ (i : Item) (g : r ≡ Some i) (w : Span) (ew : w ≡ (v.at + i.entry.at) ⋯ i.entry.len) (form : Form) (ef : entry_of form (bytes text i.entry) ≡ entry_bytes i.quoted (bytes text i.entry)) where
     one_entry : drop k (list (bytes mem v)) ≡ entry_of form (bytes mem w) ∷ entries_left false (drop i.next text)
     one_entry =
         let p : drop k (list (bytes mem v)) ≡ entry_bytes i.quoted (bytes text i.entry) ∷ entries_left false (drop i.next text) = rw (← is) (entries_first text (drop k (list text)) r f i.entry i.quoted i.next g) in

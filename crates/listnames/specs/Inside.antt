@@ -10,6 +10,7 @@ use Rattle.entries.specs.Entry.{entry_bytes}
 use Rattle.entries.specs.View.{Finds}
 use Rattle.entries.specs.declared.item.Item.{Item}
 use Rattle.names.specs.Name.{entry_of}
+use Rattle.names.specs.declared.name.Form.{Form}
 use Rattle.listnames.specs.Lists.{form_of, form_is}
 
 module _ (mem : Bytes) (v : Span) (text : Bytes) (is : text ≡ bytes mem v) (t : List Bytes) (r : Option Item) (f : Finds text t r) (s : Span) (q : Bool) (e : ℕ) (g : r ≡ Some (record { entry = s; quoted = q; next = e })) where
@@ -23,11 +24,11 @@ module _ (mem : Bytes) (v : Span) (text : Bytes) (is : text ≡ bytes mem v) (t 
   inside_ends = omega (arith, ends_in)
 
   -- its bytes
-  pub inside_is : (form : ℕ) → form ≡ form_of q → entry_of form (bytes mem ((v.at + s.at) ⋯ s.len)) ≡ entry_bytes q (bytes text s)
+  pub inside_is : (form : Form) → form ≡ form_of q → entry_of form (bytes mem ((v.at + s.at) ⋯ s.len)) ≡ entry_bytes q (bytes text s)
   inside_is form h =
       let y : bytes (bytes mem v) s ≡ bytes text s = ap (λ (b : Bytes). bytes b s) (sym is) in
       rw h (form_is q (bytes mem ((v.at + s.at) ⋯ s.len)) ∙ ap (entry_bytes q) (inner mem v s ends_in ∙ y))
 
   -- in any form that reads it so
-  pub inside_formed : (form : ℕ) → entry_of form (bytes text s) ≡ entry_bytes q (bytes text s) → entry_of form (bytes mem ((v.at + s.at) ⋯ s.len)) ≡ entry_bytes q (bytes text s)
+  pub inside_formed : (form : Form) → entry_of form (bytes text s) ≡ entry_bytes q (bytes text s) → entry_of form (bytes mem ((v.at + s.at) ⋯ s.len)) ≡ entry_bytes q (bytes text s)
   inside_formed form h = ap (entry_of form) (inner mem v s ends_in ∙ ap (λ (b : Bytes). bytes b s) (sym is)) ∙ h

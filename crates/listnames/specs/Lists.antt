@@ -10,15 +10,17 @@ use Rattle.entries.specs.Entry.{entry_bytes}
 use Rattle.names.specs.Scoped.{scoped}
 use Rattle.names.specs.Name.{name_of, name_end, entry_of}
 use Rattle.names.specs.declared.name.Name.{Name}
+use Rattle.names.specs.declared.name.Form.{Form}
+use Rattle.names.specs.declared.name.Form.TheVariants.{Entry, Quoted}
 use Rattle.model.specs.Records.{no_records, with_scope}
 use Rattle.model.specs.Commands.{nth, supply_of}
 use Rattle.nametable.specs.Table.{table_names}
 
 -- ---- one entry
 
--- the form of an entry: 2 where it is quoted
-abbrev pub form_of : Bool → ℕ
-form_of quoted = cond quoted 2 1
+-- the form of an entry
+abbrev pub form_of : Bool → Form
+form_of quoted = cond quoted Quoted Entry
 
 pub form_is : (q : Bool) (w : Bytes) → entry_of (form_of q) w ≡ entry_bytes q w
 form_is true w = refl

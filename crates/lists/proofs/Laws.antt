@@ -20,6 +20,9 @@ use Rattle.tcl.specs.Arguments.{option_of, states, State}
 use Rattle.tcl.specs.Lists.{list}
 use Rattle.args.specs.View.{words_from, pick, Finds, States}
 use Rattle.model.specs.Numbers.{named_by}
+use Rattle.cmdnames.specs.Table.{number_of}
+use Rattle.cmdnames.specs.declared.Command.{Command}
+use Rattle.cmdnames.specs.declared.Command.TheVariants as command
 use Rattle.model.specs.Within.{option_value, state_values, entries_of, lists_by}
 use Rattle.lists.specs.Count.{counted, and_one, and_all, size_of, Counts, all_append, all_counted}
 use Rattle.lists.specs.Values.{Whole, optional, switch_values}
@@ -118,12 +121,6 @@ module _ (n : ℕ) (ss : List State) (c : Option ℕ) (k : ℕ) (t : Option ℕ)
     its : Some (record { one = one; value = bytes mem v }) ≡ pick k ss
     its = rw g at a.is
 
-    pub left_fits : n < 2 ^ 64 → k + 1 < 2 ^ 64
-    left_fits h = omega (arith, pick_in k ss (record { one = one; value = bytes mem v }) its, inv.short)
-
-    pub left_less : length ss - (k + 1) < length ss - k
-    left_less = omega (arith, pick_in k ss (record { one = one; value = bytes mem v }) its)
-
     pub left_on : (u : Option ℕ) → u ≡ and_one (length (list (bytes mem v))) t → Left n ss c (k + 1) u
     unfolding and_all
     left_on u e = record {
@@ -132,7 +129,12 @@ module _ (n : ℕ) (ss : List State) (c : Option ℕ) (k : ℕ) (t : Option ℕ)
       short = inv.short;
     }
 
-pub ruleset lefts = (rules, state_held, left_start, left_few, left_end, left_fits, left_less, left_on)
+-- no state is left behind the last word
+pub left_done : (n : ℕ) (ss : List State) (c : Option ℕ) (k : ℕ) (t : Option ℕ) → Left n ss c k t → n ≤ k → Counts (entries_of (state_values ss)) c t
+unfolding and_all
+left_done n ss c k t inv h = record { is = sym (inv.keeps ∙ rw (drop_of_length-le ss {i = k} (omega (arith, inv.short, h)))); few = inv.few }
+
+pub ruleset lefts = (rules, state_held, left_start, left_few, left_end, left_done, left_on)
 
 -- ---- the values of a switch
 then_all : (xs ys : List Bytes) (c d r : Option ℕ) → Counts (entries_of xs) c d → Counts (entries_of ys) d r → Counts (entries_of (xs ++ ys)) c r
@@ -154,73 +156,63 @@ option_is key ws None e = rw e
 option_is key ws (Some v) e = rw e
 
 -- no other command reads a list
-no_lists : (c : ℕ) (w : Bytes) (ws : List Bytes) → (c ≡ 5 → ⊥) → (c ≡ 8 → ⊥) → (c ≡ 21 → ⊥) → (c ≡ 22 → ⊥) → (c ≡ 24 → ⊥) → (c ≡ 27 → ⊥) → (c ≡ 28 → ⊥) → (c ≡ 29 → ⊥) → lists_by (named_by c) w ws ≡ []
-no_lists zero w ws n5 n8 n21 n22 n24 n27 n28 n29 = refl
-no_lists (suc zero) w ws n5 n8 n21 n22 n24 n27 n28 n29 = refl
-no_lists (suc (suc zero)) w ws n5 n8 n21 n22 n24 n27 n28 n29 = refl
-no_lists (suc (suc (suc zero))) w ws n5 n8 n21 n22 n24 n27 n28 n29 = refl
-no_lists (suc (suc (suc (suc zero)))) w ws n5 n8 n21 n22 n24 n27 n28 n29 = refl
-no_lists (suc (suc (suc (suc (suc zero))))) w ws n5 n8 n21 n22 n24 n27 n28 n29 = absurd (n5 refl)
-no_lists (suc (suc (suc (suc (suc (suc zero)))))) w ws n5 n8 n21 n22 n24 n27 n28 n29 = refl
-no_lists (suc (suc (suc (suc (suc (suc (suc zero))))))) w ws n5 n8 n21 n22 n24 n27 n28 n29 = refl
-no_lists (suc (suc (suc (suc (suc (suc (suc (suc zero)))))))) w ws n5 n8 n21 n22 n24 n27 n28 n29 = absurd (n8 refl)
-no_lists (suc (suc (suc (suc (suc (suc (suc (suc (suc zero))))))))) w ws n5 n8 n21 n22 n24 n27 n28 n29 = refl
-no_lists (suc (suc (suc (suc (suc (suc (suc (suc (suc (suc zero)))))))))) w ws n5 n8 n21 n22 n24 n27 n28 n29 = refl
-no_lists (suc (suc (suc (suc (suc (suc (suc (suc (suc (suc (suc zero))))))))))) w ws n5 n8 n21 n22 n24 n27 n28 n29 = refl
-no_lists (suc (suc (suc (suc (suc (suc (suc (suc (suc (suc (suc (suc zero)))))))))))) w ws n5 n8 n21 n22 n24 n27 n28 n29 = refl
-no_lists (suc (suc (suc (suc (suc (suc (suc (suc (suc (suc (suc (suc (suc zero))))))))))))) w ws n5 n8 n21 n22 n24 n27 n28 n29 = refl
-no_lists (suc (suc (suc (suc (suc (suc (suc (suc (suc (suc (suc (suc (suc (suc zero)))))))))))))) w ws n5 n8 n21 n22 n24 n27 n28 n29 = refl
-no_lists (suc (suc (suc (suc (suc (suc (suc (suc (suc (suc (suc (suc (suc (suc (suc zero))))))))))))))) w ws n5 n8 n21 n22 n24 n27 n28 n29 = refl
-no_lists (suc (suc (suc (suc (suc (suc (suc (suc (suc (suc (suc (suc (suc (suc (suc (suc zero)))))))))))))))) w ws n5 n8 n21 n22 n24 n27 n28 n29 = refl
-no_lists (suc (suc (suc (suc (suc (suc (suc (suc (suc (suc (suc (suc (suc (suc (suc (suc (suc zero))))))))))))))))) w ws n5 n8 n21 n22 n24 n27 n28 n29 = refl
-no_lists (suc (suc (suc (suc (suc (suc (suc (suc (suc (suc (suc (suc (suc (suc (suc (suc (suc (suc zero)))))))))))))))))) w ws n5 n8 n21 n22 n24 n27 n28 n29 = refl
-no_lists (suc (suc (suc (suc (suc (suc (suc (suc (suc (suc (suc (suc (suc (suc (suc (suc (suc (suc (suc zero))))))))))))))))))) w ws n5 n8 n21 n22 n24 n27 n28 n29 = refl
-no_lists (suc (suc (suc (suc (suc (suc (suc (suc (suc (suc (suc (suc (suc (suc (suc (suc (suc (suc (suc (suc zero)))))))))))))))))))) w ws n5 n8 n21 n22 n24 n27 n28 n29 = refl
-no_lists (suc (suc (suc (suc (suc (suc (suc (suc (suc (suc (suc (suc (suc (suc (suc (suc (suc (suc (suc (suc (suc zero))))))))))))))))))))) w ws n5 n8 n21 n22 n24 n27 n28 n29 = absurd (n21 refl)
-no_lists (suc (suc (suc (suc (suc (suc (suc (suc (suc (suc (suc (suc (suc (suc (suc (suc (suc (suc (suc (suc (suc (suc zero)))))))))))))))))))))) w ws n5 n8 n21 n22 n24 n27 n28 n29 = absurd (n22 refl)
-no_lists (suc (suc (suc (suc (suc (suc (suc (suc (suc (suc (suc (suc (suc (suc (suc (suc (suc (suc (suc (suc (suc (suc (suc zero))))))))))))))))))))))) w ws n5 n8 n21 n22 n24 n27 n28 n29 = refl
-no_lists (suc (suc (suc (suc (suc (suc (suc (suc (suc (suc (suc (suc (suc (suc (suc (suc (suc (suc (suc (suc (suc (suc (suc (suc zero)))))))))))))))))))))))) w ws n5 n8 n21 n22 n24 n27 n28 n29 = absurd (n24 refl)
-no_lists (suc (suc (suc (suc (suc (suc (suc (suc (suc (suc (suc (suc (suc (suc (suc (suc (suc (suc (suc (suc (suc (suc (suc (suc (suc zero))))))))))))))))))))))))) w ws n5 n8 n21 n22 n24 n27 n28 n29 = refl
-no_lists (suc (suc (suc (suc (suc (suc (suc (suc (suc (suc (suc (suc (suc (suc (suc (suc (suc (suc (suc (suc (suc (suc (suc (suc (suc (suc zero)))))))))))))))))))))))))) w ws n5 n8 n21 n22 n24 n27 n28 n29 = refl
-no_lists (suc (suc (suc (suc (suc (suc (suc (suc (suc (suc (suc (suc (suc (suc (suc (suc (suc (suc (suc (suc (suc (suc (suc (suc (suc (suc (suc zero))))))))))))))))))))))))))) w ws n5 n8 n21 n22 n24 n27 n28 n29 = absurd (n27 refl)
-no_lists (suc (suc (suc (suc (suc (suc (suc (suc (suc (suc (suc (suc (suc (suc (suc (suc (suc (suc (suc (suc (suc (suc (suc (suc (suc (suc (suc (suc zero)))))))))))))))))))))))))))) w ws n5 n8 n21 n22 n24 n27 n28 n29 = absurd (n28 refl)
-no_lists (suc (suc (suc (suc (suc (suc (suc (suc (suc (suc (suc (suc (suc (suc (suc (suc (suc (suc (suc (suc (suc (suc (suc (suc (suc (suc (suc (suc (suc zero))))))))))))))))))))))))))))) w ws n5 n8 n21 n22 n24 n27 n28 n29 = absurd (n29 refl)
-no_lists (suc (suc (suc (suc (suc (suc (suc (suc (suc (suc (suc (suc (suc (suc (suc (suc (suc (suc (suc (suc (suc (suc (suc (suc (suc (suc (suc (suc (suc (suc c)))))))))))))))))))))))))))))) w ws n5 n8 n21 n22 n24 n27 n28 n29 = refl
+no_lists : (c : Command) (w : Bytes) (ws : List Bytes) → (c ≡ command.CreatePowerDomain → ⊥) → (c ≡ command.ConnectSupplyNet → ⊥) → (c ≡ command.CreatePowerSwitch → ⊥) → (c ≡ command.SetIsolation → ⊥) → (c ≡ command.SetRetention → ⊥) → (c ≡ command.AddPortState → ⊥) → (c ≡ command.CreatePst → ⊥) → (c ≡ command.AddPstState → ⊥) → lists_by (named_by (number_of c)) w ws ≡ []
+no_lists command.Set w ws n5 n8 n21 n22 n24 n27 n28 n29 = refl
+no_lists command.Puts w ws n5 n8 n21 n22 n24 n27 n28 n29 = refl
+no_lists command.LoadUpf w ws n5 n8 n21 n22 n24 n27 n28 n29 = refl
+no_lists command.SetDesignTop w ws n5 n8 n21 n22 n24 n27 n28 n29 = refl
+no_lists command.SetScope w ws n5 n8 n21 n22 n24 n27 n28 n29 = refl
+no_lists command.CreatePowerDomain w ws n5 n8 n21 n22 n24 n27 n28 n29 = absurd (n5 refl)
+no_lists command.CreateSupplyNet w ws n5 n8 n21 n22 n24 n27 n28 n29 = refl
+no_lists command.CreateSupplyPort w ws n5 n8 n21 n22 n24 n27 n28 n29 = refl
+no_lists command.ConnectSupplyNet w ws n5 n8 n21 n22 n24 n27 n28 n29 = absurd (n8 refl)
+no_lists command.SetDomainSupplyNet w ws n5 n8 n21 n22 n24 n27 n28 n29 = refl
+no_lists command.CreatePowerSwitch w ws n5 n8 n21 n22 n24 n27 n28 n29 = absurd (n21 refl)
+no_lists command.SetIsolation w ws n5 n8 n21 n22 n24 n27 n28 n29 = absurd (n22 refl)
+no_lists command.SetIsolationControl w ws n5 n8 n21 n22 n24 n27 n28 n29 = refl
+no_lists command.SetRetention w ws n5 n8 n21 n22 n24 n27 n28 n29 = absurd (n24 refl)
+no_lists command.SetRetentionControl w ws n5 n8 n21 n22 n24 n27 n28 n29 = refl
+no_lists command.SetLevelShifter w ws n5 n8 n21 n22 n24 n27 n28 n29 = refl
+no_lists command.AddPortState w ws n5 n8 n21 n22 n24 n27 n28 n29 = absurd (n27 refl)
+no_lists command.CreatePst w ws n5 n8 n21 n22 n24 n27 n28 n29 = absurd (n28 refl)
+no_lists command.AddPstState w ws n5 n8 n21 n22 n24 n27 n28 n29 = absurd (n29 refl)
+no_lists command.NotSimulated w ws n5 n8 n21 n22 n24 n27 n28 n29 = refl
+no_lists command.Unknown w ws n5 n8 n21 n22 n24 n27 n28 n29 = refl
 
-module _ (mem : Bytes) (words : List ℕ) (n c before : ℕ) (r : Option ℕ) (h : before ≤ 1024) where
+module _ (mem : Bytes) (words : List ℕ) (n : ℕ) (c : Command) (before : ℕ) (r : Option ℕ) (h : before ≤ 1024) where
   -- the values that it reads are these
-  reads : (vs : List Bytes) → lists_by (named_by c) (bytes mem (pair_at words 0)) (words_from mem words n 1) ≡ vs → Counts (entries_of vs) (Some before) r → r ≡ counted before (entries_of (lists_by (named_by c) (bytes mem (pair_at words 0)) (words_from mem words n 1)))
+  reads : (vs : List Bytes) → lists_by (named_by (number_of c)) (bytes mem (pair_at words 0)) (words_from mem words n 1) ≡ vs → Counts (entries_of vs) (Some before) r → r ≡ counted before (entries_of (lists_by (named_by (number_of c)) (bytes mem (pair_at words 0)) (words_from mem words n 1)))
   reads vs e a = a.is ∙ all_counted (entries_of vs) before h ∙ rw e
 
-  pub at_5 : c ≡ 5 → Counts (entries_of (optional (option_of (ascii "-elements") (words_from mem words n 1)))) (Some before) r → r ≡ counted before (entries_of (lists_by (named_by c) (bytes mem (pair_at words 0)) (words_from mem words n 1)))
-  at_5 e a = reads (optional (option_of (ascii "-elements") (words_from mem words n 1))) (rw e (option_is "-elements" (words_from mem words n 1) (option_of (ascii "-elements") (words_from mem words n 1)) refl)) a
+  pub at_create_power_domain : c ≡ command.CreatePowerDomain → Counts (entries_of (optional (option_of (ascii "-elements") (words_from mem words n 1)))) (Some before) r → r ≡ counted before (entries_of (lists_by (named_by (number_of c)) (bytes mem (pair_at words 0)) (words_from mem words n 1)))
+  at_create_power_domain e a = reads (optional (option_of (ascii "-elements") (words_from mem words n 1))) (rw e (option_is "-elements" (words_from mem words n 1) (option_of (ascii "-elements") (words_from mem words n 1)) refl)) a
 
-  pub at_8 : c ≡ 8 → Counts (entries_of (optional (option_of (ascii "-ports") (words_from mem words n 1)))) (Some before) r → r ≡ counted before (entries_of (lists_by (named_by c) (bytes mem (pair_at words 0)) (words_from mem words n 1)))
-  at_8 e a = reads (optional (option_of (ascii "-ports") (words_from mem words n 1))) (rw e (option_is "-ports" (words_from mem words n 1) (option_of (ascii "-ports") (words_from mem words n 1)) refl)) a
+  pub at_connect_supply_net : c ≡ command.ConnectSupplyNet → Counts (entries_of (optional (option_of (ascii "-ports") (words_from mem words n 1)))) (Some before) r → r ≡ counted before (entries_of (lists_by (named_by (number_of c)) (bytes mem (pair_at words 0)) (words_from mem words n 1)))
+  at_connect_supply_net e a = reads (optional (option_of (ascii "-ports") (words_from mem words n 1))) (rw e (option_is "-ports" (words_from mem words n 1) (option_of (ascii "-ports") (words_from mem words n 1)) refl)) a
 
-  pub at_22 : c ≡ 22 → Counts (entries_of (optional (option_of (ascii "-elements") (words_from mem words n 1)))) (Some before) r → r ≡ counted before (entries_of (lists_by (named_by c) (bytes mem (pair_at words 0)) (words_from mem words n 1)))
-  at_22 e a = reads (optional (option_of (ascii "-elements") (words_from mem words n 1))) (rw e (option_is "-elements" (words_from mem words n 1) (option_of (ascii "-elements") (words_from mem words n 1)) refl)) a
+  pub at_set_isolation : c ≡ command.SetIsolation → Counts (entries_of (optional (option_of (ascii "-elements") (words_from mem words n 1)))) (Some before) r → r ≡ counted before (entries_of (lists_by (named_by (number_of c)) (bytes mem (pair_at words 0)) (words_from mem words n 1)))
+  at_set_isolation e a = reads (optional (option_of (ascii "-elements") (words_from mem words n 1))) (rw e (option_is "-elements" (words_from mem words n 1) (option_of (ascii "-elements") (words_from mem words n 1)) refl)) a
 
-  pub at_24 : c ≡ 24 → Counts (entries_of (optional (option_of (ascii "-elements") (words_from mem words n 1)))) (Some before) r → r ≡ counted before (entries_of (lists_by (named_by c) (bytes mem (pair_at words 0)) (words_from mem words n 1)))
-  at_24 e a = reads (optional (option_of (ascii "-elements") (words_from mem words n 1))) (rw e (option_is "-elements" (words_from mem words n 1) (option_of (ascii "-elements") (words_from mem words n 1)) refl)) a
+  pub at_set_retention : c ≡ command.SetRetention → Counts (entries_of (optional (option_of (ascii "-elements") (words_from mem words n 1)))) (Some before) r → r ≡ counted before (entries_of (lists_by (named_by (number_of c)) (bytes mem (pair_at words 0)) (words_from mem words n 1)))
+  at_set_retention e a = reads (optional (option_of (ascii "-elements") (words_from mem words n 1))) (rw e (option_is "-elements" (words_from mem words n 1) (option_of (ascii "-elements") (words_from mem words n 1)) refl)) a
 
-  pub at_28 : c ≡ 28 → Counts (entries_of (optional (option_of (ascii "-supplies") (words_from mem words n 1)))) (Some before) r → r ≡ counted before (entries_of (lists_by (named_by c) (bytes mem (pair_at words 0)) (words_from mem words n 1)))
-  at_28 e a = reads (optional (option_of (ascii "-supplies") (words_from mem words n 1))) (rw e (option_is "-supplies" (words_from mem words n 1) (option_of (ascii "-supplies") (words_from mem words n 1)) refl)) a
+  pub at_create_pst : c ≡ command.CreatePst → Counts (entries_of (optional (option_of (ascii "-supplies") (words_from mem words n 1)))) (Some before) r → r ≡ counted before (entries_of (lists_by (named_by (number_of c)) (bytes mem (pair_at words 0)) (words_from mem words n 1)))
+  at_create_pst e a = reads (optional (option_of (ascii "-supplies") (words_from mem words n 1))) (rw e (option_is "-supplies" (words_from mem words n 1) (option_of (ascii "-supplies") (words_from mem words n 1)) refl)) a
 
-  pub at_29 : c ≡ 29 → Counts (entries_of (optional (option_of (ascii "-state") (words_from mem words n 1)))) (Some before) r → r ≡ counted before (entries_of (lists_by (named_by c) (bytes mem (pair_at words 0)) (words_from mem words n 1)))
-  at_29 e a = reads (optional (option_of (ascii "-state") (words_from mem words n 1))) (rw e (option_is "-state" (words_from mem words n 1) (option_of (ascii "-state") (words_from mem words n 1)) refl)) a
+  pub at_add_pst_state : c ≡ command.AddPstState → Counts (entries_of (optional (option_of (ascii "-state") (words_from mem words n 1)))) (Some before) r → r ≡ counted before (entries_of (lists_by (named_by (number_of c)) (bytes mem (pair_at words 0)) (words_from mem words n 1)))
+  at_add_pst_state e a = reads (optional (option_of (ascii "-state") (words_from mem words n 1))) (rw e (option_is "-state" (words_from mem words n 1) (option_of (ascii "-state") (words_from mem words n 1)) refl)) a
 
-  pub at_21 : c ≡ 21 → Counts (entries_of (switch_values (words_from mem words n 1) (strings mem words 0 n))) (Some before) r → r ≡ counted before (entries_of (lists_by (named_by c) (bytes mem (pair_at words 0)) (words_from mem words n 1)))
-  at_21 e a =
+  pub at_create_power_switch : c ≡ command.CreatePowerSwitch → Counts (entries_of (switch_values (words_from mem words n 1) (strings mem words 0 n))) (Some before) r → r ≡ counted before (entries_of (lists_by (named_by (number_of c)) (bytes mem (pair_at words 0)) (words_from mem words n 1)))
+  at_create_power_switch e a =
       reads (switch_values (words_from mem words n 1) (strings mem words 0 n))
       (rw (e, line_states mem words n (ascii "-on_state") (ascii "-off_state"), option_is "-control_port" (words_from mem words n 1) (option_of (ascii "-control_port") (words_from mem words n 1)) refl, option_is "-input_supply_port" (words_from mem words n 1) (option_of (ascii "-input_supply_port") (words_from mem words n 1)) refl, option_is "-output_supply_port" (words_from mem words n 1) (option_of (ascii "-output_supply_port") (words_from mem words n 1)) refl)) a
 
-  pub at_27 : c ≡ 27 → Counts (entries_of (state_values (states (ascii "-state") (ascii "-state") (strings mem words 0 n)))) (Some before) r → r ≡ counted before (entries_of (lists_by (named_by c) (bytes mem (pair_at words 0)) (words_from mem words n 1)))
-  at_27 e a = reads (state_values (states (ascii "-state") (ascii "-state") (strings mem words 0 n))) (rw (e, line_states mem words n (ascii "-state") (ascii "-state"))) a
+  pub at_add_port_state : c ≡ command.AddPortState → Counts (entries_of (state_values (states (ascii "-state") (ascii "-state") (strings mem words 0 n)))) (Some before) r → r ≡ counted before (entries_of (lists_by (named_by (number_of c)) (bytes mem (pair_at words 0)) (words_from mem words n 1)))
+  at_add_port_state e a = reads (state_values (states (ascii "-state") (ascii "-state") (strings mem words 0 n))) (rw (e, line_states mem words n (ascii "-state") (ascii "-state"))) a
 
-  pub at_rest : (c ≡ 5 → ⊥) → (c ≡ 8 → ⊥) → (c ≡ 21 → ⊥) → (c ≡ 22 → ⊥) → (c ≡ 24 → ⊥) → (c ≡ 27 → ⊥) → (c ≡ 28 → ⊥) → (c ≡ 29 → ⊥) → r ≡ Some before → r ≡ counted before (entries_of (lists_by (named_by c) (bytes mem (pair_at words 0)) (words_from mem words n 1)))
+  pub at_rest : (c ≡ command.CreatePowerDomain → ⊥) → (c ≡ command.ConnectSupplyNet → ⊥) → (c ≡ command.CreatePowerSwitch → ⊥) → (c ≡ command.SetIsolation → ⊥) → (c ≡ command.SetRetention → ⊥) → (c ≡ command.AddPortState → ⊥) → (c ≡ command.CreatePst → ⊥) → (c ≡ command.AddPstState → ⊥) → r ≡ Some before → r ≡ counted before (entries_of (lists_by (named_by (number_of c)) (bytes mem (pair_at words 0)) (words_from mem words n 1)))
   unfolding and_all
   at_rest n5 n8 n21 n22 n24 n27 n28 n29 e =
       reads [] (no_lists c (bytes mem (pair_at words 0)) (words_from mem words n 1) n5 n8 n21 n22 n24 n27 n28 n29) (record { is = e; few = rw e h })
 
-pub ruleset numbers = (rules, at_5, at_8, at_21, at_22, at_24, at_27, at_28, at_29, at_rest)
+pub ruleset numbers = (rules, at_create_power_domain, at_connect_supply_net, at_create_power_switch, at_set_isolation, at_set_retention, at_add_port_state, at_create_pst, at_add_pst_state, at_rest)

@@ -8,43 +8,48 @@ ghost use Rattle.tcl.specs.Lists.{list};
 ghost use Rattle.tcl.specs.Arguments.{option_of, states as Arguments·states};
 ghost use Rattle.args.specs.View.{words_from};
 ghost use Rattle.model.specs.Numbers.{named_by};
+ghost use Rattle.cmdnames.specs.Table.{number_of};
 ghost use Rattle.model.specs.Within.{state_values, entries_of, lists_by};
 ghost use Rattle.lists.specs.Count.{counted, and_one, size_of, Counts};
 ghost use Rattle.lists.specs.Values.{Whole, optional, switch_values};
+ghost use Rattle.spans.specs.Memory.{memory};
 
 use args::argument::option;
 use args::state::state_at;
+use cmdnames::Command;
 use entries::item::count;
-use spans::span::Span;
-use text::part::part;
+use spans::span::{Memory, Span};
+use text::part::{Rows, part};
 
-// The value as a part of whichever slice holds it; all of it, where it does not cross from one to the other.
-pub fn value<'a>(files: &'a [u8], area: &'a [u8], v: Span) -> &'a [u8]
-    ensures { Held (length files.now) v → result.now ≡ bytes (files.now ++ area.now) v }
+// The value as a part of whichever slice holds it; all of it, where it does not cross from one to the other. `fetch` of `spans` promises a front of any
+// string; a clause that says both is no plainer.
+#[tactic(auto, using(crate::proofs::Laws::parts))]
+pub fn value<'a>(mem: &Memory<'a>, v: Span) -> &'a [u8]
+    ensures { Held (length mem.now.files.now) v → result.now ≡ bytes (memory mem.now) v }
 {
     let at = v.at;
-    if at < files.len() {
-        return part(files, at, v.len);
+    if at < mem.files.len() {
+        return part(mem.files, at, v.len);
     }
-    let k = at - files.len();
-    part(area, k, v.len)
+    let k = at - mem.files.len();
+    part(mem.area, k, v.len)
 }
 
 // Whether a value has an entry.
-pub fn has_entries<'a>(files: &'a [u8], area: &'a [u8], v: Span) -> bool
-    ensures { Held (length files.now) v → result ≡ ltb 0 (length (list (bytes (files.now ++ area.now) v))) }
+pub fn has_entries<'a>(mem: &Memory<'a>, v: Span) -> bool
+    ensures { Held (length mem.now.files.now) v → result ≡ ltb 0 (length (list (bytes (memory mem.now) v))) }
 {
-    0 < count(value(files, area, v))
+    0 < count(value(mem, v))
 }
 
 // The entries of a value more.
 #[tactic(auto, using(crate::proofs::Laws::one_64))]
-fn and_value<'a>(files: &'a [u8], area: &'a [u8], v: Span, c: Option<usize>) -> Option<usize>
-    requires { Held (length files.now) v × (size_of c ≤ 1024) }
-    ensures { result ≡ and_one (length (list (bytes (files.now ++ area.now) v))) c }
+fn and_value<'a>(mem: &Memory<'a>, v: Span, c: Option<usize>) -> Option<usize>
+    requires { Held (length mem.now.files.now) v × (size_of c ≤ 1024) }
+    ensures { result ≡ and_one (length (list (bytes (memory mem.now) v))) c }
 {
     let t = c?;
-    let k = count(value(files, area, v));
+    let k = count(value(mem, v));
     if 64 < k {
         return None;
     }
@@ -55,84 +60,65 @@ fn and_value<'a>(files: &'a [u8], area: &'a [u8], v: Span, c: Option<usize>) -> 
 }
 
 // The entries of an option's value more.
-fn and_option<'a>(
-    files: &'a [u8],
-    area: &'a [u8],
-    words: &[u32],
-    n: usize,
-    key: &[u8],
-    c: Option<usize>,
-) -> Option<usize>
-    requires { Whole files.now area.now words.now n × (size_of c ≤ 1024) }
-    ensures { Counts (entries_of (optional (option_of key.now (words_from (files.now ++ area.now) words.now n 1)))) c result }
+fn and_option<'a>(mem: &Memory<'a>, command: &Rows, key: &[u8], c: Option<usize>) -> Option<usize>
+    requires { Whole mem.now.files.now mem.now.area.now command.now.rows.now command.now.n × (size_of c ≤ 1024) }
+    ensures { Counts (entries_of (optional (option_of key.now (words_from (memory mem.now) command.now.rows.now command.now.n 1)))) c result }
 {
-    match option(files, area, words, n, key) {
+    match option(mem, command, key) {
         None => c,
-        Some(v) => and_value(files, area, v, c),
+        Some(v) => and_value(mem, v, c),
     }
 }
 
 // The entries of the values of states more.
+#[tactic(auto, using(crate::proofs::Laws::lefts))]
 fn and_states<'a>(
-    files: &'a [u8],
-    area: &'a [u8],
-    words: &[u32],
-    n: usize,
+    mem: &Memory<'a>,
+    command: &Rows,
     one: &[u8],
     two: &[u8],
     c: Option<usize>,
 ) -> Option<usize>
-    requires { Whole files.now area.now words.now n × (size_of c ≤ 1024) }
-    ensures { Counts (entries_of (state_values (Arguments·states one.now two.now (strings (files.now ++ area.now) words.now 0 n)))) c result }
+    requires { Whole mem.now.files.now mem.now.area.now command.now.rows.now command.now.n × (size_of c ≤ 1024) }
+    ensures { Counts (entries_of (state_values (Arguments·states one.now two.now (strings (memory mem.now) command.now.rows.now 0 command.now.n)))) c result }
 {
-    let mut k = 0;
     let mut t = c;
-    while let Some((_, v)) = state_at(files, area, words, n, one, two, k) {
-        t = and_value(files, area, v, t);
-        k += 1;
+    for k in 0..command.n {
+        let Some((_, v)) = state_at(mem, command, one, two, k) else {
+            return t;
+        };
+        t = and_value(mem, v, t);
     }
     t
 }
 
 // The entries of all values of a switch more.
-fn and_switch<'a>(
-    files: &'a [u8],
-    area: &'a [u8],
-    words: &[u32],
-    n: usize,
-    c: Option<usize>,
-) -> Option<usize>
-    requires { Whole files.now area.now words.now n × (size_of c ≤ 1024) }
-    ensures { Counts (entries_of (switch_values (words_from (files.now ++ area.now) words.now n 1) (strings (files.now ++ area.now) words.now 0 n))) c result }
+fn and_switch<'a>(mem: &Memory<'a>, command: &Rows, c: Option<usize>) -> Option<usize>
+    requires { Whole mem.now.files.now mem.now.area.now command.now.rows.now command.now.n × (size_of c ≤ 1024) }
+    ensures { Counts (entries_of (switch_values (words_from (memory mem.now) command.now.rows.now command.now.n 1) (strings (memory mem.now) command.now.rows.now 0 command.now.n))) c result }
 {
-    let c1 = and_option(files, area, words, n, b"-control_port", c);
-    let c2 = and_states(files, area, words, n, b"-on_state", b"-off_state", c1);
-    let c3 = and_option(files, area, words, n, b"-input_supply_port", c2);
-    and_option(files, area, words, n, b"-output_supply_port", c3)
+    let c1 = and_option(mem, command, b"-control_port", c);
+    let c2 = and_states(mem, command, b"-on_state", b"-off_state", c1);
+    let c3 = and_option(mem, command, b"-input_supply_port", c2);
+    and_option(mem, command, b"-output_supply_port", c3)
 }
 
 // The entries of all that command c reads as lists more, `before` being those so far.
-pub fn entries<'a>(
-    files: &'a [u8],
-    area: &'a [u8],
-    words: &[u32],
-    n: usize,
-    c: usize,
-    before: usize,
-) -> Option<usize>
-    requires { Whole files.now area.now words.now n × (before ≤ 1024) }
-    ensures { result ≡ counted before (entries_of (lists_by (named_by c) (bytes (files.now ++ area.now) (pair_at words.now 0)) (words_from (files.now ++ area.now) words.now n 1))) }
+#[tactic(auto, using(crate::proofs::Laws::numbers))]
+pub fn entries<'a>(mem: &Memory<'a>, command: &Rows, c: Command, before: usize) -> Option<usize>
+    requires { Whole mem.now.files.now mem.now.area.now command.now.rows.now command.now.n × (before ≤ 1024) }
+    ensures { result ≡ counted before (entries_of (lists_by (named_by (number_of c)) (bytes (memory mem.now) (pair_at command.now.rows.now 0)) (words_from (memory mem.now) command.now.rows.now command.now.n 1))) }
 {
     let b = Some(before);
     match c {
-        5 => and_option(files, area, words, n, b"-elements", b),
-        8 => and_option(files, area, words, n, b"-ports", b),
-        21 => and_switch(files, area, words, n, b),
-        22 => and_option(files, area, words, n, b"-elements", b),
-        24 => and_option(files, area, words, n, b"-elements", b),
-        27 => and_states(files, area, words, n, b"-state", b"-state", b),
-        28 => and_option(files, area, words, n, b"-supplies", b),
-        29 => and_option(files, area, words, n, b"-state", b),
+        Command::CreatePowerDomain => and_option(mem, command, b"-elements", b),
+        Command::ConnectSupplyNet => and_option(mem, command, b"-ports", b),
+        Command::CreatePowerSwitch => and_switch(mem, command, b),
+        Command::SetIsolation => and_option(mem, command, b"-elements", b),
+        Command::SetRetention => and_option(mem, command, b"-elements", b),
+        Command::AddPortState => and_states(mem, command, b"-state", b"-state", b),
+        Command::CreatePst => and_option(mem, command, b"-supplies", b),
+        Command::AddPstState => and_option(mem, command, b"-state", b),
         _ => b,
     }
 }

@@ -1,5 +1,5 @@
 -- A load: what stands before it reads its file, and what is back behind it. Assumes nothing.
-use Rattle.std.specs.Prelude.{Option, Some, None}
+use Rattle.std.specs.Prelude.{Option, Some, None, Result, Ok, Err}
 use Rattle.store.specs.declared.stored.Stored.{Stored}
 use Rattle.std.specs.Prelude.{ℕ, ◌-◌, ◌≤◌, ◌<◌, ◌≡◌, List, take, drop}
 use Rattle.text.specs.Ascii.{Bytes}
@@ -10,8 +10,10 @@ use Rattle.store.specs.Added.{scope_set, top_set}
 use Rattle.store.specs.declared.state.Head.{Head}
 use Rattle.store.specs.declared.state.State.{State}
 use Rattle.scopes.specs.declared.go.Out.{Out}
+use Rattle.scopes.specs.Stops.{tag_of}
 use Rattle.scopes.specs.declared.go.Place.{Place}
-use Rattle.scopes.specs.Moves.{Line}
+use Rattle.scopes.specs.declared.go.Stop.{Stop}
+use Rattle.scopes.specs.Moves.{Line, out_of}
 use Rattle.held.specs.Held.{Held, Worded, model_at, counted_of}
 use Rattle.loads.specs.declared.Load.{Load}
 use Rattle.loads.specs.Steps.{line_at, step_from, load_at, files_in, Texts, file_reads}
@@ -49,12 +51,18 @@ pub record Loading (job files area nums words : List ℕ) (count n k left : ℕ)
 
 -- ---- what it answers
 
-abbrev pub load_of : ℕ → Place → ℕ → Load
-load_of tag p f = record { went = record { tag = tag; place = p }; file = f }
+-- the state in the load's scope; of a load that is refused the state as it was
+abbrev pub opened : State → Result Load Stop → Out
+opened s (Ok b) = out_of s (Ok b.place)
+opened s (Err x) = out_of s (Err x)
+
+abbrev pub file_of : Result Load Stop → ℕ
+file_of (Ok b) = b.file
+file_of (Err x) = 0
 
 -- a refusal: by whatever stood in the log
 pub record Refuses (job files area₀ nums : List ℕ) (count : ℕ) (words : List ℕ) (n k left : ℕ) (s : State) (r : Out) (f : ℕ) : Type 0 where
-  pub is : (text : Bytes) → step_from (load_at (files_in job nums count) left) (path_at job nums k) load_upf (line_at files area₀ words n s) (counted_of s) (model_at files area₀ nums s text) ≡ refused r.tag r.state.count.commands
+  pub is : (text : Bytes) → step_from (load_at (files_in job nums count) left) (path_at job nums k) load_upf (line_at files area₀ words n s) (counted_of s) (model_at files area₀ nums s text) ≡ refused (tag_of r.stop) r.state.count.commands
 
 -- the load goes on: with the state in its scope, and the file that it reads
 pub record Opens (job files area₀ area nums : List ℕ) (count : ℕ) (words : List ℕ) (n k left : ℕ) (s : State) (r : Out) (f : ℕ) : Type 0 where
@@ -69,5 +77,5 @@ pub record Opens (job files area₀ area nums : List ℕ) (count : ℕ) (words :
 pub record Loaded (job files area₀ area nums : List ℕ) (count : ℕ) (words : List ℕ) (n k left : ℕ) (s : State) (r : Out) (f : ℕ) : Type 0 where
   pub kept : take s.fill.end area ≡ take s.fill.end area₀
   pub back : drop 24576 area ≡ drop 24576 area₀
-  pub refuses : (r.tag ≡ 0 → ⊥) → Refuses job files area₀ nums count words n k left s r f
-  pub opens : r.tag ≡ 0 → Opens job files area₀ area nums count words n k left s r f
+  pub refuses : (tag_of r.stop ≡ 0 → ⊥) → Refuses job files area₀ nums count words n k left s r f
+  pub opens : tag_of r.stop ≡ 0 → Opens job files area₀ area nums count words n k left s r f

@@ -1,4 +1,5 @@
 -- One command from where its words have been read, and a file: what they come to. Assumes nothing.
+use Rattle.std.specs.Prelude.{Option, Some, None}
 use Rattle.std.specs.Prelude.{ℕ, zero, suc, ◌+◌, ◌≤◌, ◌<◌, ◌≡◌, Bool, cond, ◌&&◌, List, leb}
 use Rattle.text.specs.Ascii.{Bytes}
 use Rattle.text.specs.Scan.{all}
@@ -17,6 +18,7 @@ use Rattle.joined.specs.Joined.{joined_at}
 use Rattle.held.specs.Held.{mem_of, model_at, counted_of, Held, Worded}
 use Rattle.held.specs.Laws.{with_entries}
 use Rattle.scopes.specs.declared.go.Out.{Out}
+use Rattle.scopes.specs.declared.go.Stop.TheVariants as stop
 
 -- ---- a command whose words have been read: n counts it and its substitutions already
 
@@ -44,7 +46,7 @@ lists_fit commands before ls = leb commands most_commands && (all (λ k. leb k m
 -- the state with its entries counted, or the refusal
 abbrev pub counted_out : State → List ℕ → Out
 counted_out s ls =
-    cond (lists_fit s.count.commands s.count.entries ls) (record { tag = 0; state = with_entries s (s.count.entries + total ls) }) (record { tag = 10; state = s })
+    cond (lists_fit s.count.commands s.count.entries ls) (record { stop = None; state = with_entries s (s.count.entries + total ls) }) (record { stop = Some stop.PastLimit; state = s })
 
 -- ---- one that loads nothing, its entries counted
 

@@ -3,7 +3,6 @@
 use Rattle.std.specs.Prelude.{Some, None}
 use mathlib.Core.Path.{◌≡◌, ap, ◌∙◌, sym}
 use Prim.Native.Nat.{ℕ, ◌+◌, ◌-◌, ◌<◌, ◌≤◌}
-use native.Mathlib.Numerals.{add-one}
 use native.Mathlib.Omega.{arith}
 use mathlib.Core.Bool.{Bool, true, false}
 use mathlib.Core.List.{List}
@@ -12,32 +11,30 @@ use lib.ListN.{drop, drop_of_length-le}
 use borrow.Author.Rules.{rules}
 use Rattle.text.specs.Ascii.{Bytes}
 use Rattle.text.specs.Compare.{same}
-use Rattle.fields.specs.declared.Dims.{Dims}
 use Rattle.joblines.specs.Job.{Inst}
 use Rattle.joblines.specs.Sections.{insts_in}
 use Rattle.jobindex.specs.Index.{section, name_at, module_row}
 use Rattle.jobindex.specs.Rows.{rows_length, rows_here}
-use Rattle.jobindex.specs.declared.Span.{Span}
 use Rattle.design.specs.Lists.{first}
 use Rattle.design.specs.Lookup.{module_named, instance_named}
-use Rattle.lines.specs.Cursors.{spanned, InstSeen, Stepped}
+use Rattle.lines.specs.Cursors.{spanned, InstSeen}
 use Rattle.lines.specs.declared.InstAt.{InstAt}
-use Rattle.lookup.specs.Rows.{modules, row_is, ModuleSeen, insts_from, insts_end, insts_are, InstanceSeen, below}
+use Rattle.lookup.specs.Rows.{modules, ModuleSeen, insts_from, insts_end, insts_are, InstanceSeen, below}
 
 -- ---- modules
 module _ (job : Bytes) (index : List ℕ) (count : ℕ) (name : Bytes) (k : ℕ) (inv : module_named (modules job index count) name ≡ module_named (drop k (modules job index count)) name) where
-  pub named_end : count ≤ k → ModuleSeen job index count (module_named (modules job index count) name) 0
-  unfolding first row_is
-  named_end h = record { says = sym (inv ∙ rw (drop_of_length-le (modules job index count) {i = k} (omega (arith, rows_length (module_row job index) count)))); within = omega arith }
+  pub named_end : count ≤ k → ModuleSeen job index count (module_named (modules job index count) name) None
+  unfolding first
+  named_end h = record { says = sym (inv ∙ rw (drop_of_length-le (modules job index count) {i = k} (omega (arith, rows_length (module_row job index) count)))); within = tt }
 
   module _ (h : k < count) (p : Bytes) (ep : p ≡ name_at job index k) (t : Bool) (et : t ≡ same p name) where
     test : same (module_row job index k).name name ≡ t
     unfolding name_at module_row
     test = sym (et ∙ ap (λ (q : Bytes). same q name) ep)
 
-    pub named_here : t ≡ true → ModuleSeen job index count (module_named (modules job index count) name) (k + 1)
-    unfolding first row_is
-    named_here g = record { says = rw add-one (sym (inv ∙ rw (rows_here (module_row job index) count k h, test, g))); within = omega arith }
+    pub named_here : t ≡ true → ModuleSeen job index count (module_named (modules job index count) name) (Some k)
+    unfolding first
+    named_here g = record { says = sym (inv ∙ rw (rows_here (module_row job index) count k h, test, g)); within = h }
 
     pub named_next : t ≡ false → module_named (modules job index count) name ≡ module_named (drop (k + 1) (modules job index count)) name
     unfolding first
@@ -78,11 +75,10 @@ pub ruleset inst_turns = (rules, inst_start, inst_none, inst_less, inst_found, i
 
 -- ---- one instance down
 module _ (job : Bytes) (index : List ℕ) (count k : ℕ) (name : Bytes) where
-  pub below_none : InstanceSeen job index k name None → ModuleSeen job index count (below (modules job index count) (module_row job index k) name) 0
-  unfolding row_is
-  below_none seen = record { says = rw (← seen.says); within = omega arith }
+  pub below_none : InstanceSeen job index k name None → ModuleSeen job index count (below (modules job index count) (module_row job index k) name) None
+  below_none seen = record { says = rw (← seen.says); within = tt }
 
-  pub below_some : (i : InstAt) → InstanceSeen job index k name (Some i) → (p : Bytes) → p ≡ spanned job i.kind → (q : ℕ) → ModuleSeen job index count (module_named (modules job index count) p) q
+  pub below_some : (i : InstAt) → InstanceSeen job index k name (Some i) → (p : Bytes) → p ≡ spanned job i.kind → (q : Option ℕ) → ModuleSeen job index count (module_named (modules job index count) p) q
       → ModuleSeen job index count (below (modules job index count) (module_row job index k) name) q
   below_some i seen p ep q s = record { says = s.says ∙ rw (← seen.says, ep); within = s.within }
 

@@ -1,6 +1,6 @@
--- What a lookup comes to. A module is one more than the number of its row, 0 is none; the modules of the job are the rows of its index.
+-- What a lookup comes to. A module is the number of its row; the modules of the job are the rows of its index.
 -- Assumes nothing.
-use Rattle.std.specs.Prelude.{ℕ, zero, suc, ◌+◌, ◌≤◌, ◌-◌, ◌≡◌, refl, List, [], ◌∷◌, Option, None, Some}
+use Rattle.std.specs.Prelude.{ℕ, ◌+◌, ◌<◌, ◌≡◌, refl, List, [], ◌∷◌, Option, None, Some}
 use Rattle.text.specs.Ascii.{Bytes}
 use Rattle.joblines.specs.Job.{Inst, Module}
 use Rattle.joblines.specs.Sections.{insts_in}
@@ -9,29 +9,24 @@ use Rattle.design.specs.Lists.{on_some}
 use Rattle.design.specs.Lookup.{module_named, instance_named, module_at}
 use Rattle.lines.specs.Cursors.{inst_is}
 use Rattle.lines.specs.declared.InstAt.{InstAt}
-use Rattle.std.proofs.Common.{arith}
 
 -- the modules of the job, in the order of their lines
 abbrev pub modules : Bytes → List ℕ → ℕ → List Module
 modules job index count = rows (module_row job index) count
 
--- the module that a number stands for
-unfoldable pub row_is : Bytes → List ℕ → ℕ → Option Module
-row_is job index zero = None
-row_is job index (suc k) = Some (module_row job index k)
+-- the module of a row that was found
+abbrev pub row_is : Bytes → List ℕ → Option ℕ → Option Module
+row_is job index None = None
+row_is job index (Some k) = Some (module_row job index k)
 
-pub row_none : (job : Bytes) (index : List ℕ) → row_is job index 0 ≡ None
-unfolding row_is
-row_none job index = refl
+-- the row is one of the first `count`
+abbrev pub RowIn : ℕ → Option ℕ → Type 0
+RowIn count None = Unit {0}
+RowIn count (Some k) = k < count
 
-pub row_some : (job : Bytes) (index : List ℕ) (q : ℕ) → (q ≡ 0 → ⊥) → row_is job index q ≡ Some (module_row job index (q - 1))
-unfolding row_is
-row_some job index zero h = absurd (h refl)
-row_some job index (suc q) h = let z : suc q - 1 ≡ q = omega arith in rw z
-
-pub record ModuleSeen (job : Bytes) (index : List ℕ) (count : ℕ) (m : Option Module) (r : ℕ) : Type 0 where
+pub record ModuleSeen (job : Bytes) (index : List ℕ) (count : ℕ) (m : Option Module) (r : Option ℕ) : Type 0 where
   pub says : row_is job index r ≡ m
-  pub within : r ≤ count
+  pub within : RowIn count r
 
 -- ---- the instance lines of module k
 abbrev pub insts_from : List ℕ → ℕ → ℕ

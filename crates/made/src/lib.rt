@@ -9,7 +9,8 @@ use store::state::{Domain, Isolation, Port, PortState, Retention, Shifter, State
 use store::stored::{Below, Stored};
 
 // What a command does to the records: nothing; a reading limit is passed; a warning about a word; a row; a record more, or one anew. A switch and a
-// port state come with the end of the words of the store.
+// port state come with the end of the words of the store. `Nothing` and `Full` are two answers of many, matched where all are: a result of an option
+// around the others is no plainer.
 #[derive(Clone, Copy)]
 pub enum Deed {
     Nothing,
@@ -68,7 +69,8 @@ pub fn brief_of(s: State) -> Brief
     }
 }
 
-// The refusal's number, 0 where it is carried out; the state; and a row for the store, of kind 0 where there is none.
+// The refusal's number, 0 where it is carried out; the state; and a row for the store, of kind 0 where there is none. The definitions alone speak of it:
+// no code makes one, and the clauses name its state and its row in either case, so a sum of two forms is no plainer.
 #[derive(Clone, Copy)]
 pub struct Made {
     pub tag: usize,

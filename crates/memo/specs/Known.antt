@@ -1,13 +1,13 @@
 -- What a memo of instances says: in slot h stand one more than the number of a module, and a place of the job. The first instance of the module's lines from
 -- that place on is the first of its name in the module. Laws as the needs of those who look up by it ask them.
 -- Assumes nothing.
-use Rattle.std.specs.Prelude.{ℕ, zero, suc, ◌+◌, ◌*◌, ◌≤◌, ◌<◌, ◌^◌, ◌≡◌, refl, Bool, true, false, List, [], ◌∷◌, eqb, length, set, get_or, replicate, Option, Some}
-use Rattle.std.proofs.Common.{sym, ap, ◌∙◌, arith, length-set, get_or-set_same, get_or-set_other, eqb-true}
+use Rattle.std.specs.Prelude.{ℕ, zero, suc, ◌+◌, ◌*◌, ◌≤◌, ◌<◌, ◌^◌, ◌≡◌, refl, Bool, true, false, cond, List, [], ◌∷◌, eqb, length, set, get_or, replicate, Option, None, Some, is_some}
+use Rattle.std.proofs.Common.{sym, ap, ◌∙◌, arith, length-set, get_or-set_same, get_or-set_other, eqb-true, eq-eqb, ne_eqb, rules}
 use Rattle.std.proofs.lemmas.List.{length-replicate}
 use Rattle.std.proofs.lemmas.Bool.{eqb-false}
 use Rattle.text.specs.Ascii.{Bytes}
 use Rattle.text.specs.Compare.{same}
-use Rattle.text.specs.Sames.{same_of}
+use Rattle.text.specs.Sames.{same_of, no_true}
 use Rattle.fields.specs.declared.Dims.{Dims}
 use Rattle.joblines.specs.Job.{Inst}
 use Rattle.joblines.specs.Sections.{insts_in}
@@ -47,6 +47,19 @@ pub record Recalls (job : Bytes) (index memo : List ℕ) (k : ℕ) : Type 0 wher
   pub row : k ≤ 128
   pub known : Known job index memo
 
+-- the place in slot h, where it is one of module k
+abbrev pub place_in : List ℕ → ℕ → ℕ → Option ℕ
+place_in memo h k = cond (eqb (num memo (2 * h)) (k + 1)) (Some (num memo (2 * h + 1))) None
+
+module _ (memo : List ℕ) (h k a : ℕ) (ea : a ≡ num memo (2 * h)) where
+  pub place_none : (a ≡ k + 1 → ⊥) → None ≡ place_in memo h k
+  place_none n = rw (← ea, ne_eqb a (k + 1) n)
+
+  pub place_some : a ≡ k + 1 → (p : ℕ) → p ≡ num memo (2 * h + 1) → Some p ≡ place_in memo h k
+  place_some e p ep = rw (← ea, eq-eqb a (k + 1) e, ep)
+
+pub ruleset place_cases = (rules, place_none, place_some)
+
 -- what is asked of the memo: module k, slot h
 pub record Asked (job : Bytes) (index memo : List ℕ) (k h : ℕ) : Type 0 where
   pub row : k ≤ 128
@@ -62,6 +75,13 @@ module _ (job : Bytes) (index memo : List ℕ) (k h : ℕ) (a : Asked job index 
 
   pub asked_fits : k + 1 < 2 ^ 64
   asked_fits = omega (arith, a.row)
+
+  pub asked_leads : (p : ℕ) → Some p ≡ place_in memo h k → Leads job index k p
+  asked_leads p e = go (eqb (num memo (2 * h)) (k + 1)) refl e
+    where
+      go : (b : Bool) → eqb (num memo (2 * h)) (k + 1) ≡ b → Some p ≡ cond b (Some (num memo (2 * h + 1))) None → Leads job index k p
+      go true t f = let z : p ≡ num memo (2 * h + 1) = cc in rw z (a.known.leads h k a.slot (eqb-true (num memo (2 * h)) (k + 1) t))
+      go false t f = absurd (no_true (ap is_some (sym f)))
 
 module _ (job : Bytes) (index memo : List ℕ) (k : ℕ) (r : Recalls job index memo k) where
   pub recalls_row : k ≤ 128

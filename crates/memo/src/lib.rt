@@ -3,23 +3,18 @@
 #![tactic(auto)]
 
 ghost use Rattle.std.specs.Prelude.{◌≡◌, ◌+◌, ◌*◌, ◌≤◌, ◌<◌, length, set};
-ghost use Rattle.jobindex.specs.Index.{num};
-ghost use Rattle.memo.specs.Known.{slots};
+ghost use Rattle.memo.specs.Known.{slots, place_in};
 
-// One more than the number of the module in slot h; 0 where the slot is empty.
-pub fn row_in(memo: &[usize], h: usize) -> usize
+// The place in slot h, where it is one of module k.
+#[tactic(auto, using(crate::specs::Known::place_cases))]
+pub fn place_in(memo: &[usize], h: usize, k: usize) -> Option<usize>
     requires { h < slots }
-    ensures { result ≡ num memo.now (2 * h) }
+    ensures { result ≡ place_in memo.now h k }
 {
-    text::part::get_or(memo, 2 * h, 0)
-}
-
-// The place in slot h.
-pub fn place_in(memo: &[usize], h: usize) -> usize
-    requires { h < slots }
-    ensures { result ≡ num memo.now (2 * h + 1) }
-{
-    text::part::get_or(memo, 2 * h + 1, 0)
+    if text::part::get_or(memo, 2 * h, 0).checked_sub(1) != Some(k) {
+        return None;
+    }
+    Some(text::part::get_or(memo, 2 * h + 1, 0))
 }
 
 // Puts a place of module k into slot h.

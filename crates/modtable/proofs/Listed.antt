@@ -6,7 +6,7 @@ use mathlib.Core.Path.{◌≡◌, refl, sym, ap, ap₂, ◌∙◌}
 use mathlib.Core.Bool.{Bool, true, false, ◌||◌}
 use mathlib.Core.List.{List, [], ◌∷◌, ◌++◌, append-nil, append_assoc}
 use native.Mathlib.Omega.{arith}
-use lib.ListN.{length, take, drop, get_or, length-append, drop_of_length-le}
+use lib.ListN.{length, drop, length-append, drop_of_length-le}
 use borrow.Author.Rules.{rules}
 use Rattle.text.specs.Ascii.{Bytes}
 use Rattle.text.specs.Compare.{same}
@@ -105,12 +105,10 @@ module _ (job : Bytes) (inputs : List ℕ) (n : ℕ) (name : Bytes) where
     unfolding any
     among_none h = rw (drop_of_length-le (rows (input_in job inputs) n) {i = i} (omega (arith, rows_length (input_in job inputs) n))) at inv.keeps
 
-    module _ (h : i < n) (x y : ℕ) (ex : x ≡ get_or inputs (2 * i) 0) (ey : y ≡ get_or inputs (2 * i + 1) 0) (own : Bytes) (eo : own ≡ take y (drop x job)) (b : Bool) (eb : b ≡ same name own) where
+    module _ (h : i < n) (own : Bytes) (eo : own ≡ input_in job inputs i) (b : Bool) (eb : b ≡ same name own) where
       first : b || is_in name (drop (i + 1) (rows (input_in job inputs) n)) ≡ t
       unfolding any
-      first =
-          let w : input_in job inputs i ≡ own = sym (eo ∙ rw (ex, ey)) in
-          rw (eb, ← w) (rw (rows_here (input_in job inputs) n i h) at inv.keeps)
+      first = rw (eb, eo) (rw (rows_here (input_in job inputs) n i h) at inv.keeps)
 
       pub among_here : b ≡ true → true ≡ t
       among_here g = rw g at first

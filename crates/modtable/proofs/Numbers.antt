@@ -68,11 +68,6 @@ put_front n t p s h = take-set-le n (set t p (low_of s.at)) (p + 1) (low_of s.le
 pub put_long : (t : List ℕ) (p : ℕ) (s : Span) → length (part_put t p s) ≡ length t
 put_long t p s = length-set (set t p (low_of s.at)) (p + 1) (low_of s.len) ∙ length-set t p (low_of s.at)
 
-pub part_read : (job : Bytes) (table : List ℕ) (p x y : ℕ) (r : Bytes) → x ≡ get_or table p 0 → y ≡ get_or table (p + 1) 0 → r ≡ take y (drop x job) → r ≡ part_at job table p
-part_read job table p x y r ex ey er = er ∙ rw (ex, ey)
-
-pub ruleset reads = (rules, part_read)
-
 pub part_stored : (t : List ℕ) (p : ℕ) (s : Span) (x y : ℕ) → x ≡ low_of s.at → y ≡ low_of s.len → set (set t p x) (p + 1) y ≡ part_put t p s
 part_stored t p s x y ex ey = rw (ex, ey)
 

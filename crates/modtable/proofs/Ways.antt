@@ -22,7 +22,7 @@ use Rattle.jobindex.specs.Rows.{rows_more, rows_length, rows_same}
 use Rattle.jobindex.specs.declared.Span.{Span}
 use Rattle.lines.specs.Cursors.{spanned, inst_is, InstSeen}
 use Rattle.lines.specs.declared.InstAt.{InstAt}
-use Rattle.lookup.specs.Rows.{modules, row_is, ModuleSeen, insts_from, insts_end, insts_are}
+use Rattle.lookup.specs.Rows.{modules, ModuleSeen, insts_from, insts_end, insts_are}
 use Rattle.design.specs.Lists.{on_some}
 use Rattle.design.specs.Lookup.{module_named}
 use Rattle.walk.specs.Walk.{entered}
@@ -36,18 +36,14 @@ module _ (job : Bytes) (index : List ℕ) (count : ℕ) (d : Dims) (kind : Span)
   abbrev target : Option Module
   target = cond (dims_is d) None (module_named (modules job index count) (spanned job kind))
 
-  pub enter_array : d ≡ dims.One → ModuleSeen job index count target 0
-  unfolding row_is
-  enter_array h = record { says = rw h; within = omega arith }
+  pub enter_array : d ≡ dims.One → ModuleSeen job index count target None
+  enter_array h = record { says = rw h; within = tt }
 
-  module _ (p : Bytes) (ep : p ≡ spanned job kind) (r : ℕ) (named : ModuleSeen job index count (module_named (modules job index count) p) r) where
+  module _ (p : Bytes) (ep : p ≡ spanned job kind) (r : Option ℕ) (named : ModuleSeen job index count (module_named (modules job index count) p) r) where
     pub enter_plain : d ≡ dims.Zero → ModuleSeen job index count target r
     enter_plain h = record { says = rw (h, ← ep) named.says; within = named.within }
 
-    pub enter_bad : d ≡ dims.Bad → ModuleSeen job index count target r
-    enter_bad h = record { says = rw (h, ← ep) named.says; within = named.within }
-
-pub ruleset enters = (rules, enter_array, enter_plain, enter_bad)
+pub ruleset enters = (rules, enter_array, enter_plain)
 
 -- ---- one after the other
 
@@ -143,91 +139,86 @@ module _ (job : Bytes) (index : List ℕ) (count k : ℕ) (table₀ : List ℕ) 
       left_is : insts_in (section job at end) ≡ this ∷ insts_in (section job r.next end)
       left_is = sym seen.says
 
-      module _ (row : ℕ) (m : ModuleSeen job index count (cond (dims_is r.dims) None (module_named (modules job index count) (spanned job r.kind))) row) where
-        entered_is : entered d this ≡ row_is job index row
-        unfolding entered
-        entered_is = sym m.says
+      abbrev EnteredIs : Option ℕ → Type 0
+      EnteredIs = ModuleSeen job index count (cond (dims_is r.dims) None (module_named (modules job index count) (spanned job r.kind)))
 
-        pub ways_pass : row ≡ 0 → WaysOn job index count k table₀ table r.next end j
-        unfolding row_is ways_down
-        ways_pass z =
-            let n : entered d this ≡ None = entered_is ∙ rw z in
-            let l : ways_down d (insts_in (section job at end)) ≡ ways_down d (insts_in (section job r.next end)) = rw (left_is, n) in
-            record { front = inv.front; long = inv.long; low = inv.low; done = ap (λ (x : List Way). rows (way_in job index table k) j ++ x) (sym l) ∙ inv.done; within = inv.within; given = inv.given }
+      pub ways_pass : EnteredIs None → WaysOn job index count k table₀ table r.next end j
+      unfolding entered ways_down
+      ways_pass m =
+          let n : entered d this ≡ None = sym m.says in
+          let l : ways_down d (insts_in (section job at end)) ≡ ways_down d (insts_in (section job r.next end)) = rw (left_is, n) in
+          record { front = inv.front; long = inv.long; low = inv.low; done = ap (λ (x : List Way). rows (way_in job index table k) j ++ x) (sym l) ∙ inv.done; within = inv.within; given = inv.given }
 
-        module _ (z : row ≡ 0 → ⊥) where
-          abbrev way : Way
-          way = record { name = spanned job r.name; into = module_row job index (row - 1) }
+      module _ (row : ℕ) (m : EnteredIs (Some row)) where
+        abbrev way : Way
+        way = record { name = spanned job r.name; into = module_row job index row }
 
-          rest_is : ways_down d (insts_in (section job at end)) ≡ way ∷ ways_down d (insts_in (section job r.next end))
-          unfolding row_is ways_down
-          rest_is =
-              let y : row ≡ suc (row - 1) = omega arith in
-              let n : entered d this ≡ Some (module_row job index (row - 1)) = entered_is ∙ ap (row_is job index) y in
-              rw (left_is, n)
+        rest_is : ways_down d (insts_in (section job at end)) ≡ way ∷ ways_down d (insts_in (section job r.next end))
+        unfolding entered ways_down
+        rest_is = let n : entered d this ≡ Some (module_row job index row) = sym m.says in rw (left_is, n)
 
-          pub ways_low : j < 64
-          ways_low = omega (arith, all_long, ap length rest_is, all_few)
+        pub ways_low : j < 64
+        ways_low = omega (arith, all_long, ap length rest_is, all_few)
 
-          abbrev place : ℕ
-          place = way_place k j
+        abbrev place : ℕ
+        place = way_place k j
 
-          pub ways_place : way_place k j + 1 < length table
-          ways_place = omega (arith, ways_low, inv.given.row, inv.given.long, inv.long)
+        pub ways_place : way_place k j + 1 < length table
+        ways_place = omega (arith, ways_low, inv.given.row, inv.given.long, inv.long)
 
-          module _ (t : List ℕ) (et : t ≡ part_put table (way_place k j) r.name) where
-            put_len_is : length t ≡ length table
-            put_len_is = ap length et ∙ put_long table place r.name
+        module _ (t : List ℕ) (et : t ≡ part_put table (way_place k j) r.name) where
+          put_len_is : length t ≡ length table
+          put_len_is = ap length et ∙ put_long table place r.name
 
-            pub ways_room_row : way_place k j + 2 < length t
-            ways_room_row = omega (arith, put_len_is, ways_low, inv.given.row, inv.given.long, inv.long)
+          pub ways_room_row : way_place k j + 2 < length t
+          ways_room_row = omega (arith, put_len_is, ways_low, inv.given.row, inv.given.long, inv.long)
 
-            row_low : low_of (row - 1) ≡ row - 1
-            row_low = low_small (row - 1) (omega (arith, m.within, inv.given.count_few))
+          row_low : low_of row ≡ row
+          row_low = low_small row (omega (arith, m.within, inv.given.count_few))
 
-            abbrev t' : List ℕ
-            t' = set t (place + 2) (low_of (row - 1))
+          abbrev t' : List ℕ
+          t' = set t (place + 2) (low_of row)
 
-            other : (i : ℕ) → i < place → num t' i ≡ num table i
-            other i l = get_or-set_other t (place + 2) i (low_of (row - 1)) 0 (λ e. omega (arith, e, l)) ∙ rw et (put_other table place r.name i (λ e. omega (arith, e, l)) (λ e. omega (arith, e, l)))
+          other : (i : ℕ) → i < place → num t' i ≡ num table i
+          other i l = get_or-set_other t (place + 2) i (low_of row) 0 (λ e. omega (arith, e, l)) ∙ rw et (put_other table place r.name i (λ e. omega (arith, e, l)) (λ e. omega (arith, e, l)))
 
-            way_same : (q : ℕ) → q < j → way_in job index t' k q ≡ way_in job index table k q
-            way_same q l = rw (other (way_place k q) (omega arith), other (way_place k q + 1) (omega arith), other (way_place k q + 2) (omega arith))
+          way_same : (q : ℕ) → q < j → way_in job index t' k q ≡ way_in job index table k q
+          way_same q l = rw (other (way_place k q) (omega arith), other (way_place k q + 1) (omega arith), other (way_place k q + 2) (omega arith))
 
-            row_there : num t' (place + 2) ≡ row - 1
-            row_there = get_or-set_same t (place + 2) (low_of (row - 1)) 0 ways_room_row ∙ row_low
+          row_there : num t' (place + 2) ≡ row
+          row_there = get_or-set_same t (place + 2) (low_of row) 0 ways_room_row ∙ row_low
 
-            name_there : (c : ℕ) → c < 2 → num t' (place + c) ≡ num (part_put table place r.name) (place + c)
-            name_there c l = get_or-set_other t (place + 2) (place + c) (low_of (row - 1)) 0 (λ e. omega (arith, e, l)) ∙ rw et
+          name_there : (c : ℕ) → c < 2 → num t' (place + c) ≡ num (part_put table place r.name) (place + c)
+          name_there c l = get_or-set_other t (place + 2) (place + c) (low_of row) 0 (λ e. omega (arith, e, l)) ∙ rw et
 
-            way_new : way_in job index t' k j ≡ way
-            way_new =
-                let a : num t' place ≡ num (part_put table place r.name) place = get_or-set_other t (place + 2) place (low_of (row - 1)) 0 (λ e. omega (arith, e)) ∙ rw et in
-                let b : num t' (place + 1) ≡ num (part_put table place r.name) (place + 1) = get_or-set_other t (place + 2) (place + 1) (low_of (row - 1)) 0 (λ e. omega (arith, e)) ∙ rw et in
-                rw (a, b, row_there, put_part table place r.name ways_place job inv.given.small)
+          way_new : way_in job index t' k j ≡ way
+          way_new =
+              let a : num t' place ≡ num (part_put table place r.name) place = get_or-set_other t (place + 2) place (low_of row) 0 (λ e. omega (arith, e)) ∙ rw et in
+              let b : num t' (place + 1) ≡ num (part_put table place r.name) (place + 1) = get_or-set_other t (place + 2) (place + 1) (low_of row) 0 (λ e. omega (arith, e)) ∙ rw et in
+              rw (a, b, row_there, put_part table place r.name ways_place job inv.given.small)
 
-            within_on : (q : ℕ) → q < j + 1 → num t' (way_place k q + 2) < count
-            within_on q l =
-                let lo : q ≤ j = omega arith in
-                ⊎_elim (λ e. last e) (λ g. rw (other (way_place k q + 2) (omega (arith, g))) (inv.within q g)) (eq-or-lt_of_le lo)
-              where
-                last : q ≡ j → num t' (way_place k q + 2) < count
-                last e = let w : num t' (way_place k q + 2) ≡ row - 1 = ap (λ y. num t' (way_place k y + 2)) e ∙ row_there in omega (arith, w, m.within, z)
+          within_on : (q : ℕ) → q < j + 1 → num t' (way_place k q + 2) < count
+          within_on q l =
+              let lo : q ≤ j = omega arith in
+              ⊎_elim (λ e. last e) (λ g. rw (other (way_place k q + 2) (omega (arith, g))) (inv.within q g)) (eq-or-lt_of_le lo)
+            where
+              last : q ≡ j → num t' (way_place k q + 2) < count
+              last e = let w : num t' (way_place k q + 2) ≡ row = ap (λ y. num t' (way_place k y + 2)) e ∙ row_there in omega (arith, w, m.within)
 
-            pub ways_next : (x : ℕ) → x ≡ low_of (row - 1) → WaysOn job index count k table₀ (set t (way_place k j + 2) x) r.next end (j + 1)
-            ways_next x ex =
-                rw ex (record {
-                  front = take-set-le (ways_at k) t (place + 2) (low_of (row - 1)) (omega arith) ∙ rw et (put_front (ways_at k) table place r.name (omega arith)) ∙ inv.front;
-                  long = length-set t (place + 2) (low_of (row - 1)) ∙ put_len_is ∙ inv.long;
-                  low = omega (arith, ways_low);
-                  done =
-                      ap (λ (l : List Way). l ++ ways_down d (insts_in (section job r.next end))) (rows_more (way_in job index t' k) j
-                      ∙ ap₂ (λ (l : List Way) (y : Way). l ++ (y ∷ [])) (rows_same (way_in job index t' k) (way_in job index table k) j way_same) way_new)
-                      ∙ append_assoc (rows (way_in job index table k) j) (way ∷ []) (ways_down d (insts_in (section job r.next end)))
-                      ∙ ap (λ (l : List Way). rows (way_in job index table k) j ++ l) (sym rest_is)
-                      ∙ inv.done;
-                  within = within_on;
-                  given = inv.given;
-                })
+          pub ways_next : (x : ℕ) → x ≡ low_of row → WaysOn job index count k table₀ (set t (way_place k j + 2) x) r.next end (j + 1)
+          ways_next x ex =
+              rw ex (record {
+                front = take-set-le (ways_at k) t (place + 2) (low_of row) (omega arith) ∙ rw et (put_front (ways_at k) table place r.name (omega arith)) ∙ inv.front;
+                long = length-set t (place + 2) (low_of row) ∙ put_len_is ∙ inv.long;
+                low = omega (arith, ways_low);
+                done =
+                    ap (λ (l : List Way). l ++ ways_down d (insts_in (section job r.next end))) (rows_more (way_in job index t' k) j
+                    ∙ ap₂ (λ (l : List Way) (y : Way). l ++ (y ∷ [])) (rows_same (way_in job index t' k) (way_in job index table k) j way_same) way_new)
+                    ∙ append_assoc (rows (way_in job index table k) j) (way ∷ []) (ways_down d (insts_in (section job r.next end)))
+                    ∙ ap (λ (l : List Way). rows (way_in job index table k) j ++ l) (sym rest_is)
+                    ∙ inv.done;
+                within = within_on;
+                given = inv.given;
+              })
 
 pub ruleset ways = (rules, ways_given_row, ways_start, ways_few, ways_room, ways_end, ways_less, ways_pass, ways_low, ways_place, ways_room_row, ways_next)

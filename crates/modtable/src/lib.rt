@@ -7,6 +7,7 @@ ghost use Rattle.std.specs.Prelude.{◌≡◌, ◌+◌, ◌≤◌};
 ghost use Rattle.jobindex.specs.Index.{num as Index·num};
 ghost use Rattle.modtable.specs.Table.{names_at, ways_at, name_in, way_name, way_place};
 
+use jobindex::part_at;
 use text::part::place;
 
 pub mod inputs;
@@ -26,8 +27,7 @@ pub fn name<'a>(job: &'a [u8], table: &[u32], k: usize, i: usize) -> &'a [u8]
     requires { (k ≤ 128) × (i ≤ 192) }
     ensures { result.now ≡ name_in job.now table.now k i }
 {
-    let p = 578 * k + 1 + 2 * i;
-    text::part::part(job, place(table, p), place(table, p + 1))
+    part_at(job, table, 578 * k + 1 + 2 * i)
 }
 
 // Through how many instances of module k the walk goes down.
@@ -43,8 +43,7 @@ pub fn way_name<'a>(job: &'a [u8], table: &[u32], k: usize, j: usize) -> &'a [u8
     requires { (k ≤ 128) × (j ≤ 64) }
     ensures { result.now ≡ way_name job.now table.now k j }
 {
-    let p = 578 * k + 386 + 3 * j;
-    text::part::part(job, place(table, p), place(table, p + 1))
+    part_at(job, table, 578 * k + 386 + 3 * j)
 }
 
 // The number of its module.

@@ -6,23 +6,25 @@ ghost use Rattle.lookup.specs.Rows.{modules, ModuleSeen};
 ghost use Rattle.design.specs.Lookup.{module_named};
 ghost use Rattle.modtable.specs.Table.{Tabled};
 ghost use Rattle.modtable.specs.Making.{NamesGiven, NamesPut, WaysGiven, WaysPut, MakeGiven};
+ghost use Rattle.lookup.specs.Design.{modules_in};
 
 use super::inputs::{is_listed, put_inputs};
 use super::part::{low, put_part};
 use fields::Dims;
-use jobindex::Span;
+use jobindex::{Design, Index, Span};
 
 // The names that module k loses. The first n of `inputs` are its non-output ports.
+// n inputs are there: the numbers are lent for the most that a module can have.
 #[tactic(auto, using(crate::proofs::Names::names))]
-fn put_names(job: &[u8], index: &[u32], k: usize, inputs: &[u32], n: usize, table: &mut [u32])
-    requires { NamesGiven job.now index.now k inputs.now n table.old }
-    ensures { NamesPut job.now index.now k table.old table.new }
+fn put_names(index: &Index, k: usize, inputs: &[u32], n: usize, table: &mut [u32])
+    requires { NamesGiven index.now.job.now index.now.rows.now k inputs.now n table.old }
+    ensures { NamesPut index.now.job.now index.now.rows.now k table.old table.new }
 {
     let from = 578 * k + 1;
     let mut i = 0;
-    let mut c = ports::first(index, k);
-    while let Some(own) = ports::next_candidate(job, index, k, c) {
-        if is_listed(job, inputs, n, lines::part_of(job, own.name)) {
+    let mut c = ports::first(index.rows, k);
+    while let Some(own) = ports::next_candidate(index, k, c) {
+        if is_listed(index.job, inputs, n, lines::part_of(index.job, own.name)) {
             c = own.next;
             continue;
         }
@@ -33,41 +35,35 @@ fn put_names(job: &[u8], index: &[u32], k: usize, inputs: &[u32], n: usize, tabl
     table[578 * k] = low(i);
 }
 
-// The module that the walk enters through an instance: one more than the number of its row, 0 where it enters None.
+// The row of the module that the walk enters through an instance.
 #[tactic(auto, using(crate::proofs::Ways::enters))]
-fn entering(job: &[u8], index: &[u32], count: usize, dims: Dims, kind: Span) -> usize
-    requires { count ≤ 128 }
-    ensures { ModuleSeen job.now index.now count (cond (dims_is dims) None (module_named (modules job.now index.now count) (spanned job.now kind))) result }
+fn entering(design: &Design, dims: Dims, kind: Span) -> Option<usize>
+    requires { design.now.count ≤ 128 }
+    ensures { ModuleSeen design.now.index.job.now design.now.index.rows.now design.now.count (cond (dims_is dims) None (module_named (modules_in design.now) (spanned design.now.index.job.now kind))) result }
 {
     match dims {
-        Dims::One => 0,
-        Dims::Zero | Dims::Bad => lookup::module_named(
-            job,
-            index,
-            count,
-            lines::part_of(job, kind),
-        ),
+        Dims::One => None,
+        Dims::Zero => lookup::module_named(design, lines::part_of(design.index.job, kind)),
     }
 }
 
 // The instances of module k through which the walk goes down.
 #[tactic(auto, using(crate::proofs::Ways::ways))]
-fn put_ways(job: &[u8], index: &[u32], count: usize, k: usize, table: &mut [u32])
-    requires { WaysGiven job.now index.now count k table.old }
-    ensures { WaysPut job.now index.now count k table.old table.new }
+fn put_ways(design: &Design, k: usize, table: &mut [u32])
+    requires { WaysGiven design.now.index.job.now design.now.index.rows.now design.now.count k table.old }
+    ensures { WaysPut design.now.index.job.now design.now.index.rows.now design.now.count k table.old table.new }
 {
     let from = 578 * k + 386;
-    let end = lookup::insts_end(index, k);
-    let mut at = lookup::insts_from(index, k);
+    let end = lookup::insts_end(design.index.rows, k);
+    let mut at = lookup::insts_from(design.index.rows, k);
     let mut j = 0;
-    while let Some(inst) = lines::next_inst(job, at, end) {
-        let row = entering(job, index, count, inst.dims, inst.kind);
-        if row == 0 {
+    while let Some(inst) = lines::next_inst(design.index.job, at, end) {
+        let Some(row) = entering(design, inst.dims, inst.kind) else {
             at = inst.next;
             continue;
-        }
+        };
         put_part(table, from + 3 * j, inst.name);
-        table[from + 3 * j + 2] = low(row - 1);
+        table[from + 3 * j + 2] = low(row);
         j += 1;
         at = inst.next;
     }
@@ -76,13 +72,13 @@ fn put_ways(job: &[u8], index: &[u32], count: usize, k: usize, table: &mut [u32]
 
 // The table of the first `count` modules. `inputs` is for the ports of the module at hand.
 #[tactic(auto, using(crate::proofs::Modules::mades))]
-pub fn make(job: &[u8], index: &[u32], count: usize, inputs: &mut [u32], table: &mut [u32])
-    requires { MakeGiven job.now index.now count inputs.old table.old }
-    ensures { Tabled job.now index.now count table.new }
+pub fn make(design: &Design, inputs: &mut [u32], table: &mut [u32])
+    requires { MakeGiven design.now.index.job.now design.now.index.rows.now design.now.count inputs.old table.old }
+    ensures { Tabled design.now.index.job.now design.now.index.rows.now design.now.count table.new }
 {
-    for k in 0..count {
-        let n = put_inputs(job, index, k, inputs);
-        put_names(job, index, k, inputs, n, table);
-        put_ways(job, index, count, k, table);
+    for k in 0..design.count {
+        let n = put_inputs(&design.index, k, inputs);
+        put_names(&design.index, k, inputs, n, table);
+        put_ways(design, k, table);
     }
 }

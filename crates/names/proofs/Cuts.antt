@@ -25,6 +25,7 @@ use Rattle.names.specs.Frame.{alone_is, under_is}
 use Rattle.names.specs.Laws.{word_is}
 use Rattle.names.specs.Parts.{parts, first_part, behind, part_of, onto_first_lem, part_same, part_other}
 use Rattle.names.specs.declared.name.Name.{Name}
+use Rattle.names.specs.declared.name.Form.TheVariants.{Word}
 use Rattle.names.specs.declared.part.Part.{Part}
 use Rattle.names.specs.declared.part.Part.TheVariants.{Same, Last, Other}
 use Rattle.names.proofs.Written.{span_two}
@@ -152,9 +153,9 @@ module _ (files area p w : Bytes) (s : Span) (r : Bool) (e : r ≡ same (first_p
   pub begins_area : p ≡ take s.len (drop (s.at - length files) area) → length files ≤ s.at → r ≡ same (first_part (parts (bytes (files ++ area) s))) w
   begins_area f h = e ∙ ap (λ (x : Bytes). same (first_part (parts x)) w) (in_area h f)
 
-module _ (mem w : Bytes) (s : Span) (n : Name) (h : n ≡ named (0 ⋯ 0) false s 0) (r : Part) (e : part_of mem r ≡ behind w (parts (name_of mem n))) where
+module _ (mem w : Bytes) (s : Span) (n : Name) (h : n ≡ named (0 ⋯ 0) false s Word) (r : Part) (e : part_of mem r ≡ behind w (parts (name_of mem n))) where
   read_is : part_of mem r ≡ behind w (parts (bytes mem s))
-  read_is = e ∙ ap (λ (x : Bytes). behind w (parts x)) (ap (name_of mem) h ∙ alone_is mem s 0)
+  read_is = e ∙ ap (λ (x : Bytes). behind w (parts x)) (ap (name_of mem) h ∙ alone_is mem s Word)
 
   is_first_lem : (qs : List Bytes) → parts (bytes mem s) ≡ w ∷ qs → true ≡ same (first_part (parts (bytes mem s))) w
   is_first_lem qs g = sym (rw g (same_refl w))
@@ -194,10 +195,10 @@ module _ (files area w : Bytes) (s : Span) (t : Bool) (e : t ≡ same (first_par
       more : length w ≡ length (bytes (files ++ area) s) → ⊥
       more x = g (x ∙ sym l)
 
-      pub word_more_lem : (r : Name) → r ≡ named (0 ⋯ 0) false ((s.at + length w + 1) ⋯ (s.len - length w - 1)) 0 → Some (parts (name_of (files ++ area) r)) ≡ behind w (parts (bytes (files ++ area) s))
+      pub word_more_lem : (r : Name) → r ≡ named (0 ⋯ 0) false ((s.at + length w + 1) ⋯ (s.len - length w - 1)) Word → Some (parts (name_of (files ++ area) r)) ≡ behind w (parts (bytes (files ++ area) s))
       word_more_lem r q =
           let p = bytes (files ++ area) s in
-          let a : name_of (files ++ area) r ≡ drop (length w + 1) p = ap (name_of (files ++ area)) q ∙ (alone_is (files ++ area) _ 0 ∙ rest_is (files ++ area) s (length w)) in
+          let a : name_of (files ++ area) r ≡ drop (length w + 1) p = ap (name_of (files ++ area)) q ∙ (alone_is (files ++ area) _ Word ∙ rest_is (files ++ area) s (length w)) in
           let b : parts p ≡ w ∷ parts (drop (length w + 1) p) = rw (append-nil p, append-nil (drop (length w + 1) p)) at (part_in p w is_w [] more) in
           rw a (found p w (parts (drop (length w + 1) p)) b)
 

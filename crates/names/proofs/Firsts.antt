@@ -17,19 +17,25 @@ use Rattle.entries.specs.View.{entry_got}
 use Rattle.names.specs.Scoped.{scoped}
 use Rattle.names.specs.Name.{named, entry_of, slash, name_of, form_got, step_of, Makes}
 use Rattle.names.specs.declared.name.Name.{Name}
+use Rattle.names.specs.declared.name.Form.{Form}
+use Rattle.names.specs.declared.name.Form.TheVariants.{Word, Entry, Quoted}
 
 -- ---- a word or an entry
 
-module _ (mem : Bytes) (s : Span) (form : ℕ) where
-  pub formed_plain : (r : Option (ℕ × Span)) → bytes mem s ≡ got_of mem r → form ≡ 0 → entry_of form (bytes mem s) ≡ form_got form mem r
-  formed_plain (Some (b, t)) e h = rw (eq-eqb form 0 h) e
-  formed_plain None e h = rw (eq-eqb form 0 h) e
+module _ (mem : Bytes) (s : Span) (form : Form) where
+  pub formed_plain : (r : Option (ℕ × Span)) → bytes mem s ≡ got_of mem r → form ≡ Word → entry_of form (bytes mem s) ≡ form_got form mem r
+  formed_plain (Some (b, t)) e h = rw h e
+  formed_plain None e h = rw h e
 
-  pub formed_entry : (r : Option (ℕ × Span)) → entry_bytes (eqb form 2) (bytes mem s) ≡ entry_got (eqb form 2) mem r → (form ≡ 0 → ⊥) → entry_of form (bytes mem s) ≡ form_got form mem r
-  formed_entry (Some (b, t)) e h = rw (ne_eqb form 0 h) e
-  formed_entry None e h = rw (ne_eqb form 0 h) e
+  pub formed_entry : (r : Option (ℕ × Span)) → entry_bytes false (bytes mem s) ≡ entry_got false mem r → form ≡ Entry → entry_of form (bytes mem s) ≡ form_got form mem r
+  formed_entry (Some (b, t)) e h = rw h e
+  formed_entry None e h = rw h e
 
-pub ruleset formed = (rules, formed_plain, formed_entry)
+  pub formed_quoted : (r : Option (ℕ × Span)) → entry_bytes true (bytes mem s) ≡ entry_got true mem r → form ≡ Quoted → entry_of form (bytes mem s) ≡ form_got form mem r
+  formed_quoted (Some (b, t)) e h = rw h e
+  formed_quoted None e h = rw h e
+
+pub ruleset formed = (rules, formed_plain, formed_entry, formed_quoted)
 
 -- ---- a name
 
@@ -67,7 +73,7 @@ and_false : (t : Bool) → false ≡ t && false
 and_false true = refl
 and_false false = refl
 
-module _ (mem w : Bytes) (form : ℕ) (p : Option (ℕ × Span)) (e : w ≡ form_got form mem p) where
+module _ (mem w : Bytes) (form : Form) (p : Option (ℕ × Span)) (e : w ≡ form_got form mem p) where
   pub dot_none : p ≡ None → false ≡ same w (ascii ".")
   unfolding same
   dot_none h = rw (e, h)
@@ -85,8 +91,8 @@ pub ruleset dots = (rules, dot_none, dot_one, dot_more)
 
 -- ---- a name below a scope
 
-module _ (mem : Bytes) (s w : Span) (form : ℕ) (t : Bool) (f : t ≡ same (entry_of form (bytes mem w)) (ascii ".")) where
-  pub scoped_dot : (r : Name) → r ≡ named (0 ⋯ 0) false s 0 → t ≡ true → Makes mem s w form r
+module _ (mem : Bytes) (s w : Span) (form : Form) (t : Bool) (f : t ≡ same (entry_of form (bytes mem w)) (ascii ".")) where
+  pub scoped_dot : (r : Name) → r ≡ named (0 ⋯ 0) false s Word → t ≡ true → Makes mem s w form r
   unfolding scoped name_of bytes
   scoped_dot r g h = record { is = rw (← f, h, g); ends = rw g (omega arith) }
 

@@ -14,8 +14,11 @@ use Rattle.text.specs.Sames.{no_true, both, same_refl, same_eq, same_front, less
 use Rattle.spans.specs.Span.{◌⋯◌, bytes}
 use Rattle.spans.specs.Frame.{whole}
 use Rattle.spans.specs.declared.span.Span.{Span}
-use Rattle.names.specs.Name.{named, entry_of, slash, name_of}
+use Rattle.names.specs.Name.{named, entry_of, stands, slash, name_of}
+use Rattle.names.specs.Laws.{stands_word}
 use Rattle.names.specs.declared.name.Name.{Name}
+use Rattle.names.specs.declared.name.Form.{Form}
+use Rattle.names.specs.declared.name.Form.TheVariants.{Word}
 
 -- ---- whether a name is a string
 
@@ -37,9 +40,9 @@ module _ (p u w : Bytes) (t : Bool) (e : t ≡ starts_with p w) where
           let q : take (length p) w ≡ p = ap (take (length p)) v ∙ take_at p u (length p) refl in
           sym h ∙ e ∙ ap (λ (x : Bytes). same x p) q ∙ same_refl p
 
-module _ (mem w : Bytes) (s : Span) (form : ℕ) (r : Bool) where
-  pub is_word_lem : r ≡ same (bytes mem s) w → form ≡ 0 → r ≡ same (entry_of form (bytes mem s)) w
-  is_word_lem e h = rw (eq-eqb form 0 h) e
+module _ (mem w : Bytes) (s : Span) (form : Form) (r : Bool) where
+  pub is_word_lem : r ≡ same (bytes mem s) w → stands form ≡ true → r ≡ same (entry_of form (bytes mem s)) w
+  is_word_lem e h = rw (stands_word form h) e
 
   pub is_entry : (n : Name) → r ≡ same (name_of mem n) w → n ≡ named (0 ⋯ 0) false s form → r ≡ same (entry_of form (bytes mem s)) w
   unfolding name_of bytes
@@ -72,12 +75,12 @@ pub ruleset isses = (rules, is_word_lem, is_entry, is_bare_lem, is_no_slash, is_
 
 -- ---- two names whose parts stand beside each other
 
-alike_by : (p q u v : Bytes) (a b : ℕ) (c d : Bool) → (eqb a 0 && eqb b 0) && not ((c && not d) || (d && not c)) ≡ true → same p q ≡ true → same (p ++ (slash c ++ entry_of a u)) (q ++ (slash d ++ entry_of b v)) ≡ same u v
+alike_by : (p q u v : Bytes) (a b : Form) (c d : Bool) → (stands a && stands b) && not ((c && not d) || (d && not c)) ≡ true → same p q ≡ true → same (p ++ (slash c ++ entry_of a u)) (q ++ (slash d ++ entry_of b v)) ≡ same u v
 unfolding same
 alike_by p q u v a b c d g h =
-    let x = both (eqb a 0 && eqb b 0) (not ((c && not d) || (d && not c))) g in
-    let y = both (eqb a 0) (eqb b 0) x.0 in
-    rw (y.0, y.1) (go c d x.1)
+    let x = both (stands a && stands b) (not ((c && not d) || (d && not c))) g in
+    let y = both (stands a) (stands b) x.0 in
+    rw (stands_word a y.0, stands_word b y.1) (go c d x.1)
   where
     go : (c d : Bool) → not ((c && not d) || (d && not c)) ≡ true → same (p ++ (slash c ++ u)) (q ++ (slash d ++ v)) ≡ same u v
     go true true k = same_front p q (byte "/" ∷ u) (byte "/" ∷ v) h
@@ -85,12 +88,12 @@ alike_by p q u v a b c d g h =
     go true false k = absurd (no_true k)
     go false true k = absurd (no_true k)
 
-order_by : (p q u v : Bytes) (a b : ℕ) (c d : Bool) → (eqb a 0 && eqb b 0) && not ((c && not d) || (d && not c)) ≡ true → same p q ≡ true → less (p ++ (slash c ++ entry_of a u)) (q ++ (slash d ++ entry_of b v)) ≡ less u v
+order_by : (p q u v : Bytes) (a b : Form) (c d : Bool) → (stands a && stands b) && not ((c && not d) || (d && not c)) ≡ true → same p q ≡ true → less (p ++ (slash c ++ entry_of a u)) (q ++ (slash d ++ entry_of b v)) ≡ less u v
 unfolding less
 order_by p q u v a b c d g h =
-    let x = both (eqb a 0 && eqb b 0) (not ((c && not d) || (d && not c))) g in
-    let y = both (eqb a 0) (eqb b 0) x.0 in
-    rw (y.0, y.1) (go c d x.1)
+    let x = both (stands a && stands b) (not ((c && not d) || (d && not c))) g in
+    let y = both (stands a) (stands b) x.0 in
+    rw (stands_word a y.0, stands_word b y.1) (go c d x.1)
   where
     go : (c d : Bool) → not ((c && not d) || (d && not c)) ≡ true → less (p ++ (slash c ++ u)) (q ++ (slash d ++ v)) ≡ less u v
     go true true k = less_front p q (byte "/" ∷ u) (byte "/" ∷ v) h
@@ -98,7 +101,7 @@ order_by p q u v a b c d g h =
     go true false k = absurd (no_true k)
     go false true k = absurd (no_true k)
 
-module _ (mem : Bytes) (x y : Name) (t : Bool) (e : t ≡ (eqb x.form 0 && eqb y.form 0) && not ((x.sep && not y.sep) || (y.sep && not x.sep))) (g : not t ≡ false)
+module _ (mem : Bytes) (x y : Name) (t : Bool) (e : t ≡ (stands x.form && stands y.form) && not ((x.sep && not y.sep) || (y.sep && not x.sep))) (g : not t ≡ false)
     (f : Bool) (h : f ≡ same (bytes mem x.scope) (bytes mem y.scope)) (k : f ≡ true) (r : Bool) where
   pub names_fast : r ≡ same (bytes mem x.word) (bytes mem y.word) → r ≡ same (name_of mem x) (name_of mem y)
   unfolding name_of
@@ -118,7 +121,7 @@ module _ (mem : Bytes) (s t : Span) (r : Bool) where
       let b = both (eqb (length p) s.len) (eqb (length q) t.len) g in
       rw (← (whole mem s p e (eqb-true (length p) s.len b.0)), ← (whole mem t q f (eqb-true (length q) t.len b.1))) h
 
-  pub order_streams : (x y : Name) → r ≡ less (name_of mem x) (name_of mem y) → x ≡ named (0 ⋯ 0) false s 0 → y ≡ named (0 ⋯ 0) false t 0 → r ≡ less (bytes mem s) (bytes mem t)
+  pub order_streams : (x y : Name) → r ≡ less (name_of mem x) (name_of mem y) → x ≡ named (0 ⋯ 0) false s Word → y ≡ named (0 ⋯ 0) false t Word → r ≡ less (bytes mem s) (bytes mem t)
   unfolding name_of bytes
   order_streams x y h e f = rw (e, f) at h
 

@@ -13,8 +13,11 @@ use Rattle.spans.specs.Span.{◌⋯◌, bytes}
 use Rattle.spans.specs.declared.span.Span.{Span}
 use Rattle.out.specs.Emit.{Out, emit, emit_append}
 use Rattle.out.specs.Bytewise.{flat, becomes, mangle, dotted, sv_str, flat_two, flat_same}
-use Rattle.names.specs.Name.{named, entry_of, slash, name_of}
+use Rattle.out.specs.declared.bytewise.Mode.{Mode}
+use Rattle.names.specs.Name.{named, entry_of, stands, slash, name_of}
+use Rattle.names.specs.Laws.{stands_word}
 use Rattle.names.specs.declared.name.Name.{Name}
+use Rattle.names.specs.declared.name.Form.{Form}
 
 pub span_two : (t a : Bytes) (s : Span) → bytes (t ++ a) s ≡ take s.len (drop s.at t) ++ take (s.len - (length t - s.at)) (drop (s.at - length t) a)
 unfolding bytes
@@ -22,24 +25,24 @@ span_two t a s = rw (drop_two, take_two, length-drop)
 
 -- the modes by their names
 module _ (o w : Out) (p : Bytes) where
-  pub put_same : w ≡ emit o (flat (becomes 0) p) → w ≡ emit o p
+  pub put_same : w ≡ emit o (flat (becomes Mode.Same) p) → w ≡ emit o p
   put_same e = rw flat_same at e
 
-  pub put_mangle : w ≡ emit o (flat (becomes 1) p) → w ≡ emit o (mangle p)
+  pub put_mangle : w ≡ emit o (flat (becomes Mode.Mangled) p) → w ≡ emit o (mangle p)
   unfolding becomes
   put_mangle e = e
 
-  pub put_dots : w ≡ emit o (flat (becomes 2) p) → w ≡ emit o (dotted p)
+  pub put_dots : w ≡ emit o (flat (becomes Mode.Dotted) p) → w ≡ emit o (dotted p)
   unfolding becomes
   put_dots e = e
 
-  pub put_string : w ≡ emit o (flat (becomes 3) p) → w ≡ emit o (sv_str p)
+  pub put_string : w ≡ emit o (flat (becomes Mode.Quoted) p) → w ≡ emit o (sv_str p)
   unfolding becomes
   put_string e = e
 
 pub ruleset modes = (rules, put_same, put_mangle, put_dots, put_string)
 
-pub put_plain : (m : ℕ) (o w : Out) (p : Bytes) → w ≡ emit o p → m ≡ 0 → w ≡ emit o (flat (becomes m) p)
+pub put_plain : (m : Mode) (o w : Out) (p : Bytes) → w ≡ emit o p → m ≡ Mode.Same → w ≡ emit o (flat (becomes m) p)
 put_plain m o w p e h = rw (h, flat_same) e
 
 pub put_two : (f : ℕ → Bytes) (t a : Bytes) (s : Span) (o o₁ o₂ : Out) (p q : Bytes) (i j k : ℕ) → o₂ ≡ emit o₁ (flat f q) → o₁ ≡ emit o (flat f p)
@@ -55,12 +58,12 @@ pub put_first : (f : ℕ → Bytes) (t a : Bytes) (s : Span) (o o₁ : Out) (p :
 put_first f t a s o o₁ p i g d z h = let e : s.len - (length t - s.at) ≡ 0 = omega arith in rw (span_two, e, append-nil, ← d) g
 
 module _ (f : ℕ → Bytes) (mem : Bytes) (o o₂ : Out) where
-  pub put_entry : (n : Name) (form : ℕ) (w : Span) → o₂ ≡ emit o (flat f (name_of mem n)) → n ≡ named (0 ⋯ 0) false w form → o₂ ≡ emit o (flat f (entry_of form (bytes mem w)))
+  pub put_entry : (n : Name) (form : Form) (w : Span) → o₂ ≡ emit o (flat f (name_of mem n)) → n ≡ named (0 ⋯ 0) false w form → o₂ ≡ emit o (flat f (entry_of form (bytes mem w)))
   unfolding name_of bytes
   put_entry n form w h e = rw e at h
 
-  pub put_word : (form : ℕ) (w : Span) → o₂ ≡ emit o (flat f (bytes mem w)) → form ≡ 0 → o₂ ≡ emit o (flat f (entry_of form (bytes mem w)))
-  put_word form w h g = rw (eq-eqb form 0 g) h
+  pub put_word : (form : Form) (w : Span) → o₂ ≡ emit o (flat f (bytes mem w)) → stands form ≡ true → o₂ ≡ emit o (flat f (entry_of form (bytes mem w)))
+  put_word form w h g = rw (stands_word form g) h
 
   pub put_sep : (b : Bool) (w : Bytes) (o₁ : Out) → o₂ ≡ emit o₁ (flat f w) → o₁ ≡ emit o (f (byte "/")) → b ≡ true → o₂ ≡ emit o (flat f (slash b ++ w))
   unfolding flat

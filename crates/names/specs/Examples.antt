@@ -9,19 +9,20 @@ use Rattle.tcl.specs.Join.{joint_by, joined_by}
 use Rattle.tcl.specs.Substitution.{escape}
 use Rattle.names.specs.Scoped.{scoped}
 use Rattle.names.specs.Name.{named, name_of}
+use Rattle.names.specs.declared.name.Form.TheVariants.{Word, Entry, Quoted}
 use Rattle.names.specs.Parts.{parts, behind, unslashed}
 
 -- an entry in quotes below a scope
-in_scope_lem : name_of (ascii "top/u1 x\\y") (named (0 ⋯ 6) true (7 ⋯ 3) 2) ≡ ascii "top/u1/xy"
+in_scope_lem : name_of (ascii "top/u1 x\\y") (named (0 ⋯ 6) true (7 ⋯ 3) Quoted) ≡ ascii "top/u1/xy"
 unfolding name_of bytes rewrite joint_by joined_by escape
 in_scope_lem = refl
 
 -- an entry whose lines are joined, and the same word as it stands
-joined : name_of (ascii "a\\\nb") (named (0 ⋯ 0) false (0 ⋯ 4) 1) ≡ ascii "a b"
+joined : name_of (ascii "a\\\nb") (named (0 ⋯ 0) false (0 ⋯ 4) Entry) ≡ ascii "a b"
 unfolding name_of bytes rewrite joint_by joined_by
 joined = refl
 
-as_it_stands : name_of (ascii "a\\\nb") (named (0 ⋯ 0) false (0 ⋯ 4) 0) ≡ ascii "a\\\nb"
+as_it_stands : name_of (ascii "a\\\nb") (named (0 ⋯ 0) false (0 ⋯ 4) Word) ≡ ascii "a\\\nb"
 unfolding name_of bytes
 as_it_stands = refl
 

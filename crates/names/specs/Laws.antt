@@ -7,8 +7,10 @@ use Rattle.text.specs.Classes.{dot_of}
 use Rattle.text.specs.Sames.{both, no_true}
 use Rattle.out.specs.Bytewise.{flat, dotted_byte, dotted}
 use Rattle.spans.specs.Span.{bytes}
-use Rattle.names.specs.Name.{name_of, is_word, step_of}
+use Rattle.names.specs.Name.{name_of, stands, is_word, step_of}
 use Rattle.names.specs.declared.name.Name.{Name}
+use Rattle.names.specs.declared.name.Form.{Form}
+use Rattle.names.specs.declared.name.Form.TheVariants.{Word, Entry, Quoted}
 
 pub dot_slash : (b : ℕ) → b ≡ byte "/" → byte "." ≡ dot_of b
 dot_slash b h = sym (rw (eq-eqb b (byte "/") h))
@@ -33,13 +35,18 @@ pub dotted_map : (p : Bytes) → dotted p ≡ map dot_of p
 dotted_map [] = dotted_none
 dotted_map (b ∷ p) = rw (dotted_step b p) (ap (λ (r : Bytes). dot_of b ∷ r) (dotted_map p))
 
+pub stands_word : (f : Form) → stands f ≡ true → f ≡ Word
+stands_word Word h = refl
+stands_word Entry h = absurd (no_true h)
+stands_word Quoted h = absurd (no_true h)
+
 pub word_is : (mem : Bytes) (n : Name) → is_word n ≡ true → name_of mem n ≡ bytes mem n.word
 unfolding name_of bytes
 word_is mem n h =
     let a = both (eqb n.scope.len 0) _ h in
-    let b = both (not n.sep) (eqb n.form 0) a.1 in
+    let b = both (not n.sep) (stands n.form) a.1 in
     let e : n.scope.len ≡ 0 = eqb-true _ _ a.0 in
-    rw (e, no_is n.sep b.0, b.1)
+    rw (e, no_is n.sep b.0, stands_word n.form b.1)
   where
     no_is : (b : Bool) → not b ≡ true → b ≡ false
     no_is true g = absurd (no_true g)

@@ -1,19 +1,28 @@
 -- How a `Name` stands for a byte string: a scope, a slash, and a word or an entry of a list. Assumes nothing.
 use Rattle.std.specs.Prelude.{Option, Some, None}
-use Rattle.std.specs.Prelude.{ℕ, ◌+◌, ◌≤◌, max, ◌≡◌, Bool, cond, not, ◌&&◌, [], ◌∷◌, ◌++◌, eqb}
+use Rattle.std.specs.Prelude.{ℕ, ◌+◌, ◌≤◌, max, ◌≡◌, Bool, true, false, cond, not, ◌&&◌, [], ◌∷◌, ◌++◌, eqb}
 use Rattle.text.specs.Ascii.{Bytes, ascii}
 use Rattle.spans.specs.Span.{bytes}
 use Rattle.spans.specs.declared.span.Span.{Span}
 use Rattle.entries.specs.Entry.{entry_bytes}
 use Rattle.names.specs.Scoped.{scoped}
 use Rattle.names.specs.declared.name.Name.{Name}
+use Rattle.names.specs.declared.name.Form.{Form}
+use Rattle.names.specs.declared.name.Form.TheVariants.{Word, Entry, Quoted}
 
-abbrev pub named : Span → Bool → Span → ℕ → Name
+abbrev pub named : Span → Bool → Span → Form → Name
 named s p w f = record { scope = s; sep = p; word = w; form = f }
 
--- a word as it stands where the form is 0, a quoted entry of a list where it is 2, else an entry as it stands in the list
-abbrev pub entry_of : ℕ → Bytes → Bytes
-entry_of form w = cond (eqb form 0) w (entry_bytes (eqb form 2) w)
+-- a word as it stands, an entry as it stands in a list, or a quoted entry of a list
+abbrev pub entry_of : Form → Bytes → Bytes
+entry_of Word w = w
+entry_of Entry w = entry_bytes false w
+entry_of Quoted w = entry_bytes true w
+
+abbrev pub stands : Form → Bool
+stands Word = true
+stands Entry = false
+stands Quoted = false
 
 abbrev pub slash : Bool → Bytes
 slash sep = cond sep (ascii "/") []
@@ -24,7 +33,7 @@ name_of mem n = bytes mem n.scope ++ (slash n.sep ++ entry_of n.form (bytes mem 
 
 -- a name that is a word as it stands
 abbrev pub is_word : Name → Bool
-is_word n = eqb n.scope.len 0 && (not n.sep && eqb n.form 0)
+is_word n = eqb n.scope.len 0 && (not n.sep && stands n.form)
 
 -- where a name ends
 abbrev pub span_end : Span → ℕ
@@ -36,7 +45,7 @@ name_end n = max (span_end n.scope) (span_end n.word)
 -- ---- what is left, as the answer of a read tells it
 
 -- of a word or an entry: its first byte, and the span without it
-abbrev pub form_got : ℕ → Bytes → Option (ℕ × Span) → Bytes
+abbrev pub form_got : Form → Bytes → Option (ℕ × Span) → Bytes
 form_got f mem (Some (b, w)) = b ∷ entry_of f (bytes mem w)
 form_got f mem None = []
 
@@ -48,6 +57,6 @@ step_of mem None = []
 -- ---- a name that is made
 
 -- r is the name of w below the scope, and ends where these end at the latest
-pub record Makes (mem : Bytes) (scope w : Span) (form : ℕ) (r : Name) : Type 0 where
+pub record Makes (mem : Bytes) (scope w : Span) (form : Form) (r : Name) : Type 0 where
   pub is : name_of mem r ≡ scoped (bytes mem scope) (entry_of form (bytes mem w))
   pub ends : name_end r ≤ max (span_end scope) (span_end w)

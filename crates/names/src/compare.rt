@@ -1,45 +1,31 @@
-// Names compared.
-ghost use Rattle.std.specs.Prelude.{◌≡◌, ◌&&◌, ◌||◌, not, ◌++◌, eqb};
+// Names compared. `eq` and `lt` of the library's iterators compare; a derive would compare places, and two names at other places can be the same.
+ghost use Rattle.std.specs.Prelude.{◌≡◌, ◌&&◌, ◌||◌, not, ◌++◌};
 ghost use Rattle.text.specs.Compare.{same as Compare·same, less as Compare·less};
 ghost use Rattle.text.specs.Classes.{dot_of};
 ghost use Rattle.spans.specs.Span.{bytes};
 ghost use Rattle.out.specs.Bytewise.{dotted};
-ghost use Rattle.names.specs.Name.{slash, name_of};
+ghost use Rattle.names.specs.Name.{stands, slash, name_of};
+ghost use Rattle.spans.specs.Memory.{memory};
 
-use super::name::{Name, Stream, alone};
-use spans::span::{Span, fetch, same_spans};
+use super::name::{Form, Name, Stream, alone, stands};
+use spans::span::{Memory, Span, fetch, same_spans};
 
 // Whether two names are the same, byte by byte.
-fn same_streams(files: &[u8], area: &[u8], a: Name, b: Name) -> bool
-    ensures { result ≡ Compare·same (name_of (files.now ++ area.now) a) (name_of (files.now ++ area.now) b) }
+fn same_streams(mem: &Memory, a: Name, b: Name) -> bool
+    ensures { result ≡ Compare·same (name_of (memory mem.now) a) (name_of (memory mem.now) b) }
 {
-    let x = Stream {
-        files,
-        area,
-        left: a,
-    };
-    let y = Stream {
-        files,
-        area,
-        left: b,
-    };
+    let x = Stream { mem, left: a };
+    let y = Stream { mem, left: b };
     x.eq(y)
 }
 
 // Whether the first name comes before the second, byte by byte.
-fn less_streams(files: &[u8], area: &[u8], a: Name, b: Name) -> bool
-    ensures { result ≡ Compare·less (name_of (files.now ++ area.now) a) (name_of (files.now ++ area.now) b) }
+// As `same_streams` with another method: one function for both takes the comparison as a closure, which is no plainer.
+fn less_streams(mem: &Memory, a: Name, b: Name) -> bool
+    ensures { result ≡ Compare·less (name_of (memory mem.now) a) (name_of (memory mem.now) b) }
 {
-    let x = Stream {
-        files,
-        area,
-        left: a,
-    };
-    let y = Stream {
-        files,
-        area,
-        left: b,
-    };
+    let x = Stream { mem, left: a };
+    let y = Stream { mem, left: b };
     x.lt(y)
 }
 
@@ -54,57 +40,57 @@ pub fn dot(b: u8) -> u8
 }
 
 // Whether a name with `/` as `.` is w.
-pub fn is_dotted(files: &[u8], area: &[u8], n: Name, w: &[u8]) -> bool
-    ensures { result ≡ Compare·same (dotted (name_of (files.now ++ area.now) n)) w.now }
+pub fn is_dotted(mem: &Memory, n: Name, w: &[u8]) -> bool
+    ensures { result ≡ Compare·same (dotted (name_of (memory mem.now) n)) w.now }
 {
     let left = n;
-    Stream { files, area, left }.map(dot).eq(w.iter().copied())
+    Stream { mem, left }.map(dot).eq(w.iter().copied())
 }
 
 // Whether the parts of two names stand beside each other: the words as they are written, and a slash in both or in none.
 fn alike(a: Name, b: Name) -> bool
-    ensures { result ≡ (eqb a.form 0 && eqb b.form 0) && not ((a.sep && not b.sep) || (b.sep && not a.sep)) }
+    ensures { result ≡ (stands a.form && stands b.form) && not ((a.sep && not b.sep) || (b.sep && not a.sep)) }
 {
-    a.form == 0 && b.form == 0 && a.sep == b.sep
+    stands(a.form) && stands(b.form) && a.sep == b.sep
 }
 
 // Whether two names are the same.
 #[tactic(auto, using(crate::proofs::Sames::fast))]
-pub fn same_names<'a>(files: &'a [u8], area: &'a [u8], a: Name, b: Name) -> bool
-    ensures { result ≡ Compare·same (name_of (files.now ++ area.now) a) (name_of (files.now ++ area.now) b) }
+pub fn same_names<'a>(mem: &Memory<'a>, a: Name, b: Name) -> bool
+    ensures { result ≡ Compare·same (name_of (memory mem.now) a) (name_of (memory mem.now) b) }
 {
     if !alike(a, b) {
-        return same_streams(files, area, a, b);
+        return same_streams(mem, a, b);
     }
-    if same_spans(files, area, a.scope, b.scope) {
-        return same_spans(files, area, a.word, b.word);
+    if same_spans(mem, a.scope, b.scope) {
+        return same_spans(mem, a.word, b.word);
     }
-    same_streams(files, area, a, b)
+    same_streams(mem, a, b)
 }
 
 // Whether the first string comes before the second.
 #[tactic(auto, using(crate::proofs::Sames::orders))]
-fn less_spans<'a>(files: &'a [u8], area: &'a [u8], s: Span, t: Span) -> bool
-    ensures { result ≡ Compare·less (bytes (files.now ++ area.now) s) (bytes (files.now ++ area.now) t) }
+fn less_spans<'a>(mem: &Memory<'a>, s: Span, t: Span) -> bool
+    ensures { result ≡ Compare·less (bytes (memory mem.now) s) (bytes (memory mem.now) t) }
 {
-    let p = fetch(files, area, s);
-    let q = fetch(files, area, t);
+    let p = fetch(mem, s);
+    let q = fetch(mem, t);
     if (p.len() == s.len) & (q.len() == t.len) {
         return text::compare::less(p, q);
     }
-    less_streams(files, area, alone(s, 0), alone(t, 0))
+    less_streams(mem, alone(s, Form::Word), alone(t, Form::Word))
 }
 
 // Whether the first name comes before the second, by their bytes.
 #[tactic(auto, using(crate::proofs::Sames::orders))]
-pub fn less<'a>(files: &'a [u8], area: &'a [u8], a: Name, b: Name) -> bool
-    ensures { result ≡ Compare·less (name_of (files.now ++ area.now) a) (name_of (files.now ++ area.now) b) }
+pub fn less<'a>(mem: &Memory<'a>, a: Name, b: Name) -> bool
+    ensures { result ≡ Compare·less (name_of (memory mem.now) a) (name_of (memory mem.now) b) }
 {
     if !alike(a, b) {
-        return less_streams(files, area, a, b);
+        return less_streams(mem, a, b);
     }
-    if same_spans(files, area, a.scope, b.scope) {
-        return less_spans(files, area, a.word, b.word);
+    if same_spans(mem, a.scope, b.scope) {
+        return less_spans(mem, a.word, b.word);
     }
-    less_streams(files, area, a, b)
+    less_streams(mem, a, b)
 }

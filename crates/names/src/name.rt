@@ -3,60 +3,68 @@ ghost use Rattle.std.specs.Prelude.{◌≡◌, false, ◌++◌};
 ghost use Rattle.text.specs.Ascii.{ascii};
 ghost use Rattle.text.specs.Compare.{same};
 ghost use Rattle.spans.specs.Span.{bytes, ◌⋯◌};
-ghost use Rattle.names.specs.Name.{named, entry_of, slash, name_of, is_word, form_got, step_of, Makes};
+ghost use Rattle.names.specs.Name.{named, entry_of, stands, slash, name_of, is_word, form_got, step_of, Makes};
+ghost use Rattle.spans.specs.Memory.{memory};
 
 use entries::byte::first_byte;
-use spans::span::{Span, first};
+use spans::span::{Memory, Span, first};
 
-// The bytes of the scope, a slash where `sep` is set, and the word: as it stands where `form` is 0, an entry of a list where it is 1, a quoted
-// entry where it is 2.
+// How a word is read: as it stands, as an entry of a list, or as a quoted entry.
+#[derive(Clone, Copy)]
+pub enum Form {
+    Word,
+    Entry,
+    Quoted,
+}
+
+// The bytes of the scope, a slash where `sep` is set, and the word in its form.
 #[derive(Clone, Copy)]
 pub struct Name {
     pub scope: Span,
     pub word: Span,
     pub sep: bool,
-    pub form: u8,
+    pub form: Form,
 }
 
 // The first byte of a word or an entry.
 #[tactic(auto, using(crate::proofs::Firsts::formed))]
-fn first_formed(files: &[u8], area: &[u8], s: Span, form: u8) -> Option<(u8, Span)>
-    ensures { entry_of form (bytes (files.now ++ area.now) s) ≡ form_got form (files.now ++ area.now) result }
+fn first_formed(mem: &Memory, s: Span, form: Form) -> Option<(u8, Span)>
+    ensures { entry_of form (bytes (memory mem.now) s) ≡ form_got form (memory mem.now) result }
 {
-    if form == 0 {
-        return first(files, area, s);
+    match form {
+        Form::Word => first(mem, s),
+        Form::Entry => first_byte(mem, s, false),
+        Form::Quoted => first_byte(mem, s, true),
     }
-    first_byte(files, area, s, form == 2)
 }
 
 // The first byte of what stands behind the scope.
 #[tactic(auto, using(crate::proofs::Firsts::steps))]
-fn behind_scope(files: &[u8], area: &[u8], n: Name) -> Option<(u8, Name)>
-    ensures { slash n.sep ++ entry_of n.form (bytes (files.now ++ area.now) n.word) ≡ step_of (files.now ++ area.now) result }
+fn behind_scope(mem: &Memory, n: Name) -> Option<(u8, Name)>
+    ensures { slash n.sep ++ entry_of n.form (bytes (memory mem.now) n.word) ≡ step_of (memory mem.now) result }
 {
     if n.sep {
         return Some((b'/', alone(n.word, n.form)));
     }
-    let (b, word) = first_formed(files, area, n.word, n.form)?;
+    let (b, word) = first_formed(mem, n.word, n.form)?;
     Some((b, alone(word, n.form)))
 }
 
 // The first byte of what is left, and what is left then.
 #[tactic(auto, using(crate::proofs::Firsts::steps))]
-pub fn next(files: &[u8], area: &[u8], n: Name) -> Option<(u8, Name)>
-    ensures { name_of (files.now ++ area.now) n ≡ step_of (files.now ++ area.now) result }
+pub fn next(mem: &Memory, n: Name) -> Option<(u8, Name)>
+    ensures { name_of (memory mem.now) n ≡ step_of (memory mem.now) result }
 {
-    match first(files, area, n.scope) {
+    match first(mem, n.scope) {
         Some((b, scope)) => Some((b, Name { scope, ..n })),
-        None => behind_scope(files, area, n),
+        None => behind_scope(mem, n),
     }
 }
 
 // A name, read byte by byte: what is left of it.
 #[derive(Drop)]
 pub struct Stream<'a> {
-    pub files: &'a [u8],
-    pub area: &'a [u8],
+    pub mem: &'a Memory<'a>,
     pub left: Name,
 }
 
@@ -71,14 +79,14 @@ impl Iterator for Stream<'_> {
     ghost remaining = { item_count left_of };
 
     fn next(&mut self) -> Option<u8> {
-        let (b, left) = next(self.files, self.area, self.left)?;
+        let (b, left) = next(self.mem, self.left)?;
         self.left = left;
         Some(b)
     }
 }
 
 // A word or an entry alone.
-pub fn alone(w: Span, form: u8) -> Name
+pub fn alone(w: Span, form: Form) -> Name
     ensures { result ≡ named (0 ⋯ 0) false w form }
 {
     Name {
@@ -89,36 +97,43 @@ pub fn alone(w: Span, form: u8) -> Name
     }
 }
 
+// Whether a word is read as it stands.
+pub fn stands(form: Form) -> bool
+    ensures { result ≡ stands form }
+{
+    matches!(form, Form::Word)
+}
+
 // Whether a name is a word as it stands.
 pub fn is_word(n: Name) -> bool
     ensures { result ≡ is_word n }
 {
-    n.scope.len == 0 && !n.sep && n.form == 0
+    n.scope.len == 0 && !n.sep && stands(n.form)
 }
 
 // Whether a word or an entry is `.`.
 #[tactic(auto, using(crate::proofs::Firsts::dots))]
-fn is_dot(files: &[u8], area: &[u8], w: Span, form: u8) -> bool
-    ensures { result ≡ same (entry_of form (bytes (files.now ++ area.now) w)) (ascii ".") }
+fn is_dot(mem: &Memory, w: Span, form: Form) -> bool
+    ensures { result ≡ same (entry_of form (bytes (memory mem.now) w)) (ascii ".") }
 {
-    let Some((b, t)) = first_formed(files, area, w, form) else {
+    let Some((b, t)) = first_formed(mem, w, form) else {
         return false;
     };
-    if first_formed(files, area, t, form).is_some() {
-        return false;
+    match first_formed(mem, t, form) {
+        Some((_, _)) => false,
+        None => b == b'.',
     }
-    b == b'.'
 }
 
 // The name of a word or an entry below a scope: the scope itself for `.`.
 #[tactic(auto, using(crate::proofs::Firsts::scopes))]
-pub fn scoped(files: &[u8], area: &[u8], scope: Span, w: Span, form: u8) -> Name
-    ensures { Makes (files.now ++ area.now) scope w form result }
+pub fn scoped(mem: &Memory, scope: Span, w: Span, form: Form) -> Name
+    ensures { Makes (memory mem.now) scope w form result }
 {
-    if is_dot(files, area, w, form) {
-        return alone(scope, 0);
+    if is_dot(mem, w, form) {
+        return alone(scope, Form::Word);
     }
-    match first(files, area, scope) {
+    match first(mem, scope) {
         None => alone(w, form),
         Some((_, _)) => Name {
             scope,

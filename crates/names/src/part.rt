@@ -4,14 +4,16 @@ ghost use Rattle.text.specs.Compare.{same};
 ghost use Rattle.spans.specs.Span.{bytes};
 ghost use Rattle.names.specs.Name.{name_of};
 ghost use Rattle.names.specs.Parts.{parts, first_part, behind, unslashed, part_of};
+ghost use Rattle.spans.specs.Memory.{memory};
 
-use super::name::{Name, alone, is_word, next};
-use spans::span::{Span, size};
+use super::name::{Form, Name, alone, is_word, next};
+use spans::span::{Memory, Span, size};
 use text::compare::starts_with;
 use text::part::part;
 use text::scan::find;
 
 // The first part is the one looked for, with what is left behind its slash, or as the last part; or it is another.
+// An option of an option is no plainer: its two `None` would have to be told apart by where they stand.
 #[derive(Clone, Copy)]
 pub enum Part {
     Same(Name),
@@ -21,12 +23,12 @@ pub enum Part {
 
 // Whether the first part of a name is w, and what is left then, byte by byte.
 #[tactic(auto, using(crate::proofs::Parted::takes))]
-fn stepped_part(files: &[u8], area: &[u8], n: Name, w: &[u8]) -> Part
-    ensures { part_of (files.now ++ area.now) result ≡ behind w.now (parts (name_of (files.now ++ area.now) n)) }
+fn stepped_part(mem: &Memory, n: Name, w: &[u8]) -> Part
+    ensures { part_of (memory mem.now) result ≡ behind w.now (parts (name_of (memory mem.now) n)) }
 {
     let mut x = n;
     for c in w {
-        let Some((b, u)) = next(files, area, x) else {
+        let Some((b, u)) = next(mem, x) else {
             return Part::Other;
         };
         if b == b'/' || b != *c {
@@ -34,7 +36,7 @@ fn stepped_part(files: &[u8], area: &[u8], n: Name, w: &[u8]) -> Part
         }
         x = u;
     }
-    match next(files, area, x) {
+    match next(mem, x) {
         None => Part::Last,
         Some((b, u)) => {
             if b == b'/' {
@@ -55,16 +57,16 @@ fn begins_part(p: &[u8], w: &[u8]) -> bool
 
 // Whether the first part of a string is w; few strings cross from the files into the area.
 #[tactic(auto, using(crate::proofs::Cuts::spans))]
-fn begins_span(files: &[u8], area: &[u8], s: Span, w: &[u8]) -> bool
-    ensures { result ≡ same (first_part (parts (bytes (files.now ++ area.now) s))) w.now }
+fn begins_span(mem: &Memory, s: Span, w: &[u8]) -> bool
+    ensures { result ≡ same (first_part (parts (bytes (memory mem.now) s))) w.now }
 {
-    if s.len <= files.len().saturating_sub(s.at) {
-        return begins_part(part(files, s.at, s.len), w);
+    if s.len <= mem.files.len().saturating_sub(s.at) {
+        return begins_part(part(mem.files, s.at, s.len), w);
     }
-    if files.len() <= s.at {
-        return begins_part(part(area, s.at - files.len(), s.len), w);
+    if mem.files.len() <= s.at {
+        return begins_part(part(mem.area, s.at - mem.files.len(), s.len), w);
     }
-    match stepped_part(files, area, alone(s, 0), w) {
+    match stepped_part(mem, alone(s, Form::Word), w) {
         Part::Same(_) => true,
         Part::Last => true,
         Part::Other => false,
@@ -73,35 +75,35 @@ fn begins_span(files: &[u8], area: &[u8], s: Span, w: &[u8]) -> bool
 
 // Whether the first part of a word is w, and what is left then.
 #[tactic(auto, using(crate::proofs::Cuts::cuts))]
-fn word_part(files: &[u8], area: &[u8], s: Span, w: &[u8]) -> Part
-    ensures { part_of (files.now ++ area.now) result ≡ behind w.now (parts (bytes (files.now ++ area.now) s)) }
+fn word_part(mem: &Memory, s: Span, w: &[u8]) -> Part
+    ensures { part_of (memory mem.now) result ≡ behind w.now (parts (bytes (memory mem.now) s)) }
 {
-    if !begins_span(files, area, s, w) {
+    if !begins_span(mem, s, w) {
         return Part::Other;
     }
     let e = w.len();
-    if e == size(files, area, s) {
+    if e == size(mem, s) {
         return Part::Last;
     }
     let rest = Span {
         at: s.at + e + 1,
         len: s.len - e - 1,
     };
-    Part::Same(alone(rest, 0))
+    Part::Same(alone(rest, Form::Word))
 }
 
 // The same for a name with a slash behind its scope: the part lies in the scope.
 #[tactic(auto, using(crate::proofs::Cuts::scopes))]
-fn scope_part(files: &[u8], area: &[u8], n: Name, w: &[u8]) -> Part
+fn scope_part(mem: &Memory, n: Name, w: &[u8]) -> Part
     requires { n.sep ≡ true }
-    ensures { part_of (files.now ++ area.now) result ≡ behind w.now (parts (name_of (files.now ++ area.now) n)) }
+    ensures { part_of (memory mem.now) result ≡ behind w.now (parts (name_of (memory mem.now) n)) }
 {
     let s = n.scope;
-    if !begins_span(files, area, s, w) {
+    if !begins_span(mem, s, w) {
         return Part::Other;
     }
     let e = w.len();
-    if e == size(files, area, s) {
+    if e == size(mem, s) {
         return Part::Same(alone(n.word, n.form));
     }
     let scope = Span {
@@ -113,24 +115,24 @@ fn scope_part(files: &[u8], area: &[u8], n: Name, w: &[u8]) -> Part
 
 // Whether the first part of a name is w, and what is left then.
 #[tactic(auto, using(crate::proofs::Cuts::words))]
-pub fn next_part(files: &[u8], area: &[u8], n: Name, w: &[u8]) -> Part
-    ensures { part_of (files.now ++ area.now) result ≡ behind w.now (parts (name_of (files.now ++ area.now) n)) }
+pub fn next_part(mem: &Memory, n: Name, w: &[u8]) -> Part
+    ensures { part_of (memory mem.now) result ≡ behind w.now (parts (name_of (memory mem.now) n)) }
 {
     if is_word(n) {
-        return word_part(files, area, n.word, w);
+        return word_part(mem, n.word, w);
     }
     if n.sep {
-        return scope_part(files, area, n, w);
+        return scope_part(mem, n, w);
     }
-    stepped_part(files, area, n, w)
+    stepped_part(mem, n, w)
 }
 
 // A name without the slashes at its start.
-pub fn past_slashes(files: &[u8], area: &[u8], n: Name) -> Name
-    ensures { name_of (files.now ++ area.now) result ≡ unslashed (name_of (files.now ++ area.now) n) }
+pub fn past_slashes(mem: &Memory, n: Name) -> Name
+    ensures { name_of (memory mem.now) result ≡ unslashed (name_of (memory mem.now) n) }
 {
     let mut x = n;
-    while let Some((b, u)) = next(files, area, x) {
+    while let Some((b, u)) = next(mem, x) {
         if b != b'/' {
             return x;
         }

@@ -10,10 +10,12 @@ use Rattle.text.specs.Ascii.{Bytes}
 use Rattle.spans.specs.Span.{◌⋯◌, bytes}
 use Rattle.names.specs.Name.{named, name_of, entry_of, slash}
 use Rattle.names.specs.declared.name.Name.{Name}
+use Rattle.names.specs.declared.name.Form.{Form}
+use Rattle.names.specs.declared.name.Form.TheVariants.{Word, Entry, Quoted}
 
--- the fifth number: twice the form (0, 1 or 2), and one more for a slash
-abbrev pub form_at : ℕ → ℕ
-form_at tag = cond (ltb tag 2) 0 (cond (ltb tag 4) 1 2)
+-- the fifth number: twice the form (a word 0, an entry 1, a quoted entry 2), and one more for a slash
+abbrev pub form_at : ℕ → Form
+form_at tag = cond (ltb tag 2) Word (cond (ltb tag 4) Entry Quoted)
 
 abbrev pub sep_at : ℕ → Bool
 sep_at tag = eqb tag 1 || (eqb tag 3 || eqb tag 5)
@@ -21,8 +23,10 @@ sep_at tag = eqb tag 1 || (eqb tag 3 || eqb tag 5)
 abbrev pub bit_of : Bool → ℕ
 bit_of sep = cond sep 1 0
 
-abbrev pub tag_of : ℕ → Bool → ℕ
-tag_of form sep = cond (eqb form 0) (bit_of sep) (cond (eqb form 2) (4 + bit_of sep) (2 + bit_of sep))
+abbrev pub tag_of : Form → Bool → ℕ
+tag_of Word sep = bit_of sep
+tag_of Entry sep = 2 + bit_of sep
+tag_of Quoted sep = 4 + bit_of sep
 
 -- the name that row k holds
 unfoldable pub row_name : List ℕ → ℕ → Name
@@ -99,32 +103,26 @@ module _ (t : List ℕ) (k : ℕ) (n : Name) where
   other_names mem i zero h = refl
   other_names mem i (suc m) h = rw (other_row i (omega arith), other_names mem (i + 1) m (omega arith))
 
--- a tag read back is the slash, and the form as far as a name looks at it
-tag_sep : (form : ℕ) (sep : Bool) → sep_at (tag_of form sep) ≡ sep
-tag_sep form sep = go (eqb form 0) (eqb form 2) sep
-  where
-    go : (a b s : Bool) → sep_at (cond a (bit_of s) (cond b (4 + bit_of s) (2 + bit_of s))) ≡ s
-    go true b true = refl
-    go true b false = refl
-    go false true true = refl
-    go false true false = refl
-    go false false true = refl
-    go false false false = refl
+-- a tag read back is the slash and the form
+tag_sep : (form : Form) (sep : Bool) → sep_at (tag_of form sep) ≡ sep
+tag_sep Word true = refl
+tag_sep Word false = refl
+tag_sep Entry true = refl
+tag_sep Entry false = refl
+tag_sep Quoted true = refl
+tag_sep Quoted false = refl
 
-tag_form : (form : ℕ) (sep : Bool) (w : Bytes) → entry_of (form_at (tag_of form sep)) w ≡ entry_of form w
-tag_form form sep w = go (eqb form 0) refl (eqb form 2) refl sep
-  where
-    go : (a : Bool) → eqb form 0 ≡ a → (b : Bool) → eqb form 2 ≡ b → (s : Bool) → entry_of (form_at (cond a (bit_of s) (cond b (4 + bit_of s) (2 + bit_of s)))) w ≡ entry_of form w
-    go true e b f true = rw e
-    go true e b f false = rw e
-    go false e true f true = rw (e, f)
-    go false e true f false = rw (e, f)
-    go false e false f true = rw (e, f)
-    go false e false f false = rw (e, f)
+pub tag_form : (form : Form) (sep : Bool) → form_at (tag_of form sep) ≡ form
+tag_form Word true = refl
+tag_form Word false = refl
+tag_form Entry true = refl
+tag_form Entry false = refl
+tag_form Quoted true = refl
+tag_form Quoted false = refl
 
--- what is read back from row k: the spans, the slash, and the form as a name looks at it
+-- what is read back from row k
 module _ (t : List ℕ) (k : ℕ) (n : Name) (h : 5 * k + 5 ≤ length t) where
-  pub row_back : row_name (row_put t k n) k ≡ named n.scope n.sep n.word (form_at (tag_of n.form n.sep))
+  pub row_back : row_name (row_put t k n) k ≡ n
   unfolding row_name
   row_back =
       let l1 = set t (5 * k) n.scope.at in
@@ -141,12 +139,11 @@ module _ (t : List ℕ) (k : ℕ) (n : Name) (h : 5 * k + 5 ≤ length t) where
       let e2 : get_or (row_put t k n) (5 * k + 2) 0 ≡ n.word.at = get_or-set_other l4 (5 * k + 4) (5 * k + 2) v 0 (λ e. omega arith) ∙ get_or-set_other l3 (5 * k + 3) (5 * k + 2) n.word.len 0 (λ e. omega arith) ∙ get_or-set_same l2 (5 * k + 2) n.word.at 0 (omega arith) in
       let e1 : get_or (row_put t k n) (5 * k + 1) 0 ≡ n.scope.len = get_or-set_other l4 (5 * k + 4) (5 * k + 1) v 0 (λ e. omega arith) ∙ get_or-set_other l3 (5 * k + 3) (5 * k + 1) n.word.len 0 (λ e. omega arith) ∙ get_or-set_other l2 (5 * k + 2) (5 * k + 1) n.word.at 0 (λ e. omega arith) ∙ get_or-set_same l1 (5 * k + 1) n.scope.len 0 (omega arith) in
       let e0 : get_or (row_put t k n) (5 * k) 0 ≡ n.scope.at = get_or-set_other l4 (5 * k + 4) (5 * k) v 0 (λ e. omega arith) ∙ get_or-set_other l3 (5 * k + 3) (5 * k) n.word.len 0 (λ e. omega arith) ∙ get_or-set_other l2 (5 * k + 2) (5 * k) n.word.at 0 (λ e. omega arith) ∙ get_or-set_other l1 (5 * k + 1) (5 * k) n.scope.len 0 (λ e. omega arith) ∙ get_or-set_same t (5 * k) n.scope.at 0 (omega arith) in
-      rw (e0, e1, e2, e3, e4, tag_sep n.form n.sep)
+      rw (e0, e1, e2, e3, e4, tag_sep n.form n.sep, tag_form n.form n.sep)
 
 module _ (mem : Bytes) (t : List ℕ) (k : ℕ) (n : Name) (h : 5 * k + 5 ≤ length t) where
   pub same_row : name_of mem (row_name (row_put t k n) k) ≡ name_of mem n
-  unfolding name_of
-  same_row = rw (row_back t k n h, tag_form n.form n.sep (bytes mem n.word))
+  same_row = ap (name_of mem) (row_back t k n h)
 
   -- a name put into the row behind n rows is one more at the end
   pub put_names : table_names mem (row_put t k n) (k + 1) ≡ table_names mem t k ++ (name_of mem n ∷ [])

@@ -1,25 +1,25 @@
 // A table of stored names in lent numbers. A row has five: where the scope begins and its length, where the word begins and its length, and
-// twice the form, and one more where a slash stands between the two.
+// twice the form (a word 0, an entry 1, a quoted entry 2), and one more where a slash stands between the two.
 #![tactic(auto)]
 
 ghost use Rattle.std.specs.Prelude.{◌≡◌, ◌+◌, ◌*◌, ◌≤◌, ◌<◌, length};
 ghost use Rattle.nametable.specs.Table.{form_at, sep_at, bit_of, tag_of, row_name, row_put, Stores};
 
-use names::name::Name;
+use names::name::{Form, Name};
 use spans::span::Span;
 use text::part::{num, place};
 
 // The form that a number stands for.
-fn form_of(tag: u32) -> u8
+fn form_of(tag: u32) -> Form
     ensures { result ≡ form_at tag }
 {
     if tag < 2 {
-        return 0;
+        return Form::Word;
     }
     if tag < 4 {
-        return 1;
+        return Form::Entry;
     }
-    2
+    Form::Quoted
 }
 
 // Whether a slash stands behind the scope.
@@ -53,17 +53,15 @@ pub fn row(table: &[u32], k: usize) -> Name
 
 // The number that a form and a slash are stored as.
 #[tactic(auto, using(crate::proofs::Rows::tags))]
-fn tag_of(form: u8, sep: bool) -> u32
+fn tag_of(form: Form, sep: bool) -> u32
     ensures { result ≡ tag_of form sep }
 {
     let b = u32::from(sep);
-    if form == 0 {
-        return b;
+    match form {
+        Form::Word => b,
+        Form::Entry => 2 + b,
+        Form::Quoted => 4 + b,
     }
-    if form == 2 {
-        return 4 + b;
-    }
-    2 + b
 }
 
 // Puts a name into row k.

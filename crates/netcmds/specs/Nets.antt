@@ -14,6 +14,7 @@ use Rattle.spans.specs.Span.{bytes}
 use Rattle.spans.specs.Reach.{reach, none_reach}
 use Rattle.spans.specs.declared.span.Span.{Span}
 use Rattle.names.specs.Name.{name_of as Name·nameOf, Makes}
+use Rattle.names.specs.declared.name.Form.TheVariants.{Word}
 use Rattle.names.specs.declared.name.Name.{Name}
 use Rattle.tcl.specs.Arguments.{name_of}
 use Rattle.args.specs.View.{words_from}
@@ -43,7 +44,7 @@ abbrev pub is_called : Bytes → Bytes → Below → Bool
 is_called mem w b = same (below_of mem b) w
 
 -- a stored name, as it is read
-pub named_is : (mem : Bytes) (b : Below) (p q : Span) (r : Name) → p ≡ span_of b.scope → q ≡ span_of b.word → Makes mem p q 0 r → Name·nameOf mem r ≡ below_of mem b
+pub named_is : (mem : Bytes) (b : Below) (p q : Span) (r : Name) → p ≡ span_of b.scope → q ≡ span_of b.word → Makes mem p q Word r → Name·nameOf mem r ≡ below_of mem b
 named_is mem b p q r e g m = m.is ∙ ap (λ (u : Span). scoped (bytes mem u) (bytes mem q)) e ∙ ap (λ (u : Span). scoped (string mem b.scope) (bytes mem u)) g
 
 pub called_is : (mem w : Bytes) (b : Below) (y : Name) (k r : Bool) → Name·nameOf mem y ≡ below_of mem b → k ≡ same (Name·nameOf mem y) w → k ≡ r → is_called mem w b ≡ r

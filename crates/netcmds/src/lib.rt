@@ -11,46 +11,42 @@ ghost use Rattle.made.specs.Made.{Line, brief_of, Does};
 ghost use Rattle.model.specs.Records.{Model};
 ghost use Rattle.store.specs.declared.state.State.{State};
 ghost use Rattle.netcmds.specs.Nets.{is_called};
+ghost use Rattle.spans.specs.Memory.{memory};
 
 use made::{Brief, Deed};
 use names::compare::same_names;
-use names::name::{Name, scoped};
+use names::name::{Form, Name, scoped};
 use portcmds::named_below;
+use spans::span::{Memory, Span};
 use store::state::Few;
-use store::stored::{Below, span};
+use store::stored::Below;
+use text::part::Rows;
 
 // A name below a scope, as it is read.
-fn name_of(files: &[u8], area: &[u8], b: Below) -> Name
-    ensures { name_of (files.now ++ area.now) result ≡ below_of (files.now ++ area.now) b }
+fn name_of(mem: &Memory, b: Below) -> Name
+    ensures { name_of (memory mem.now) result ≡ below_of (memory mem.now) b }
 {
-    scoped(files, area, span(b.scope), span(b.word), 0)
+    scoped(mem, Span::from(b.scope), Span::from(b.word), Form::Word)
 }
 
-// Whether a net of this name was created.
-fn known_net<'a>(files: &'a [u8], area: &'a [u8], t: Few<Below>, net: Below) -> bool
+// Whether a net of this name was created. No `contains` says this: names at other places can be the same.
+fn known_net<'a>(mem: &Memory<'a>, t: Few<Below>, net: Below) -> bool
     requires { t.n ≤ 32 }
-    ensures { result ≡ any (is_called (files.now ++ area.now) (below_of (files.now ++ area.now) net)) (take t.n t.all) }
+    ensures { result ≡ any (is_called (memory mem.now) (below_of (memory mem.now) net)) (take t.n t.all) }
 {
-    let x = name_of(files, area, net);
+    let x = name_of(mem, net);
     t.all[..t.n]
         .iter()
-        .any(|b| same_names(files, area, name_of(files, area, *b), x))
+        .any(|b| same_names(mem, name_of(mem, *b), x))
 }
 
 // A net more, where none of this name is known.
-pub fn create_supply_net<'a>(
-    files: &'a [u8],
-    area: &'a [u8],
-    words: &[u32],
-    n: usize,
-    b: Brief,
-    t: Few<Below>,
-) -> Deed
-    requires { Line words.now n × (t.n ≤ 32) }
-    ensures { Does files.now area.now words.now n (λ (s : State). (brief_of s ≡ b) × (s.nets ≡ t)) result (λ (m : Model). net_command m (words_from (files.now ++ area.now) words.now n 1)) }
+pub fn create_supply_net<'a>(mem: &Memory<'a>, command: &Rows, b: Brief, t: Few<Below>) -> Deed
+    requires { Line command.now.rows.now command.now.n × (t.n ≤ 32) }
+    ensures { Does mem.now.files.now mem.now.area.now command.now.rows.now command.now.n (λ (s : State). (brief_of s ≡ b) × (s.nets ≡ t)) result (λ (m : Model). net_command m (words_from (memory mem.now) command.now.rows.now command.now.n 1)) }
 {
-    let net = named_below(files, area, words, n, b.scope);
-    if known_net(files, area, t, net) {
+    let net = named_below(mem, command, b.scope);
+    if known_net(mem, t, net) {
         return Deed::Nothing;
     }
     if 32 <= t.n {

@@ -1,15 +1,20 @@
 -- What a byte becomes, as the writers ask it: o' is what the one call of a way left. Assumes nothing.
-use Prim.Native.Nat.{ℕ, ◌-◌}
-use mathlib.Core.Path.{◌≡◌}
+use Prim.Native.Nat.{ℕ}
+use Rattle.std.specs.Prelude.{Option, Some, None}
+use mathlib.Core.Path.{◌≡◌, sym, ap, ◌∙◌}
 use mathlib.Core.Bool.{Bool, true, false}
 use mathlib.Core.List.{[], ◌∷◌}
+use lib.ListN.{get_or}
+use Rattle.std.proofs.Common.{Bor}
 use borrow.Author.Rules.{rules}
 use borrow.Author.Tests.{eq-eqb, ne_eqb}
 use Rattle.text.specs.Ascii.{Bytes}
-use Rattle.text.specs.Classes.{within, is_alnum}
+use Rattle.text.specs.Classes.{is_alnum}
 use Rattle.out.specs.Emit.{Out, emit, emit1}
-use Rattle.out.specs.Bytewise.{mangled_byte, dotted_byte, sv_byte, becomes, mangle, dotted, sv_str}
-use Rattle.out.specs.Fill.{pick, arg}
+use Rattle.out.specs.Bytewise.{flat, mangled_byte, dotted_byte, sv_byte, becomes, flat_same}
+use Rattle.out.specs.declared.bytewise.Mode.{Mode}
+use Rattle.out.specs.Fill.{pick, arg, asked}
+use Rattle.out.specs.Marks.{arg_named, arg_unnamed, asked_low, pick_of}
 use Rattle.out.specs.Items.{unless}
 
 module _ (o o' : Out) (b : ℕ) where
@@ -42,22 +47,22 @@ module _ (o o' : Out) (b : ℕ) where
   unfolding sv_byte emit
   sv_other u t e = rw (ne_eqb b 92 u, ne_eqb b 34 t) e
 
-  module _ (m : ℕ) where
-    pub becomes_mangled : m ≡ 1 → o' ≡ emit o (mangled_byte b) → o' ≡ emit o (becomes m b)
-    unfolding becomes
-    becomes_mangled t e = rw (eq-eqb m 1 t) e
-
-    pub becomes_dotted : (m ≡ 1 → ⊥) → m ≡ 2 → o' ≡ emit o (dotted_byte b) → o' ≡ emit o (becomes m b)
-    unfolding becomes
-    becomes_dotted u t e = rw (ne_eqb m 1 u, eq-eqb m 2 t) e
-
-    pub becomes_sv : (m ≡ 1 → ⊥) → (m ≡ 2 → ⊥) → m ≡ 3 → o' ≡ emit o (sv_byte b) → o' ≡ emit o (becomes m b)
-    unfolding becomes
-    becomes_sv u v t e = rw (ne_eqb m 1 u, ne_eqb m 2 v, eq-eqb m 3 t) e
-
-    pub becomes_same : (m ≡ 1 → ⊥) → (m ≡ 2 → ⊥) → (m ≡ 3 → ⊥) → o' ≡ emit1 o b → o' ≡ emit o (becomes m b)
+  module _ (m : Mode) where
+    pub becomes_same : m ≡ Mode.Same → o' ≡ emit1 o b → o' ≡ emit o (becomes m b)
     unfolding becomes emit
-    becomes_same u v t e = rw (ne_eqb m 1 u, ne_eqb m 2 v, ne_eqb m 3 t) e
+    becomes_same t e = rw t e
+
+    pub becomes_mangled : m ≡ Mode.Mangled → o' ≡ emit o (mangled_byte b) → o' ≡ emit o (becomes m b)
+    unfolding becomes
+    becomes_mangled t e = rw t e
+
+    pub becomes_dotted : m ≡ Mode.Dotted → o' ≡ emit o (dotted_byte b) → o' ≡ emit o (becomes m b)
+    unfolding becomes
+    becomes_dotted t e = rw t e
+
+    pub becomes_sv : m ≡ Mode.Quoted → o' ≡ emit o (sv_byte b) → o' ≡ emit o (becomes m b)
+    unfolding becomes
+    becomes_sv t e = rw t e
 
 pub ruleset bytewise = (rules, mangled_kept, mangled_lost, dotted_slash, dotted_other, sv_back, sv_quote, sv_other, becomes_mangled, becomes_dotted, becomes_sv, becomes_same)
 
@@ -76,25 +81,16 @@ pub ruleset unlesses = (rules, unless_none, unless_some)
 
 -- ---- the argument of a letter
 
-module _ (o o' : Out) (a b c d e p : Bytes) (k : ℕ) where
-  pub arg_plain : within 48 52 k ≡ true → p ≡ pick (k - 48) a b c d e → o' ≡ emit o p → o' ≡ emit o (arg a b c d e k)
-  unfolding arg
-  arg_plain t g w = rw (t, ← g) w
+pub arg_none : (o : Out) (a b c d e : Bytes) (k : ℕ) (q : Option (Mode × ℕ)) → q ≡ asked k → q ≡ None → o ≡ emit o (arg a b c d e k)
+unfolding emit
+arg_none o a b c d e k q h n = rw (arg_unnamed a b c d e k (sym h ∙ n))
 
-  module _ (no_plain : within 48 52 k ≡ false) where
-    pub arg_string : within 65 69 k ≡ true → p ≡ pick (k - 65) a b c d e → o' ≡ emit o (sv_str p) → o' ≡ emit o (arg a b c d e k)
-    unfolding arg
-    arg_string t g w = rw (no_plain, t, ← g) w
+module _ (o o' : Out) (k : ℕ) (q : Option (Mode × ℕ)) (eq : q ≡ asked k) (m : Mode) (j : ℕ) (eq' : q ≡ Some (m, j)) (a b c d e z : Bor Bytes) where
+  one_of_five : (get_or (a ∷ b ∷ c ∷ d ∷ e ∷ []) j z).now ≡ pick j a.now b.now c.now d.now e.now
+  one_of_five = pick_of (λ (r : Bor Bytes). r.now) a b c d e z j (asked_low k m j (sym eq ∙ eq'))
 
-    module _ (no_string : within 65 69 k ≡ false) where
-      pub arg_mangled : within 97 101 k ≡ true → p ≡ pick (k - 97) a b c d e → o' ≡ emit o (mangle p) → o' ≡ emit o (arg a b c d e k)
-      unfolding arg
-      arg_mangled t g w = rw (no_plain, no_string, t, ← g) w
+  pub arg_flat : o' ≡ emit o (flat (becomes m) (get_or (a ∷ b ∷ c ∷ d ∷ e ∷ []) j z).now) → o' ≡ emit o (arg a.now b.now c.now d.now e.now k)
+  arg_flat w = w ∙ ap (emit o) (ap (flat (becomes m)) one_of_five ∙ sym (arg_named a.now b.now c.now d.now e.now k m j (sym eq ∙ eq')))
 
-      pub arg_dotted : within 97 101 k ≡ false → within 112 116 k ≡ true → p ≡ pick (k - 112) a b c d e → o' ≡ emit o (dotted p) → o' ≡ emit o (arg a b c d e k)
-      unfolding arg
-      arg_dotted u t g w = rw (no_plain, no_string, u, t, ← g) w
-
-pub arg_none : (o : Out) (a b c d e : Bytes) (k : ℕ) → within 48 52 k ≡ false → within 65 69 k ≡ false → within 97 101 k ≡ false → within 112 116 k ≡ false → o ≡ emit o (arg a b c d e k)
-unfolding arg emit
-arg_none o a b c d e k t u v w = rw (t, u, v, w)
+  pub arg_same : m ≡ Mode.Same → o' ≡ emit o (get_or (a ∷ b ∷ c ∷ d ∷ e ∷ []) j z).now → o' ≡ emit o (arg a.now b.now c.now d.now e.now k)
+  arg_same h w = arg_flat (rw (h, flat_same) w)

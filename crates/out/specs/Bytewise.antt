@@ -4,6 +4,7 @@ use Rattle.std.proofs.Common.{add-one, ap, append_assoc, drop_of_length-le, drop
 use Rattle.text.specs.Ascii.{Bytes, ascii, byte}
 use Rattle.text.specs.Classes.{is_alnum}
 use Rattle.out.specs.Emit.{Out, emit, emit_append}
+use Rattle.out.specs.declared.bytewise.Mode.{Mode}
 
 unfoldable pub flat : (ℕ → Bytes) → Bytes → Bytes
 flat f [] = []
@@ -30,9 +31,12 @@ dotted p = flat dotted_byte p
 abbrev pub sv_str : Bytes → Bytes
 sv_str p = flat sv_byte p
 
--- the three by a number, as the writers choose among them: 1 mangled, 2 dotted, 3 for a string of SystemVerilog, else the byte itself
-unfoldable pub becomes : ℕ → ℕ → Bytes
-becomes m b = cond (eqb m 1) (mangled_byte b) (cond (eqb m 2) (dotted_byte b) (cond (eqb m 3) (sv_byte b) (b ∷ [])))
+-- what a byte becomes, by how a text is written
+unfoldable pub becomes : Mode → ℕ → Bytes
+becomes Mode.Same b = b ∷ []
+becomes Mode.Mangled b = mangled_byte b
+becomes Mode.Dotted b = dotted_byte b
+becomes Mode.Quoted b = sv_byte b
 
 -- ---- laws: one turn of a loop that writes f of each byte, and its end; w is the answer
 
@@ -53,8 +57,8 @@ flat_append f (x ∷ p) q = rw (flat_append f p q, append_assoc)
 pub flat_two : (f : ℕ → Bytes) (o o₁ o₂ : Out) (p q : Bytes) → o₂ ≡ emit o₁ (flat f q) → o₁ ≡ emit o (flat f p) → o₂ ≡ emit o (flat f (p ++ q))
 flat_two f o o₁ o₂ p q h g = rw (flat_append, emit_append, ← g) h
 
--- the byte itself in mode 0
-pub flat_same : (p : Bytes) → flat (becomes 0) p ≡ p
+-- a text as it is
+pub flat_same : (p : Bytes) → flat (becomes Mode.Same) p ≡ p
 unfolding flat becomes
 flat_same [] = refl
 flat_same (b ∷ p) = ap (λ (r : Bytes). b ∷ r) (flat_same p)

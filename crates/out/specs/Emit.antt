@@ -58,6 +58,10 @@ infixl 60 ◌then◌
 pub ◌then◌ : {o o' o'' : Out} {p q : Bytes} → Wrote o p o' → Wrote o' q o'' → Wrote o (p ⊕ q) o''
 ◌then◌ {o} {o'} {o''} {p} {q} e f = wrote (rw emit-⊕ (rw e.is at f.is))
 
+-- what was written into a text over a buffer stands in the buffer
+pub over_written : (out out' : Bytes) (at o : ℕ) (z₀ z₁ : Out) (t : Bytes) → z₁ ≡ emit z₀ t → z₀ ≡ out ▸ at → out' ▸ o ≡ z₁ → out' ▸ o ≡ emit (out ▸ at) t
+over_written out out' at o z₀ z₁ t e f g = g ∙ rw (← f) e
+
 -- a write keeps the buffer's length
 length_emit1 : (o : Out) (b : ℕ) → length (emit1 o b).bytes ≡ length o.bytes
 unfolding emit1

@@ -1,10 +1,11 @@
 -- A template: Rust's format strings with places such as `{0}`, `{{` for `{` and `}}` for `}`. Assumes nothing.
 use Prim.Native.String.{String}
-use Rattle.std.specs.Prelude.{ℕ, ◌+◌, ◌-◌, ◌≡◌, refl, Bool, true, false, cond, ◌&&◌, ◌||◌, [], ◌∷◌, ◌++◌, eqb, leb, ltb, get_or}
+use Rattle.std.specs.Prelude.{ℕ, ◌+◌, ◌-◌, ◌≡◌, refl, Option, Some, None, Bool, true, false, cond, ◌&&◌, ◌||◌, [], ◌∷◌, ◌++◌, eqb, leb, ltb, get_or}
 use Rattle.text.specs.Ascii.{Bytes, ascii, byte}
 use Rattle.text.specs.Classes.{within}
 use Rattle.out.specs.Emit.{Out, emit1, emit, emit_append}
 use Rattle.out.specs.Bytewise.{mangle, dotted, sv_str}
+use Rattle.out.specs.declared.bytewise.Mode.{Mode}
 
 -- the argument of a number
 unfoldable pub pick : ℕ → Bytes → Bytes → Bytes → Bytes → Bytes → Bytes
@@ -18,6 +19,14 @@ arg a b c d e k =
     (cond (within (byte "A") (byte "E") k) (sv_str (pick (k - byte "A") a b c d e))
     (cond (within (byte "a") (byte "e") k) (mangle (pick (k - byte "a") a b c d e))
     (cond (within (byte "p") (byte "t") k) (dotted (pick (k - byte "p") a b c d e)) [])))
+
+-- what a byte between braces asks for: how its argument is written, and that argument's number
+abbrev pub asked : ℕ → Option (Mode × ℕ)
+asked k =
+    cond (within (byte "0") (byte "4") k) (Some (Mode.Same, k - byte "0"))
+    (cond (within (byte "A") (byte "E") k) (Some (Mode.Quoted, k - byte "A"))
+    (cond (within (byte "a") (byte "e") k) (Some (Mode.Mangled, k - byte "a"))
+    (cond (within (byte "p") (byte "t") k) (Some (Mode.Dotted, k - byte "p")) None)))
 
 -- what a byte of the template adds, by the state before it: 0 in the text, 1 behind a `{`, 2 at a byte to pass over
 unfoldable pub adds : (ℕ → Bytes) → ℕ → ℕ → Bytes

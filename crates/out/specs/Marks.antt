@@ -1,17 +1,77 @@
 -- A template read in runs: the plain bytes before a brace, then what the brace begins. Assumes nothing.
-use Rattle.std.specs.Prelude.{ℕ, ◌+◌, ◌-◌, ◌<◌, ◌≤◌, ◌≡◌, Bool, cond, length, drop}
+use Rattle.std.specs.Prelude.{Option, Some, None, ℕ, zero, suc, ◌+◌, ◌-◌, ◌<◌, ◌≤◌, ◌≡◌, Bool, cond, length, drop}
 use Rattle.std.proofs.Common.{arith, eq-or-lt_of_le, ⊎_elim, ap, ◌∙◌, drop_of_length-le, length-drop, drop-drop, rules}
 use Rattle.std.proofs.Math.Path.{refl, sym}
 use Rattle.std.proofs.Math.Bool.{true, false}
 use mathlib.Core.List.{[], ◌∷◌, ◌++◌, append-nil}
-use Rattle.std.proofs.Math.Dec.{eqb}
+use Rattle.std.proofs.Math.Dec.{eqb, leb}
 use Rattle.std.proofs.Math.ListN.{get_or, take}
-use borrow.Author.Tests.{eq-eqb, ne_eqb, eqb-true}
+use borrow.Author.Tests.{eq-eqb, ne_eqb, eqb-true, leb-true}
 use Rattle.text.specs.Ascii.{Bytes}
+use Rattle.text.specs.Classes.{within}
+use Rattle.text.specs.Sames.{both}
 use Rattle.text.specs.Scan.{before, Ends}
 use Rattle.text.specs.Lists.{here, head_is}
 use Rattle.out.specs.Emit.{Out, emit, emit1, emit_append}
-use Rattle.out.specs.Fill.{adds, turns, filled, fill, arg, is_brace, mark_text, mark_size}
+use Rattle.out.specs.Bytewise.{flat, becomes, mangle, dotted, sv_str, flat_same}
+use Rattle.out.specs.declared.bytewise.Mode.{Mode}
+use Rattle.out.specs.Fill.{adds, turns, filled, fill, pick, arg, asked, is_brace, mark_text, mark_size}
+
+-- ---- what a letter asks for
+
+-- the text that a letter asks for
+abbrev pub asked_text : Bytes → Bytes → Bytes → Bytes → Bytes → Option (Mode × ℕ) → Bytes
+asked_text a b c d e None = []
+asked_text a b c d e (Some (m, j)) = flat (becomes m) (pick j a b c d e)
+
+pub arg_asked : (a b c d e : Bytes) (k : ℕ) → arg a b c d e k ≡ asked_text a b c d e (asked k)
+unfolding arg becomes
+arg_asked a b c d e k = go (within 48 52 k) (within 65 69 k) (within 97 101 k) (within 112 116 k)
+  where
+    go : (p q r s : Bool) → cond p (pick (k - 48) a b c d e) (cond q (sv_str (pick (k - 65) a b c d e)) (cond r (mangle (pick (k - 97) a b c d e)) (cond s (dotted (pick (k - 112) a b c d e)) [])))
+        ≡ asked_text a b c d e (cond p (Some (Mode.Same, k - 48)) (cond q (Some (Mode.Quoted, k - 65)) (cond r (Some (Mode.Mangled, k - 97)) (cond s (Some (Mode.Dotted, k - 112)) None))))
+    go true q r s = sym (flat_same (pick (k - 48) a b c d e))
+    go false true r s = refl
+    go false false true s = refl
+    go false false false true = refl
+    go false false false false = refl
+
+pub arg_named : (a b c d e : Bytes) (k : ℕ) (m : Mode) (j : ℕ) → asked k ≡ Some (m, j) → arg a b c d e k ≡ flat (becomes m) (pick j a b c d e)
+arg_named a b c d e k m j h = arg_asked a b c d e k ∙ ap (asked_text a b c d e) h
+
+pub arg_unnamed : (a b c d e : Bytes) (k : ℕ) → asked k ≡ None → arg a b c d e k ≡ []
+arg_unnamed a b c d e k h = arg_asked a b c d e k ∙ ap (asked_text a b c d e) h
+
+-- its number is one of five
+abbrev number_of : Option (Mode × ℕ) → ℕ
+number_of None = 0
+number_of (Some (m, j)) = j
+
+number_low : (k : ℕ) → number_of (asked k) ≤ 4
+number_low k = go (within 48 52 k) refl (within 65 69 k) refl (within 97 101 k) refl (within 112 116 k) refl
+  where
+    high : (lo hi : ℕ) → within lo hi k ≡ true → k ≤ hi
+    high lo hi t = leb-true k hi (both (leb lo k) (leb k hi) t).1
+
+    go : (p : Bool) → within 48 52 k ≡ p → (q : Bool) → within 65 69 k ≡ q → (r : Bool) → within 97 101 k ≡ r → (s : Bool) → within 112 116 k ≡ s → number_of (asked k) ≤ 4
+    go true x q y r z s w = rw x (omega (arith, high 48 52 x))
+    go false x true y r z s w = rw (x, y) (omega (arith, high 65 69 y))
+    go false x false y true z s w = rw (x, y, z) (omega (arith, high 97 101 z))
+    go false x false y false z true w = rw (x, y, z, w) (omega (arith, high 112 116 w))
+    go false x false y false z false w = rw (x, y, z, w) (omega arith)
+
+pub asked_low : (k : ℕ) (m : Mode) (j : ℕ) → asked k ≡ Some (m, j) → j ≤ 4
+asked_low k m j h = rw h at (number_low k)
+
+-- five in a row, read by a number
+pub pick_of : {A : Type 0} (f : A → Bytes) (a b c d e z : A) (j : ℕ) → j ≤ 4 → f (get_or (a ∷ b ∷ c ∷ d ∷ e ∷ []) j z) ≡ pick j (f a) (f b) (f c) (f d) (f e)
+unfolding pick
+pick_of f a b c d e z zero h = refl
+pick_of f a b c d e z (suc zero) h = refl
+pick_of f a b c d e z (suc (suc zero)) h = refl
+pick_of f a b c d e z (suc (suc (suc zero))) h = refl
+pick_of f a b c d e z (suc (suc (suc (suc zero)))) h = refl
+pick_of f a b c d e z (suc (suc (suc (suc (suc j))))) h = absurd (omega (arith, h))
 
 -- ---- the mark at the head of a text
 

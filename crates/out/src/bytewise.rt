@@ -7,6 +7,15 @@ ghost use Rattle.out.specs.Bytewise.{mangled_byte, dotted_byte, sv_byte, becomes
 use super::emit::Text;
 use text::class::is_alnum;
 
+// How a text is written: as it is, mangled, with `/` as `.`, or for a string of SystemVerilog.
+#[derive(Clone, Copy)]
+pub enum Mode {
+    Same,
+    Mangled,
+    Dotted,
+    Quoted,
+}
+
 impl Text<'_> {
     // A byte of a mangled name.
     fn mangled_byte(&mut self, b: u8)
@@ -42,20 +51,20 @@ impl Text<'_> {
         }
     }
 
-    // What a byte becomes: 1 mangled, 2 dotted, 3 for a string of SystemVerilog, else itself.
-    pub fn becomes(&mut self, m: u8, b: u8)
+    // What a byte becomes.
+    pub fn becomes(&mut self, m: Mode, b: u8)
         ensures { Writes self.old (Bytewise·becomes m b) self.new }
     {
         match m {
-            1 => self.mangled_byte(b),
-            2 => self.dotted_byte(b),
-            3 => self.sv_byte(b),
-            _ => self.byte(b),
+            Mode::Same => self.byte(b),
+            Mode::Mangled => self.mangled_byte(b),
+            Mode::Dotted => self.dotted_byte(b),
+            Mode::Quoted => self.sv_byte(b),
         }
     }
 
     // Writes what each byte of piece becomes.
-    pub fn flat(&mut self, m: u8, piece: &[u8])
+    pub fn flat(&mut self, m: Mode, piece: &[u8])
         ensures { Writes self.old (Bytewise·flat (Bytewise·becomes m) piece.now) self.new }
     {
         for &b in piece {
@@ -67,41 +76,25 @@ impl Text<'_> {
     pub fn mangle(&mut self, piece: &[u8])
         ensures { Writes self.old (Bytewise·mangle piece.now) self.new }
     {
-        self.flat(1, piece)
+        self.flat(Mode::Mangled, piece)
     }
 
     // Writes piece with `/` as `.`.
     pub fn dotted(&mut self, piece: &[u8])
         ensures { Writes self.old (Bytewise·dotted piece.now) self.new }
     {
-        self.flat(2, piece)
+        self.flat(Mode::Dotted, piece)
     }
 
     // Writes piece with the escapes of a string of SystemVerilog.
     pub fn sv_str(&mut self, piece: &[u8])
         ensures { Writes self.old (sv_str piece.now) self.new }
     {
-        self.flat(3, piece)
+        self.flat(Mode::Quoted, piece)
     }
 }
 
 // The same over a buffer and a place.
-pub fn becomes(out: &mut [u8], at: usize, m: u8, b: u8) -> usize
-    ensures { out.new ▸ result ≡ emit (out.old ▸ at) (Bytewise·becomes m b) }
-{
-    let mut to = Text::over(out, at);
-    to.becomes(m, b);
-    to.end()
-}
-
-pub fn flat(out: &mut [u8], at: usize, m: u8, piece: &[u8]) -> usize
-    ensures { out.new ▸ result ≡ emit (out.old ▸ at) (Bytewise·flat (Bytewise·becomes m) piece.now) }
-{
-    let mut to = Text::over(out, at);
-    to.flat(m, piece);
-    to.end()
-}
-
 pub fn mangle(out: &mut [u8], at: usize, piece: &[u8]) -> usize
     ensures { out.new ▸ result ≡ emit (out.old ▸ at) (Bytewise·mangle piece.now) }
 {

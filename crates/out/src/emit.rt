@@ -1,13 +1,13 @@
 // A byte, and a piece of text.
 ghost use Rattle.std.specs.Prelude.{◌≡◌, ◌+◌, eqb, length};
-ghost use Rattle.out.specs.Emit.{◌▸◌, emit, emit1};
+ghost use Rattle.out.specs.Emit.{◌▸◌, emit};
 ghost use Rattle.out.specs.Text.{shown, Writes, Writes1};
 
-// A text that is being written: a lent buffer, and the place to write next. Open to writers over a buffer and a place.
+// A text that is being written: a lent buffer, and the place to write next.
 #[derive(Drop)]
 pub struct Text<'a> {
-    pub room: &'a mut [u8],
-    pub at: usize,
+    room: &'a mut [u8],
+    at: usize,
 }
 
 impl<'a> Text<'a> {
@@ -74,21 +74,5 @@ pub fn put(out: &mut [u8], at: usize, piece: &[u8]) -> usize
 {
     let mut t = Text::over(out, at);
     t.put(piece);
-    t.end()
-}
-
-pub fn byte(out: &mut [u8], at: usize, b: u8) -> usize
-    ensures { out.new ▸ result ≡ emit1 (out.old ▸ at) b }
-{
-    let mut t = Text::over(out, at);
-    t.byte(b);
-    t.end()
-}
-
-pub fn put_slow(out: &mut [u8], at: usize, piece: &[u8]) -> usize
-    ensures { out.new ▸ result ≡ emit (out.old ▸ at) piece.now }
-{
-    let mut t = Text::over(out, at);
-    t.put_slow(piece);
     t.end()
 }

@@ -1,6 +1,5 @@
 // A template for each part of an area.
 ghost use Rattle.std.specs.Prelude.{◌≡◌, true, [], map};
-ghost use Rattle.out.specs.Emit.{◌▸◌, emit};
 ghost use Rattle.out.specs.Text.{Writes};
 ghost use Rattle.out.specs.Fill.{fill, is_template};
 ghost use Rattle.out.specs.Items.{parts, each, joined, unless as Items·unless};
@@ -46,31 +45,4 @@ impl Text<'_> {
             i += 2;
         }
     }
-}
-
-// The same over a buffer and a place.
-pub fn lines(out: &mut [u8], at: usize, t: &[u8], area: &[u8], spans: &[u32]) -> usize
-    requires { is_template 1 t.now ≡ true }
-    ensures { out.new ▸ result ≡ emit (out.old ▸ at) (each (λ x. fill t.now x [] [] [] []) (parts area.now spans.now)) }
-{
-    let mut to = Text::over(out, at);
-    to.lines(t, area, spans);
-    to.end()
-}
-
-pub fn unless(out: &mut [u8], at: usize, i: usize, s: &[u8]) -> usize
-    ensures { out.new ▸ result ≡ emit (out.old ▸ at) (Items·unless i s.now) }
-{
-    let mut to = Text::over(out, at);
-    to.unless(i, s);
-    to.end()
-}
-
-pub fn joins(out: &mut [u8], at: usize, sep: &[u8], t: &[u8], area: &[u8], spans: &[u32]) -> usize
-    requires { is_template 1 t.now ≡ true }
-    ensures { out.new ▸ result ≡ emit (out.old ▸ at) (joined sep.now (map (λ x. fill t.now x [] [] [] []) (parts area.now spans.now))) }
-{
-    let mut to = Text::over(out, at);
-    to.joins(sep, t, area, spans);
-    to.end()
 }

@@ -3,22 +3,29 @@ ghost use Rattle.std.specs.Prelude.{◌≡◌, true, [], ◌+◌, ◌≤◌, ◌
 ghost use Rattle.text.specs.Scan.{Ends, Free, before};
 ghost use Rattle.out.specs.Emit.{◌▸◌, emit};
 ghost use Rattle.out.specs.Text.{Writes};
-ghost use Rattle.out.specs.Fill.{pick, arg, is_template, is_brace, mark_text, mark_size, fill as Fill·fill};
+ghost use Rattle.out.specs.Fill.{asked, arg, is_template, is_brace, mark_text, mark_size, fill as Fill·fill};
 
+use super::bytewise::Mode;
 use super::emit::Text;
 use text::part::peek;
 
-// The argument of a number: a part of none, but one of the five itself.
-fn picked<'a>(j: u8, a: &'a [u8], b: &'a [u8], c: &'a [u8], d: &'a [u8], e: &'a [u8]) -> &'a [u8]
-    ensures { result.now ≡ pick j a.now b.now c.now d.now e.now }
+// What a letter between braces asks for: how its argument is written, and that argument's number.
+pub fn asked(k: u8) -> Option<(Mode, usize)>
+    ensures { result ≡ asked k }
 {
-    match j {
-        0 => a,
-        1 => b,
-        2 => c,
-        3 => d,
-        _ => e,
+    if (b'0' <= k) & (k <= b'4') {
+        return Some((Mode::Same, (k - b'0') as usize));
     }
+    if (b'A' <= k) & (k <= b'E') {
+        return Some((Mode::Quoted, (k - b'A') as usize));
+    }
+    if (b'a' <= k) & (k <= b'e') {
+        return Some((Mode::Mangled, (k - b'a') as usize));
+    }
+    if (b'p' <= k) & (k <= b't') {
+        return Some((Mode::Dotted, (k - b'p') as usize));
+    }
+    None
 }
 
 fn is_brace(b: u8) -> bool
@@ -43,6 +50,7 @@ fn eight_plain(t: &[u8], i: usize) -> bool
 }
 
 // Where the run of plain bytes that begins at `at` ends, byte by byte.
+// As `plain_end` of `tcl::word` with another test: one function for both takes the test as a closure, which is no plainer.
 fn run_end_each(t: &[u8], at: usize) -> usize
     requires { at ≤ length t.now }
     ensures { Ends (at + before is_brace (drop at t.now)) (length t.now) result }
@@ -101,21 +109,14 @@ impl Text<'_> {
     )
         ensures { Writes self.old (arg a.now b.now c.now d.now e.now k) self.new }
     {
-        if (b'0' <= k) & (k <= b'4') {
-            let p = picked(k - b'0', a, b, c, d, e);
-            return self.put(p);
-        }
-        if (b'A' <= k) & (k <= b'E') {
-            let p = picked(k - b'A', a, b, c, d, e);
-            return self.sv_str(p);
-        }
-        if (b'a' <= k) & (k <= b'e') {
-            let p = picked(k - b'a', a, b, c, d, e);
-            return self.mangle(p);
-        }
-        if (b'p' <= k) & (k <= b't') {
-            let p = picked(k - b'p', a, b, c, d, e);
-            return self.dotted(p);
+        let Some((m, j)) = asked(k) else {
+            return;
+        };
+        let all = [a, b, c, d, e];
+        let p = all[j];
+        match m {
+            Mode::Same => self.put(p),
+            _ => self.flat(m, p),
         }
     }
 
@@ -219,42 +220,6 @@ impl Text<'_> {
 }
 
 // The same over a buffer and a place.
-pub fn fill<'a>(
-    out: &mut [u8],
-    at: usize,
-    t: &[u8],
-    a: &'a [u8],
-    b: &'a [u8],
-    c: &'a [u8],
-    d: &'a [u8],
-    e: &'a [u8],
-) -> usize
-    requires { is_template 5 t.now ≡ true }
-    ensures { out.new ▸ result ≡ emit (out.old ▸ at) (Fill·fill t.now a.now b.now c.now d.now e.now) }
-{
-    let mut to = Text::over(out, at);
-    to.fill(t, a, b, c, d, e);
-    to.end()
-}
-
-pub fn fill1(out: &mut [u8], at: usize, t: &[u8], a: &[u8]) -> usize
-    requires { is_template 1 t.now ≡ true }
-    ensures { out.new ▸ result ≡ emit (out.old ▸ at) (Fill·fill t.now a.now [] [] [] []) }
-{
-    let mut to = Text::over(out, at);
-    to.fill1(t, a);
-    to.end()
-}
-
-pub fn fill2<'a>(out: &mut [u8], at: usize, t: &[u8], a: &'a [u8], b: &'a [u8]) -> usize
-    requires { is_template 2 t.now ≡ true }
-    ensures { out.new ▸ result ≡ emit (out.old ▸ at) (Fill·fill t.now a.now b.now [] [] []) }
-{
-    let mut to = Text::over(out, at);
-    to.fill2(t, a, b);
-    to.end()
-}
-
 pub fn fill3<'a>(
     out: &mut [u8],
     at: usize,
@@ -268,22 +233,5 @@ pub fn fill3<'a>(
 {
     let mut to = Text::over(out, at);
     to.fill3(t, a, b, c);
-    to.end()
-}
-
-pub fn fill4<'a>(
-    out: &mut [u8],
-    at: usize,
-    t: &[u8],
-    a: &'a [u8],
-    b: &'a [u8],
-    c: &'a [u8],
-    d: &'a [u8],
-) -> usize
-    requires { is_template 4 t.now ≡ true }
-    ensures { out.new ▸ result ≡ emit (out.old ▸ at) (Fill·fill t.now a.now b.now c.now d.now []) }
-{
-    let mut to = Text::over(out, at);
-    to.fill4(t, a, b, c, d);
     to.end()
 }

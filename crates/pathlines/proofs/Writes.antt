@@ -13,6 +13,7 @@ use Rattle.text.specs.Lists.{here}
 use Rattle.text.specs.Scan.{split_at}
 use Rattle.out.specs.Emit.{Out, emit1, emit, emit_append, ◌⊕◌, emit-⊕}
 use Rattle.out.specs.Bytewise.{flat, becomes, flat_same}
+use Rattle.out.specs.declared.bytewise.Mode.{Mode}
 use Rattle.out.specs.Items.{each}
 use Rattle.jobindex.specs.Index.{section}
 use Rattle.design.specs.Lists.{those}
@@ -34,7 +35,7 @@ stem_parts [] t h = rw h
 stem_parts ([] ∷ xs) t h = stem_parts xs t h
 stem_parts ((b ∷ x) ∷ xs) t h = rw h
 
-module _ (over : Bytes) (from : ℕ) (t : Bool) (o o₁ : Out) (e : o₁ ≡ emit o (flat (becomes 0) (scope_path (parts over from)))) (h : t ≡ is_there (parts over from)) where
+module _ (over : Bytes) (from : ℕ) (t : Bool) (o o₁ : Out) (e : o₁ ≡ emit o (flat (becomes Mode.Same) (scope_path (parts over from)))) (h : t ≡ is_there (parts over from)) where
   front : o₁ ≡ emit o (scope_path (parts over from))
   front = e ∙ ap (emit o) (flat_same (scope_path (parts over from)))
 

@@ -1,6 +1,6 @@
 -- Laws: the listed paths of a domain's walk, below the scope, are the paths that the domain loses. `prefix` is what the scope's path adds to each.
 -- Assumes nothing.
-use Rattle.std.specs.Prelude.{ℕ, ◌+◌, ◌<◌, ◌≡◌, refl, true, false, not, ltb, length, drop}
+use Rattle.std.specs.Prelude.{ℕ, ◌+◌, ◌<◌, ◌≡◌, refl, true, not, ltb, length, drop, Result, Ok, is_err}
 use Rattle.std.proofs.Common.{ap, ◌∙◌, arith, length-append, lt-ltb}
 use mathlib.Core.List.{List, [], ◌∷◌, map, Memᴰ as Mem}
 use Rattle.text.specs.Ascii.{Bytes, byte}
@@ -11,6 +11,7 @@ use Rattle.design.specs.Lists.{those}
 use Rattle.design.specs.Paths.{child_path, scope_path}
 use Rattle.walk.specs.Walk.{domain_list, domain_entered, walk_fits}
 use Rattle.walk.specs.Relative.{Filled}
+use Rattle.listing.specs.declared.TooMany.{TooMany}
 use Rattle.listing.specs.declared.Walk.{Walk}
 use Rattle.listing.specs.Listing.{paths_of, Answer}
 use Rattle.walkfits.specs.Exact.{top_over, top_paths, scope_over, scope_paths}
@@ -37,7 +38,7 @@ below_top_lem : (qs : List Bytes) → map (child_path []) qs ≡ qs
 below_top_lem [] = refl
 below_top_lem (q ∷ qs) = ap (λ (l : List Bytes). q ∷ l) (below_top_lem qs)
 
-module _ (d : List Module) (base : Module) (scope entries es : List Bytes) (ok : Filled d) (at : Mem base d) (bare : scope_path scope ≡ [] → scope ≡ []) (prefix : ℕ) (pre : prefix ≡ length (stem (scope_path scope))) (r : Walk) (text : Bytes) (ends : List ℕ)
+module _ (d : List Module) (base : Module) (scope entries es : List Bytes) (ok : Filled d) (at : Mem base d) (bare : scope_path scope ≡ [] → scope ≡ []) (prefix : ℕ) (pre : prefix ≡ length (stem (scope_path scope))) (r : Result Walk TooMany) (text : Bytes) (ends : List ℕ)
     (a : Answer prefix (domain_entered d base [] (entries_below (ltb 0 prefix) entries) es) (domain_list d base [] (entries_below (ltb 0 prefix) entries) es) r text ends) where
   at_top : scope_path scope ≡ [] → Answer 0 (domain_entered d base [] entries es) (domain_list d base [] entries es) r text ends
   at_top e = let z : prefix ≡ 0 = pre ∙ rw e in rw z at a
@@ -53,17 +54,17 @@ module _ (d : List Module) (base : Module) (scope entries es : List Bytes) (ok :
       stem_long (b ∷ p) h = length-append (b ∷ p) (byte "." ∷ [])
 
   -- a limit is passed exactly where the walk does not fit
-  pub lost_over : r.over ≡ not (walk_fits d base scope entries es)
+  pub lost_over : is_err r ≡ not (walk_fits d base scope entries es)
   lost_over = go (scope_path scope) refl
     where
-      go : (p : Bytes) → scope_path scope ≡ p → r.over ≡ not (walk_fits d base scope entries es)
+      go : (p : Bytes) → scope_path scope ≡ p → is_err r ≡ not (walk_fits d base scope entries es)
       go [] e = rw (bare e) (top_over d base entries es r text ends (at_top e))
       go (b ∷ p) e = let l : 0 < length (scope_path scope) = rw e (omega arith) in scope_over d base scope entries es ok at l r text ends (at_scope l)
 
   -- else the listed paths are those that are lost
-  pub lost_are : r.over ≡ false → below scope (paths_of text ends r.count) ≡ domain_list d base scope entries es
-  lost_are o = go (scope_path scope) refl
+  pub lost_are : (w : Walk) → r ≡ Ok w → below scope (paths_of text ends w.count) ≡ domain_list d base scope entries es
+  lost_are w o = go (scope_path scope) refl
     where
-      go : (p : Bytes) → scope_path scope ≡ p → below scope (paths_of text ends r.count) ≡ domain_list d base scope entries es
-      go [] e = rw (bare e) (below_top_lem (paths_of text ends r.count) ∙ top_paths d base entries es r text ends (at_top e) o)
-      go (b ∷ p) e = let l : 0 < length (scope_path scope) = rw e (omega arith) in scope_paths d base scope entries es ok at l r text ends (at_scope l) o
+      go : (p : Bytes) → scope_path scope ≡ p → below scope (paths_of text ends w.count) ≡ domain_list d base scope entries es
+      go [] e = rw (bare e) (below_top_lem (paths_of text ends w.count) ∙ top_paths d base entries es r text ends (at_top e) w o)
+      go (b ∷ p) e = let l : 0 < length (scope_path scope) = rw e (omega arith) in scope_paths d base scope entries es ok at l r text ends (at_scope l) w o

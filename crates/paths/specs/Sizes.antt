@@ -10,6 +10,8 @@ use Rattle.spans.specs.Span.{bytes}
 use Rattle.entries.specs.Entry.{entry_bytes}
 use Rattle.names.specs.Name.{name_of, entry_of, slash}
 use Rattle.names.specs.declared.name.Name.{Name}
+use Rattle.names.specs.declared.name.Form.{Form}
+use Rattle.names.specs.declared.name.Form.TheVariants.{Word, Entry, Quoted}
 
 escape_short : (k : ℕ) (s : Bytes) → length (rewrite escape escaped k s) ≤ length s
 unfolding rewrite
@@ -17,13 +19,10 @@ escape_short k [] = omega arith
 escape_short zero (x ∷ s) = let h : length (rewrite escape escaped (escape (x ∷ s)) s) ≤ length s = escape_short (escape (x ∷ s)) s in omega arith
 escape_short (suc k) (x ∷ s) = let h : length (rewrite escape escaped k s) ≤ length s = escape_short k s in omega arith
 
-entry_short : (form : ℕ) (w : Bytes) → length (entry_of form w) ≤ length w
-entry_short form w = go (eqb form 0) (eqb form 2)
-  where
-    go : (a b : Bool) → length (cond a w (entry_bytes b w)) ≤ length w
-    go true b = omega arith
-    go false true = let h : length (unescape (join w)) ≤ length (join w) = escape_short 0 (join w) in let g : length (join w) ≤ length w = join_short w in omega arith
-    go false false = join_short w
+entry_short : (form : Form) (w : Bytes) → length (entry_of form w) ≤ length w
+entry_short Word w = omega arith
+entry_short Entry w = join_short w
+entry_short Quoted w = let h : length (unescape (join w)) ≤ length (join w) = escape_short 0 (join w) in let g : length (join w) ≤ length w = join_short w in omega arith
 
 slash_short : (sep : Bool) → length (slash sep) ≤ 1
 slash_short true = omega arith

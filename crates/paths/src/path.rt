@@ -5,24 +5,18 @@ ghost use Rattle.names.specs.Name.{name_of};
 ghost use Rattle.design.specs.Paths.{dotted};
 ghost use Rattle.out.specs.Emit.{◌▸◌, emit};
 ghost use Rattle.paths.specs.Pieces.{Sized};
+ghost use Rattle.spans.specs.Memory.{memory};
 
 use names::name::Name;
 use out::emit::Text;
+use spans::span::Memory;
 use text::compare::same;
 use text::part::part;
 
 // Whether a path is `row`. Its length, its name and its tail are looked at before the element.
-pub fn is_path(
-    files: &[u8],
-    area: &[u8],
-    e: Name,
-    elen: usize,
-    tail: &[u8],
-    name: &[u8],
-    row: &[u8],
-) -> bool
-    requires { Sized (files.now ++ area.now) e elen tail.now name.now }
-    ensures { result ≡ Compare·same (dotted (name_of (files.now ++ area.now) e) ++ (tail.now ++ name.now)) row.now }
+pub fn is_path(mem: &Memory, e: Name, elen: usize, tail: &[u8], name: &[u8], row: &[u8]) -> bool
+    requires { Sized (memory mem.now) e elen tail.now name.now }
+    ensures { result ≡ Compare·same (dotted (name_of (memory mem.now) e) ++ (tail.now ++ name.now)) row.now }
 {
     let at = elen + tail.len();
     if row.len() != at + name.len() {
@@ -34,23 +28,22 @@ pub fn is_path(
     if !same(tail, part(row, elen, tail.len())) {
         return false;
     }
-    names::compare::is_dotted(files, area, e, part(row, 0, elen))
+    names::compare::is_dotted(mem, e, part(row, 0, elen))
 }
 
 // Writes a path.
 pub fn put_path(
     text: &mut [u8],
     at: usize,
-    files: &[u8],
-    area: &[u8],
+    mem: &Memory,
     e: Name,
     tail: &[u8],
     name: &[u8],
 ) -> usize
-    ensures { text.new ▸ result ≡ emit (text.old ▸ at) (dotted (name_of (files.now ++ area.now) e) ++ (tail.now ++ name.now)) }
+    ensures { text.new ▸ result ≡ emit (text.old ▸ at) (dotted (name_of (memory mem.now) e) ++ (tail.now ++ name.now)) }
 {
     let mut to = Text::over(text, at);
-    names::put::put_dotted(&mut to, files, area, e);
+    names::put::put_dotted(&mut to, mem, e);
     to.put(tail);
     to.put(name);
     to.end()

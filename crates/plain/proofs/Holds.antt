@@ -25,6 +25,8 @@ use Rattle.store.specs.declared.state.State.{State}
 use Rattle.made.specs.declared.Made.{Made}
 use Rattle.made.specs.Made.{Line as Words-as-Line, Ready, Did, reach_of}
 use Rattle.scopes.specs.declared.go.Out.{Out}
+use Rattle.scopes.specs.declared.go.Stop.TheVariants as stop
+use Rattle.scopes.specs.Stops.{tag_of}
 use Rattle.held.specs.Held.{mem_of, model_at, counted_of, Logged, Held, Worded, Lent, Comes, Ran}
 use Rattle.plain.specs.Reads.{Steady, model_log, cond_true, cond_false, reading_done, reading_refused}
 use Rattle.plain.specs.Stores.{row_stored, out_of}
@@ -141,13 +143,13 @@ module _ (files area nums : List ℕ) (s : State) (v : Steady files area nums s)
       let z : r.tag ≡ 0 = eqb-true r.tag 0 p in
       let m : model_of (mem_of files area s) (with_row (store_of nums s) r.row) r.state log ≡ t = cc in
       record {
-        result = reading_done files area (row_stored nums r) t.log (out_of r) (counted_of s) t (ap (λ (x : Bool). cond x 0 10) p) counted_same (model_is z m);
+        result = reading_done files area (row_stored nums r) t.log (out_of r) (counted_of s) t (ap (λ (x : Bool). tag_of (cond x None (Some stop.PastLimit))) p) counted_same (model_is z m);
         logged = λ y. ap (λ (k : ℕ). buf ▸ k) d.kept.log ∙ h ∙ ap (emit (log₀ ▸ 0)) (sym (log_is m));
       }
   comes_by log₀ buf h true false p q e = absurd (let z : ◌≡◌ {A = ℕ} 0 1 = cc in omega arith)
   comes_by log₀ buf h false true p q e = absurd (let z : ◌≡◌ {A = ℕ} 0 1 = cc in omega arith)
   comes_by log₀ buf h false false p q e =
-      let y : (out_of r).tag ≡ 10 = ap (λ (x : Bool). cond x 0 10) p in
+      let y : tag_of (out_of r).stop ≡ 10 = ap (λ (x : Bool). tag_of (cond x None (Some stop.PastLimit))) p in
       record {
         result = reading_refused files area (row_stored nums r) [] (out_of r) s.count.commands y (ap (λ x. x.commands) d.kept.count);
         logged = λ z. absurd (omega (arith, y, z));
@@ -164,10 +166,10 @@ module _ (files area nums : List ℕ) (s : State) (v : Steady files area nums s)
       go false e = absurd (let y : ◌≡◌ {A = ℕ} 0 1 = cc in omega arith)
 
 -- ---- the answer with its row
-pub tag_zero : (k : ℕ) → ◌≡◌ {A = ℕ} (cond (eqb k 0) 0 10) 0 → k ≡ 0
+pub tag_zero : (k : ℕ) → ◌≡◌ {A = ℕ} (tag_of (cond (eqb k 0) None (Some stop.PastLimit))) 0 → k ≡ 0
 tag_zero k e = go (eqb k 0) refl e
   where
-    go : (b : Bool) → eqb k 0 ≡ b → ◌≡◌ {A = ℕ} (cond b 0 10) 0 → k ≡ 0
+    go : (b : Bool) → eqb k 0 ≡ b → ◌≡◌ {A = ℕ} (tag_of (cond b None (Some stop.PastLimit))) 0 → k ≡ 0
     go true q h = eqb-true k 0 q
     go false q h = absurd (omega arith)
 

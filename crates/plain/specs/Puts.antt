@@ -1,4 +1,5 @@
 -- `puts`, which writes to the log: what it writes, and what it comes to with the log written so far. Assumes nothing.
+use Rattle.std.specs.Prelude.{Option, Some, None}
 use Rattle.std.specs.Prelude.{ℕ, ◌+◌, ◌≤◌, ◌≡◌, refl, Bool, true, cond, List, ◌++◌, length}
 use Rattle.std.proofs.Common.{arith, sym, ap, ◌∙◌}
 use Rattle.text.specs.Ascii.{Bytes, ascii}
@@ -100,19 +101,19 @@ module _ (files area nums words : List ℕ) (n : ℕ) (s : State) (v : Asks file
       ∙ ap (λ (l : List Bytes). cond (records_fit (puts_command (model_at files area nums s text) (line_of l).rest)) (done (counted_of s) (puts_command (model_at files area nums s text) (line_of l).rest)) (refused 10 s.count.commands)) (line_is_lem mem words n v.named)
       ∙ ap (λ (t : Bool). cond t (done (counted_of s) (left text)) (refused 10 s.count.commands)) (fits text)
 
-  comes : (log₀ text : Bytes) → Logged log₀ log s.fill.log text → Comes files area nums log₀ log' (record { tag = 0; state = log_set s e }) (done (counted_of s) (left text))
+  comes : (log₀ text : Bytes) → Logged log₀ log s.fill.log text → Comes files area nums log₀ log' (record { stop = None; state = log_set s e }) (done (counted_of s) (left text))
   comes log₀ text h =
       record {
-        result = reading_done files area nums (left text).log (record { tag = 0; state = log_set s e }) (counted_of s) (left text) refl refl
+        result = reading_done files area nums (left text).log (record { stop = None; state = log_set s e }) (counted_of s) (left text) refl refl
             (ap (model_of mem (store_of nums s) (log_set s e)) (puts_log mem (store_of nums s) s text ws) ∙ log_model mem (store_of nums s) s e text ws);
         logged = λ z. g ∙ ap (λ o. emit o (saying ws)) h ∙ sym (emit_append (log₀ ▸ 0) text (saying ws)) ∙ ap (emit (log₀ ▸ 0)) (sym (puts_log mem (store_of nums s) s text ws));
       }
 
-  pub puts_ran : Ran files area area nums nums log log' s (record { tag = 0; state = log_set s e }) (λ text. acted (named_by 1) (line_at files area words n s) (counted_of s) (model_at files area nums s text))
+  pub puts_ran : Ran files area area nums nums log log' s (record { stop = None; state = log_set s e }) (λ text. acted (named_by 1) (line_at files area words n s) (counted_of s) (model_at files area nums s text))
   puts_ran =
       record {
         held = λ z. log_held files area nums s e v.held v.counted;
         more = λ z. omega arith;
         lent = lent_same s.fill.end area nums;
-        reads = λ log₀ text h. comes_at files area nums log₀ log' (record { tag = 0; state = log_set s e }) (acted (named_by 1) (line_at files area words n s) (counted_of s) (model_at files area nums s text)) (done (counted_of s) (left text)) (acts text) (comes log₀ text h);
+        reads = λ log₀ text h. comes_at files area nums log₀ log' (record { stop = None; state = log_set s e }) (acted (named_by 1) (line_at files area words n s) (counted_of s) (model_at files area nums s text)) (done (counted_of s) (left text)) (acts text) (comes log₀ text h);
       }

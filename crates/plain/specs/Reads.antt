@@ -9,6 +9,7 @@ use Rattle.read.specs.Reading.{Reading, done, refused, Line, acts_by, scopes_by}
 use Rattle.store.specs.View.{Store, model_of}
 use Rattle.store.specs.declared.state.State.{State}
 use Rattle.scopes.specs.declared.go.Out.{Out}
+use Rattle.scopes.specs.Stops.{tag_of}
 use Rattle.held.specs.Held.{model_at, counted_of, reading_of, Lends, Held, Comes}
 use Rattle.loads.specs.Steps.{acted}
 
@@ -36,15 +37,15 @@ pub cond_false : {A : Type 0} (b : Bool) (x y : A) → b ≡ false → cond b x 
 cond_false b x y e = rw e
 
 module _ (files area nums : List ℕ) (log : Bytes) (o : Out) where
-  pub reading_done : (n : Counted) (t : Model) → o.tag ≡ 0 → counted_of o.state ≡ n → model_at files area nums o.state log ≡ t → reading_of files area nums log o ≡ done n t
+  pub reading_done : (n : Counted) (t : Model) → tag_of o.stop ≡ 0 → counted_of o.state ≡ n → model_at files area nums o.state log ≡ t → reading_of files area nums log o ≡ done n t
   reading_done n t z p q =
-      cond_true (eqb o.tag 0) (done (counted_of o.state) (model_at files area nums o.state log)) (refused o.tag o.state.count.commands) (eq-eqb o.tag 0 z)
+      cond_true (eqb (tag_of o.stop) 0) (done (counted_of o.state) (model_at files area nums o.state log)) (refused (tag_of o.stop) o.state.count.commands) (eq-eqb (tag_of o.stop) 0 z)
       ∙ ap (λ (x : Counted). done x (model_at files area nums o.state log)) p
       ∙ ap (done n) q
 
-  pub reading_refused : (k : ℕ) → o.tag ≡ 10 → o.state.count.commands ≡ k → reading_of files area nums log o ≡ refused 10 k
+  pub reading_refused : (k : ℕ) → tag_of o.stop ≡ 10 → o.state.count.commands ≡ k → reading_of files area nums log o ≡ refused 10 k
   reading_refused k z p =
-      cond_false (eqb o.tag 0) (done (counted_of o.state) (model_at files area nums o.state log)) (refused o.tag o.state.count.commands) (ne_eqb o.tag 0 (λ q. absurd (omega (arith, z, q))))
+      cond_false (eqb (tag_of o.stop) 0) (done (counted_of o.state) (model_at files area nums o.state log)) (refused (tag_of o.stop) o.state.count.commands) (ne_eqb (tag_of o.stop) 0 (λ q. absurd (omega (arith, z, q))))
       ∙ ap (λ (x : ℕ). refused x o.state.count.commands) z
       ∙ ap (refused 10) p
 

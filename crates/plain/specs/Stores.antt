@@ -1,8 +1,9 @@
 -- The answer of a command, and the numbers with its row. Assumes nothing.
-use Rattle.std.specs.Prelude.{ℕ, ◌-◌, cond, List, eqb}
+use Rattle.std.specs.Prelude.{ℕ, ◌-◌, cond, List, eqb, Option, Some, None}
 use Rattle.store.specs.Rows.{row_put_lem}
 use Rattle.made.specs.declared.Made.{Made}
 use Rattle.scopes.specs.declared.go.Out.{Out}
+use Rattle.scopes.specs.declared.go.Stop.TheVariants as stop
 
 -- the numbers with its row, where it has one: the last row that is counted
 abbrev pub row_stored : List ℕ → Made → List ℕ
@@ -10,4 +11,4 @@ row_stored nums r = cond (eqb r.tag 0) (cond (eqb r.row.kind 0) nums (row_put_le
 
 -- what is refused is past a reading limit
 abbrev pub out_of : Made → Out
-out_of r = record { tag = cond (eqb r.tag 0) 0 10; state = r.state }
+out_of r = record { stop = cond (eqb r.tag 0) None (Some stop.PastLimit); state = r.state }

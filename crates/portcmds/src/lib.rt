@@ -11,22 +11,25 @@ ghost use Rattle.model.specs.Records.{Model};
 ghost use Rattle.store.specs.declared.state.State.{State};
 ghost use Rattle.portcmds.specs.Named.{BelowIs};
 ghost use Rattle.portcmds.specs.Ports.{PortIs};
+ghost use Rattle.spans.specs.Memory.{memory};
 
 use args::argument::{name, option};
 use made::{Brief, Deed};
+use spans::span::Memory;
 use store::row::Row;
 use store::state::Port;
 use store::stored::{Below, Stored, as_maybe, narrow, or_empty};
+use text::part::Rows;
 
 // "supply ports .. 32 of each"
 const MOST_PORTS: usize = 32;
 
 // The first word of the command, below the scope.
-pub fn named_below(files: &[u8], area: &[u8], words: &[u32], n: usize, scope: Stored) -> Below
-    requires { last_of span_end (pairs words.now 0 n) < 2 ^ 32 }
-    ensures { BelowIs (files.now ++ area.now) words.now n scope result }
+pub fn named_below(mem: &Memory, command: &Rows, scope: Stored) -> Below
+    requires { last_of span_end (pairs command.now.rows.now 0 command.now.n) < 2 ^ 32 }
+    ensures { BelowIs (memory mem.now) command.now.rows.now command.now.n scope result }
 {
-    let named = name(files, area, words, n);
+    let named = name(mem, command);
     Below {
         scope: scope,
         word: narrow(named),
@@ -34,12 +37,12 @@ pub fn named_below(files: &[u8], area: &[u8], words: &[u32], n: usize, scope: St
 }
 
 // The port that the words of a command name.
-fn port<'a>(files: &'a [u8], area: &'a [u8], words: &[u32], n: usize, scope: Stored) -> Port
-    requires { last_of span_end (pairs words.now 0 n) < 2 ^ 32 }
-    ensures { PortIs (files.now ++ area.now) words.now n scope result }
+fn port<'a>(mem: &Memory<'a>, command: &Rows, scope: Stored) -> Port
+    requires { last_of span_end (pairs command.now.rows.now 0 command.now.n) < 2 ^ 32 }
+    ensures { PortIs (memory mem.now) command.now.rows.now command.now.n scope result }
 {
-    let named = named_below(files, area, words, n, scope);
-    let direction = option(files, area, words, n, b"-direction");
+    let named = named_below(mem, command, scope);
+    let direction = option(mem, command, b"-direction");
     Port {
         name: named,
         direction: as_maybe(direction),
@@ -47,36 +50,24 @@ fn port<'a>(files: &'a [u8], area: &'a [u8], words: &[u32], n: usize, scope: Sto
 }
 
 // A supply port more.
-pub fn create_supply_port<'a>(
-    files: &'a [u8],
-    area: &'a [u8],
-    words: &[u32],
-    n: usize,
-    b: Brief,
-) -> Deed
-    requires { Line words.now n }
-    ensures { Does files.now area.now words.now n (λ (s : State). brief_of s ≡ b) result (λ (m : Model). port_command m (words_from (files.now ++ area.now) words.now n 1)) }
+pub fn create_supply_port<'a>(mem: &Memory<'a>, command: &Rows, b: Brief) -> Deed
+    requires { Line command.now.rows.now command.now.n }
+    ensures { Does mem.now.files.now mem.now.area.now command.now.rows.now command.now.n (λ (s : State). brief_of s ≡ b) result (λ (m : Model). port_command m (words_from (memory mem.now) command.now.rows.now command.now.n 1)) }
 {
     if MOST_PORTS <= b.ports {
         return Deed::Full;
     }
-    let p = port(files, area, words, n, b.scope);
+    let p = port(mem, command, b.scope);
     Deed::Port(p)
 }
 
 // A row of connections more.
-pub fn connect_supply_net<'a>(
-    files: &'a [u8],
-    area: &'a [u8],
-    words: &[u32],
-    n: usize,
-    b: Brief,
-) -> Deed
-    requires { Line words.now n }
-    ensures { Does files.now area.now words.now n (λ (s : State). brief_of s ≡ b) result (λ (m : Model). connect_command m (words_from (files.now ++ area.now) words.now n 1)) }
+pub fn connect_supply_net<'a>(mem: &Memory<'a>, command: &Rows, b: Brief) -> Deed
+    requires { Line command.now.rows.now command.now.n }
+    ensures { Does mem.now.files.now mem.now.area.now command.now.rows.now command.now.n (λ (s : State). brief_of s ≡ b) result (λ (m : Model). connect_command m (words_from (memory mem.now) command.now.rows.now command.now.n 1)) }
 {
-    let named = name(files, area, words, n);
-    let ports = option(files, area, words, n, b"-ports");
+    let named = name(mem, command);
+    let ports = option(mem, command, b"-ports");
     let r = Row {
         kind: 1,
         scope: b.scope,

@@ -84,6 +84,7 @@ pub fn next_of(job: &[u8], at: usize, end: usize, pick: Pick) -> Option<NameAt>
     ensures { BodySeen job.now at end pick result }
 {
     let mut i = at;
+    // No `while let`: a line is passed over in two ways, and only one of them reads it.
     loop {
         if is_off(pick, value_byte(job, i)) {
             let e = lines::line_end(job, i, end);

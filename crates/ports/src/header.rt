@@ -16,7 +16,7 @@ fn outward(out: bool, dir: Dir) -> bool
     match dir {
         Dir::In | Dir::Inout | Dir::Ref => false,
         Dir::Out => true,
-        Dir::None | Dir::Bad => out,
+        Dir::None => out,
     }
 }
 

@@ -7,7 +7,7 @@ ghost use Rattle.ports.specs.declared.Cursor.TheVariants as cursor;
 ghost use Rattle.ports.specs.Cursors.{ports_from, header_end, decls_from, decls_end, FreshSeen, BodyAt, CursorAt, AmongPorts, OutputSeen, CandidateSeen, InputSeen};
 
 use body::Pick;
-use jobindex::Span;
+use jobindex::{Index, Span};
 
 pub mod body;
 pub mod header;
@@ -73,22 +73,22 @@ fn decls_end(index: &[u32], k: usize) -> usize
 
 // The next body port of module k that is an output and stands neither in the header nor before `at` in the body.
 #[tactic(auto, using(crate::proofs::Turns::fresh_turns))]
-fn next_fresh(job: &[u8], index: &[u32], k: usize, at: usize) -> Option<NameAt>
-    requires { (k ≤ 128) × BodyAt job.now index.now k at }
-    ensures { FreshSeen job.now index.now k at result }
+fn next_fresh(index: &Index, k: usize, at: usize) -> Option<NameAt>
+    requires { (k ≤ 128) × BodyAt index.now.job.now index.now.rows.now k at }
+    ensures { FreshSeen index.now.job.now index.now.rows.now k at result }
 {
-    let p = ports_from(index, k);
-    let h = header_end(index, k);
-    let d = decls_from(index, k);
-    let e = decls_end(index, k);
+    let p = ports_from(index.rows, k);
+    let h = header_end(index.rows, k);
+    let d = decls_from(index.rows, k);
+    let e = decls_end(index.rows, k);
     let mut i = at;
-    while let Some(own) = body::next_of(job, i, e, Pick::Output) {
-        let n = lines::part_of(job, own.name);
-        if header::is_output(job, p, h, n) {
+    while let Some(own) = body::next_of(index.job, i, e, Pick::Output) {
+        let n = lines::part_of(index.job, own.name);
+        if header::is_output(index.job, p, h, n) {
             i = own.next;
             continue;
         }
-        if body::is_of(job, d, i, Pick::Output, n) {
+        if body::is_of(index.job, d, i, Pick::Output, n) {
             i = own.next;
             continue;
         }
@@ -110,11 +110,11 @@ pub fn first(index: &[u32], k: usize) -> Cursor
 
 // The next output port among the body ports.
 #[tactic(auto, using(crate::proofs::Turns::fresh_steps))]
-fn body_output(job: &[u8], index: &[u32], k: usize, at: usize) -> Option<Step>
-    requires { (k ≤ 128) × BodyAt job.now index.now k at }
-    ensures { OutputSeen job.now index.now k (cursor.Body at) result }
+fn body_output(index: &Index, k: usize, at: usize) -> Option<Step>
+    requires { (k ≤ 128) × BodyAt index.now.job.now index.now.rows.now k at }
+    ensures { OutputSeen index.now.job.now index.now.rows.now k (cursor.Body at) result }
 {
-    let own = next_fresh(job, index, k, at)?;
+    let own = next_fresh(index, k, at)?;
     Some(Step {
         name: own.name,
         next: Cursor::Body { at: own.next },
@@ -123,14 +123,14 @@ fn body_output(job: &[u8], index: &[u32], k: usize, at: usize) -> Option<Step>
 
 // The next output port of module k: those of the header, then the new ones of the body.
 #[tactic(auto, using(crate::proofs::Turns::output_steps))]
-pub fn next_output(job: &[u8], index: &[u32], k: usize, c: Cursor) -> Option<Step>
-    requires { (k ≤ 128) × CursorAt job.now index.now k c }
-    ensures { OutputSeen job.now index.now k c result }
+pub fn next_output(index: &Index, k: usize, c: Cursor) -> Option<Step>
+    requires { (k ≤ 128) × CursorAt index.now.job.now index.now.rows.now k c }
+    ensures { OutputSeen index.now.job.now index.now.rows.now k c result }
 {
     match c {
         Cursor::Header { at, out } => {
-            match header::next_output(job, at, header_end(index, k), out) {
-                None => body_output(job, index, k, decls_from(index, k)),
+            match header::next_output(index.job, at, header_end(index.rows, k), out) {
+                None => body_output(index, k, decls_from(index.rows, k)),
                 Some(own) => Some(Step {
                     name: own.name,
                     next: Cursor::Header {
@@ -140,18 +140,19 @@ pub fn next_output(job: &[u8], index: &[u32], k: usize, c: Cursor) -> Option<Ste
                 }),
             }
         }
-        Cursor::Body { at } => body_output(job, index, k, at),
+        Cursor::Body { at } => body_output(index, k, at),
         Cursor::Signals { .. } => None,
     }
 }
 
-// The next `net` or `data` name of module k without dimensions, from a declaration on.
+// The next `net` or `data` name of module k without dimensions, from a declaration on. One function for this and for `body_input` would take the names
+// picked and the cursor's variant, and be no plainer.
 #[tactic(auto, using(crate::proofs::Turns::signal_steps))]
-fn next_signal(job: &[u8], index: &[u32], k: usize, at: usize) -> Option<Step>
+fn next_signal(index: &Index, k: usize, at: usize) -> Option<Step>
     requires { k ≤ 128 }
-    ensures { CandidateSeen job.now index.now k (cursor.Signals at) result }
+    ensures { CandidateSeen index.now.job.now index.now.rows.now k (cursor.Signals at) result }
 {
-    let own = body::next_of(job, at, decls_end(index, k), Pick::Signal)?;
+    let own = body::next_of(index.job, at, decls_end(index.rows, k), Pick::Signal)?;
     Some(Step {
         name: own.name,
         next: Cursor::Signals { at: own.next },
@@ -160,35 +161,35 @@ fn next_signal(job: &[u8], index: &[u32], k: usize, at: usize) -> Option<Step>
 
 // The next output port or signal of module k.
 #[tactic(auto, using(crate::proofs::Turns::candidate_steps))]
-pub fn next_candidate(job: &[u8], index: &[u32], k: usize, c: Cursor) -> Option<Step>
-    requires { (k ≤ 128) × CursorAt job.now index.now k c }
-    ensures { CandidateSeen job.now index.now k c result }
+pub fn next_candidate(index: &Index, k: usize, c: Cursor) -> Option<Step>
+    requires { (k ≤ 128) × CursorAt index.now.job.now index.now.rows.now k c }
+    ensures { CandidateSeen index.now.job.now index.now.rows.now k c result }
 {
     match c {
-        Cursor::Signals { at } => next_signal(job, index, k, at),
-        Cursor::Header { .. } | Cursor::Body { .. } => next_or_signal(job, index, k, c),
+        Cursor::Signals { at } => next_signal(index, k, at),
+        Cursor::Header { .. } | Cursor::Body { .. } => next_or_signal(index, k, c),
     }
 }
 
 // The next output port of module k from a cursor among its ports; its first signal where there is none.
 #[tactic(auto, using(crate::proofs::Turns::port_steps))]
-fn next_or_signal(job: &[u8], index: &[u32], k: usize, c: Cursor) -> Option<Step>
-    requires { (k ≤ 128) × (CursorAt job.now index.now k c × AmongPorts c) }
-    ensures { CandidateSeen job.now index.now k c result }
+fn next_or_signal(index: &Index, k: usize, c: Cursor) -> Option<Step>
+    requires { (k ≤ 128) × (CursorAt index.now.job.now index.now.rows.now k c × AmongPorts c) }
+    ensures { CandidateSeen index.now.job.now index.now.rows.now k c result }
 {
-    match next_output(job, index, k, c) {
-        None => next_signal(job, index, k, decls_from(index, k)),
+    match next_output(index, k, c) {
+        None => next_signal(index, k, decls_from(index.rows, k)),
         Some(own) => Some(own),
     }
 }
 
 // The next non-output port among the body ports.
 #[tactic(auto, using(crate::proofs::Turns::input_bodies))]
-fn body_input(job: &[u8], index: &[u32], k: usize, at: usize) -> Option<Step>
+fn body_input(index: &Index, k: usize, at: usize) -> Option<Step>
     requires { k ≤ 128 }
-    ensures { InputSeen job.now index.now k (cursor.Body at) result }
+    ensures { InputSeen index.now.job.now index.now.rows.now k (cursor.Body at) result }
 {
-    let own = body::next_of(job, at, decls_end(index, k), Pick::Other)?;
+    let own = body::next_of(index.job, at, decls_end(index.rows, k), Pick::Other)?;
     Some(Step {
         name: own.name,
         next: Cursor::Body { at: own.next },
@@ -197,13 +198,17 @@ fn body_input(job: &[u8], index: &[u32], k: usize, at: usize) -> Option<Step>
 
 // The next non-output port of module k, header and body, from the first cursor or one that this function gave.
 #[tactic(auto, using(crate::proofs::Turns::input_steps))]
-pub fn next_input(job: &[u8], index: &[u32], k: usize, c: Cursor) -> Option<Step>
+pub fn next_input(index: &Index, k: usize, c: Cursor) -> Option<Step>
     requires { k ≤ 128 }
-    ensures { InputSeen job.now index.now k c result }
+    ensures { InputSeen index.now.job.now index.now.rows.now k c result }
 {
     match c {
-        Cursor::Header { at, .. } => match header::next_other(job, at, header_end(index, k)) {
-            None => body_input(job, index, k, decls_from(index, k)),
+        Cursor::Header { at, .. } => match header::next_other(
+            index.job,
+            at,
+            header_end(index.rows, k),
+        ) {
+            None => body_input(index, k, decls_from(index.rows, k)),
             Some(own) => Some(Step {
                 name: own.name,
                 next: Cursor::Header {
@@ -212,7 +217,7 @@ pub fn next_input(job: &[u8], index: &[u32], k: usize, c: Cursor) -> Option<Step
                 },
             }),
         },
-        Cursor::Body { at } => body_input(job, index, k, at),
+        Cursor::Body { at } => body_input(index, k, at),
         Cursor::Signals { .. } => None,
     }
 }

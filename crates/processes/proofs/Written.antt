@@ -1,4 +1,5 @@
 -- The text of each port of a strategy like this one: laws as the needs ask them. Assumes nothing.
+use Rattle.std.specs.Prelude.{Option}
 use Rattle.store.specs.declared.state.Few.{Few}
 use Prim.Native.Nat.{ℕ, suc, ◌+◌, ◌-◌, ◌≤◌, ◌<◌}
 use native.Mathlib.Omega.{arith}
@@ -19,16 +20,17 @@ use Rattle.model.specs.Commands.{or_else}
 use Rattle.store.specs.Strings.{maybe_of}
 use Rattle.store.specs.View.{isolation_of}
 use Rattle.store.specs.declared.state.Isolation.{Isolation}
-use Rattle.clamps.specs.Values.{stored_name, clamp_number}
+use Rattle.clamps.specs.Values.{stored_name, clamp_literal}
+use Rattle.texts.specs.declared.Literal.{Literal}
 use Rattle.texts.specs.Isolation.{lowered, is_clamp, active_of}
-use Rattle.format.specs.Args.{rooted, arg_of, name_arg, fixed_arg}
+use Rattle.format.specs.Args.{rooted, arg_of, name_arg}
 use Rattle.format.specs.declared.arg.Arg.{Arg}
 use Rattle.isolated.specs.Table.{port_row, port_ref, net_ref, Kept, kept_of, kept_from, kept_in}
 use Rattle.isolated.specs.Laws.{kept_next, kept_none}
 use Rattle.isolated.specs.declared.Isolated.{Isolated}
 use Rattle.alike.specs.Strategies.{strategy_at, signal_of, are_alike}
 use Rattle.alike.specs.Ruled.{Ruled, row_small}
-use Rattle.portargs.specs.Args.{net_arg, port_arg, signal_arg, active_arg, net_is_lem, port_is, clamp_is, strategy_is, signal_is, active_is}
+use Rattle.portargs.specs.Args.{net_arg, port_arg, literal_arg, signal_arg, active_arg, net_is_lem, port_is, clamp_is, strategy_is, signal_is, active_is}
 use Rattle.processes.specs.Ports.{is_like, port_text, ports_text, head_text}
 use Rattle.processes.proofs.Led.{number_small}
 
@@ -47,9 +49,9 @@ pub ruleset heads = (rules, head_written)
 
 -- ---- a port
 
-pub port_written : (job mem : Bytes) (scope : List Bytes) (top : Bytes) (s : Isolation) (x : Isolated) (tpl : Bytes) (a b c d : Arg) (k : ℕ) (n : Name) (o w : Out)
+pub port_written : (job mem : Bytes) (scope : List Bytes) (top : Bytes) (s : Isolation) (x : Isolated) (tpl : Bytes) (a b c d : Arg) (k : Option Literal) (n : Name) (o w : Out)
     → w ≡ emit o (fill tpl (arg_of job mem scope top a) (arg_of job mem scope top b) (arg_of job mem scope top c) (arg_of job mem scope top d) [])
-    → a ≡ net_arg x → b ≡ fixed_arg k → k ≡ clamp_number (lowered (or_else (maybe_of mem s.clamp) (ascii "0"))) → c ≡ name_arg n → n ≡ stored_name s.name → d ≡ port_arg x
+    → a ≡ net_arg x → b ≡ literal_arg k → k ≡ clamp_literal (lowered (or_else (maybe_of mem s.clamp) (ascii "0"))) → c ≡ name_arg n → n ≡ stored_name s.name → d ≡ port_arg x
     → is_clamp (lowered (isolation_of mem s).clamp) ≡ true → w ≡ emit o (port_text tpl scope top (λ (_ : ℕ). isolation_of mem s) (kept_of job mem x))
 unfolding port_text isolation_of
 port_written job mem scope top s x tpl a b c d k n o w e ea eb ek ec en ed h =

@@ -14,31 +14,36 @@ ghost use Rattle.alike.specs.Shown.{shown};
 ghost use Rattle.alike.specs.Numbers.{numbers_in};
 ghost use Rattle.alike.specs.Ruled.{Ruled};
 ghost use Rattle.processes.specs.Ports.{is_like, port_text, ports_text, head_text, process_text};
+ghost use Rattle.spans.specs.Memory.{memory};
+ghost use Rattle.scope.specs.Path.{path_of};
 
 use alike::alike_rows;
 use clamps::{clamp, stored};
-use format::arg::{fixed, name};
+use format::arg::name;
 use format::fill::{fill2, fill4};
+use format::source::Source;
 use isolated::{Isolated, port_at, strategy_at};
 use out::emit::Text;
-use portargs::{active_arg, net_arg, port_arg, signal_arg};
+use portargs::{active_arg, literal_arg, net_arg, port_arg, signal_arg};
+use spans::span::Memory;
 use store::state::{Few, Isolation};
+use text::part::Rows;
 
-// Whether one of the first n ports is of a strategy like this one. `s` is a strategy that is known to be unlike it: ports of one stand together.
+// Whether one of the ports is of a strategy like this one. `s` is a strategy that is known to be unlike it: ports of one stand together.
 #[tactic(auto, using(crate::proofs::Led::seeks))]
-fn is_led(files: &[u8], area: &[u8], t: Few<Isolation>, ports: &[u32], n: usize, i: usize) -> bool
-    requires { Ruled (files.now ++ area.now) t ports.now n × (i < 32) }
-    ensures { result ≡ any (is_like (strategy_at (files.now ++ area.now) t) i) (numbers_in ports.now n) }
+fn is_led(mem: &Memory, t: Few<Isolation>, ports: &Rows, i: usize) -> bool
+    requires { Ruled (memory mem.now) t ports.now.rows.now ports.now.n × (i < 32) }
+    ensures { result ≡ any (is_like (strategy_at (memory mem.now) t) i) (numbers_in ports.now.rows.now ports.now.n) }
 {
     let a = t.all[i];
     let mut s = 32;
-    for k in 0..n {
-        let j = strategy_at(ports, k);
+    for k in 0..ports.n {
+        let j = strategy_at(ports.rows, k);
         if j == s {
             continue;
         }
         let b = t.all[j];
-        if alike_rows(files, area, a, b) {
+        if alike_rows(mem, a, b) {
             return true;
         }
         s = j;
@@ -47,143 +52,80 @@ fn is_led(files: &[u8], area: &[u8], t: Few<Isolation>, ports: &[u32], n: usize,
 }
 
 // Writes a template for a port of a strategy: the parent's net, the clamp value, the strategy, the port.
-fn put_port(
-    to: &mut Text,
-    tpl: &[u8],
-    job: &[u8],
-    files: &[u8],
-    area: &[u8],
-    over: &[u8],
-    from: usize,
-    top: &[u8],
-    s: Isolation,
-    x: Isolated,
-)
-    requires { (is_template 4 tpl.now ≡ true) × (is_clamp (lowered (isolation_of (files.now ++ area.now) s).clamp) ≡ true) }
-    ensures { Writes to.old (port_text tpl.now (parts over.now from) top.now (λ _. isolation_of (files.now ++ area.now) s) (kept_of job.now (files.now ++ area.now) x)) to.new }
+fn put_port(to: &mut Text, tpl: &[u8], src: &Source, s: Isolation, x: Isolated)
+    requires { (is_template 4 tpl.now ≡ true) × (is_clamp (lowered (isolation_of (memory src.now.mem) s).clamp) ≡ true) }
+    ensures { Writes to.old (port_text tpl.now (path_of src.now.scope) src.now.top.now (λ _. isolation_of (memory src.now.mem) s) (kept_of src.now.design.index.job.now (memory src.now.mem) x)) to.new }
 {
     let m = s.clamp;
     let n = s.name;
     let a = net_arg(x);
-    let b = fixed(clamp(files, area, m));
+    let b = literal_arg(clamp(&src.mem, m));
     let c = name(stored(n));
     let d = port_arg(x);
-    fill4(to, tpl, job, files, area, over, from, top, a, b, c, d)
+    fill4(to, tpl, src, a, b, c, d)
 }
 
 // Writes a template for each port of a strategy like this one. `s` is a strategy that is known to be unlike it.
 #[tactic(auto, using(crate::proofs::Written::writes))]
-fn each_port(
-    to: &mut Text,
-    tpl: &[u8],
-    job: &[u8],
-    files: &[u8],
-    area: &[u8],
-    over: &[u8],
-    from: usize,
-    top: &[u8],
-    t: Few<Isolation>,
-    ports: &[u32],
-    n: usize,
-    i: usize,
-)
-    requires { (is_template 4 tpl.now ≡ true) × (Ruled (files.now ++ area.now) t ports.now n × (i < 32)) }
-    ensures { Writes to.old (ports_text tpl.now (parts over.now from) top.now (strategy_at (files.now ++ area.now) t) i (kept_in job.now (files.now ++ area.now) ports.now n)) to.new }
+fn each_port(to: &mut Text, tpl: &[u8], src: &Source, t: Few<Isolation>, ports: &Rows, i: usize)
+    requires { (is_template 4 tpl.now ≡ true) × (Ruled (memory src.now.mem) t ports.now.rows.now ports.now.n × (i < 32)) }
+    ensures { Writes to.old (ports_text tpl.now (path_of src.now.scope) src.now.top.now (strategy_at (memory src.now.mem) t) i (kept_in src.now.design.index.job.now (memory src.now.mem) ports.now.rows.now ports.now.n)) to.new }
 {
     let a = t.all[i];
     let mut s = 32;
-    for k in 0..n {
-        let j = strategy_at(ports, k);
+    for k in 0..ports.n {
+        let j = strategy_at(ports.rows, k);
         if j == s {
             continue;
         }
         let b = t.all[j];
-        if !alike_rows(files, area, a, b) {
+        if !alike_rows(&src.mem, a, b) {
             s = j;
             continue;
         }
-        let x = port_at(ports, k);
-        put_port(to, tpl, job, files, area, over, from, top, b, x);
+        let x = port_at(ports.rows, k);
+        put_port(to, tpl, src, b, x);
     }
 }
 
 // The head of the process of a strategy.
 #[tactic(auto, using(crate::proofs::Written::heads))]
-fn put_head(
-    to: &mut Text,
-    job: &[u8],
-    files: &[u8],
-    area: &[u8],
-    over: &[u8],
-    from: usize,
-    top: &[u8],
-    t: Few<Isolation>,
-    i: usize,
-)
+fn put_head(to: &mut Text, src: &Source, t: Few<Isolation>, i: usize)
     requires { i < 32 }
-    ensures { Writes to.old (head_text (parts over.now from) (strategy_at (files.now ++ area.now) t i)) to.new }
+    ensures { Writes to.old (head_text (path_of src.now.scope) (strategy_at (memory src.now.mem) t i)) to.new }
 {
     let a = signal_arg(t, i);
-    let b = active_arg(files, area, t, i);
+    let b = active_arg(&src.mem, t, i);
     fill2(
         to,
         b"  always @({0}) begin\n    if ({0} === {1}) begin\n",
-        job,
-        files,
-        area,
-        over,
-        from,
-        top,
+        src,
         a,
         b,
     )
 }
 
 // The process of a strategy.
-fn process(
-    to: &mut Text,
-    job: &[u8],
-    files: &[u8],
-    area: &[u8],
-    over: &[u8],
-    from: usize,
-    top: &[u8],
-    t: Few<Isolation>,
-    ports: &[u32],
-    n: usize,
-    i: usize,
-)
-    requires { Ruled (files.now ++ area.now) t ports.now n × (i < 32) }
-    ensures { Writes to.old (process_text (parts over.now from) top.now (strategy_at (files.now ++ area.now) t) (kept_in job.now (files.now ++ area.now) ports.now n) i) to.new }
+fn process(to: &mut Text, src: &Source, t: Few<Isolation>, ports: &Rows, i: usize)
+    requires { Ruled (memory src.now.mem) t ports.now.rows.now ports.now.n × (i < 32) }
+    ensures { Writes to.old (process_text (path_of src.now.scope) src.now.top.now (strategy_at (memory src.now.mem) t) (kept_in src.now.design.index.job.now (memory src.now.mem) ports.now.rows.now ports.now.n) i) to.new }
 {
-    put_head(to, job, files, area, over, from, top, t, i);
+    put_head(to, src, t, i);
     each_port(
         to,
         b"      force {0} = '{1};\n      $display(\"[UPF] Time: %0t, Isolation enabled (strategy {2}) on port '{3}', clamp {1}\", $time);\n",
-        job,
-        files,
-        area,
-        over,
-        from,
-        top,
+        src,
         t,
         ports,
-        n,
         i,
     );
     to.put(b"    end else begin\n");
     each_port(
         to,
         b"      release {0};\n      $display(\"[UPF] Time: %0t, Isolation disabled (strategy {2}) on port '{3}'\", $time);\n",
-        job,
-        files,
-        area,
-        over,
-        from,
-        top,
+        src,
         t,
         ports,
-        n,
         i,
     );
     to.put(b"    end\n  end\n")
@@ -191,31 +133,28 @@ fn process(
 
 // All processes.
 #[tactic(auto, using(crate::proofs::Texts::leads))]
-pub fn processes(
-    to: &mut Text,
-    job: &[u8],
-    files: &[u8],
-    area: &[u8],
-    over: &[u8],
-    from: usize,
-    top: &[u8],
-    t: Few<Isolation>,
-    ports: &[u32],
-    n: usize,
-)
-    requires { Ruled (files.now ++ area.now) t ports.now n }
-    ensures { Writes to.old (Isolation·processes (map (shown (parts over.now from) top.now (strategy_at (files.now ++ area.now) t)) (kept_in job.now (files.now ++ area.now) ports.now n))) to.new }
+pub fn processes(to: &mut Text, src: &Source, t: Few<Isolation>, ports: &Rows)
+    requires { Ruled (memory src.now.mem) t ports.now.rows.now ports.now.n }
+    ensures { Writes to.old (Isolation·processes (map (shown (path_of src.now.scope) src.now.top.now (strategy_at (memory src.now.mem) t)) (kept_in src.now.design.index.job.now (memory src.now.mem) ports.now.rows.now ports.now.n))) to.new }
 {
     let mut s = 32;
-    for k in 0..n {
-        let i = strategy_at(ports, k);
+    for k in 0..ports.n {
+        let i = strategy_at(ports.rows, k);
         if i == s {
             continue;
         }
         s = i;
-        if is_led(files, area, t, ports, k, i) {
+        if is_led(
+            &src.mem,
+            t,
+            &Rows {
+                rows: ports.rows,
+                n: k,
+            },
+            i,
+        ) {
             continue;
         }
-        process(to, job, files, area, over, from, top, t, ports, n, i);
+        process(to, src, t, ports, i);
     }
 }

@@ -1,11 +1,13 @@
 -- What a caller in C or Rust is told of a reading. Assumes nothing.
-use Rattle.std.specs.Prelude.{ℕ, ◌≡◌, cond, List, [], eqb, Result, Ok, Err}
+use Rattle.std.specs.Prelude.{ℕ, ◌≡◌, cond, List, [], eqb, Result, Ok, Err, Option}
 use Rattle.text.specs.Ascii.{Bytes}
 use Rattle.out.specs.Emit.{◌▸◌, emit}
 use Rattle.jobindex.specs.declared.Header.{Header}
 use Rattle.job.specs.declared.Refused.{Refused}
 use Rattle.job.specs.Reader.{JobRead}
 use Rattle.store.specs.declared.state.State.{State}
+use Rattle.scopes.specs.declared.go.Stop.{Stop}
+use Rattle.scopes.specs.Stops.{tag_of}
 use Rattle.reader.specs.Whole.{WasRead}
 use Rattle.dump.specs.Tables.{state_text}
 
@@ -30,8 +32,10 @@ told_text tag s = cond (eqb tag 0) (state_text s) []
 
 -- the answer of the reader, in numbers
 pub record Told (job files₀ files area₀ area nums₀ nums log₀ log dump₀ dump : List ℕ) (count first tag command logged dumped : ℕ) : Type 0 where
+  pub stop : Option Stop
   pub state : State
-  pub read : WasRead job files₀ files area₀ area nums₀ nums log₀ log count first (record { tag = tag; state = state })
+  pub tag_is : tag ≡ tag_of stop
+  pub read : WasRead job files₀ files area₀ area nums₀ nums log₀ log count first (record { stop = stop; state = state })
   pub command_is : command ≡ state.count.commands
   pub logged_is : logged ≡ state.fill.log
   pub dump_is : dump ▸ dumped ≡ emit (dump₀ ▸ 0) (told_text tag state)

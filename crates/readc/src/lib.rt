@@ -4,6 +4,7 @@
 ghost use Rattle.std.specs.Prelude.{◌≡◌, ◌≤◌, length};
 ghost use Rattle.out.specs.Emit.{◌▸◌, emit};
 ghost use Rattle.jobindex.specs.Index.{index_size};
+ghost use Rattle.scopes.specs.Stops.{tag_of};
 ghost use Rattle.reader.specs.Whole.{Starts};
 ghost use Rattle.dump.specs.Tables.{Few};
 ghost use Rattle.readc.specs.Told.{told_text, Indexes, Told};
@@ -11,6 +12,7 @@ ghost use Rattle.readc.specs.Told.{told_text, Indexes, Told};
 use dump::table::state;
 use files::whole::read;
 use out::emit::Text;
+use scopes::go::{Stop, tag_of};
 use store::state::State;
 
 // The number of files of a job, 0 for one that is refused, and the row of the start file; `nums` gets the index of a job that is accepted.
@@ -32,11 +34,11 @@ pub fn readc_index(job: &[u8], nums: &mut [u32], first: &mut usize) -> usize
 }
 
 // The records of a reading that ends.
-fn records(dump: &mut [u8], tag: usize, s: State) -> usize
-    requires { tag ≡ 0 → Few s }
-    ensures { dump.new ▸ result ≡ emit (dump.old ▸ 0) (told_text tag s) }
+fn records(dump: &mut [u8], stop: Option<Stop>, s: State) -> usize
+    requires { tag_of stop ≡ 0 → Few s }
+    ensures { dump.new ▸ result ≡ emit (dump.old ▸ 0) (told_text (tag_of stop) s) }
 {
-    if tag != 0 {
+    if stop.is_some() {
         return 0;
     }
     let mut to = Text::over(dump, 0);
@@ -64,10 +66,9 @@ pub fn readc_read(
 {
     let r = read(job, files, area, nums, log, count, first);
     let s = r.state;
-    let tag = r.tag;
-    let end = records(dump, tag, s);
+    let end = records(dump, r.stop, s);
     *command = s.count.commands;
     *logged = s.fill.log;
     *dumped = end;
-    tag
+    tag_of(r.stop)
 }

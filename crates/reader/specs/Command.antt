@@ -1,4 +1,5 @@
 -- Laws: one command, from what its parts come to. Assumes nothing.
+use Rattle.std.specs.Prelude.{Option, Some, None}
 use Rattle.std.specs.Prelude.{ℕ, zero, suc, ◌+◌, ◌-◌, ◌≤◌, ◌<◌, ◌^◌, ◌≡◌, refl, Bool, true, false, cond, ◌&&◌, List, [], ◌∷◌, leb, length, take, drop}
 use Prim.Native.String.{String}
 use Rattle.std.proofs.Common.{arith, sym, ◌∙◌, length-append, length-take-le, eq-eqb, ne_eqb, leb-true}
@@ -16,6 +17,8 @@ use Rattle.model.specs.Within.{Counted, lists_by, entries_of, total}
 use Rattle.read.specs.Reading.{Reading, done, refused, Line, line_of, acts_by, afterwards}
 use Rattle.store.specs.declared.state.State.{State}
 use Rattle.scopes.specs.declared.go.Out.{Out}
+use Rattle.scopes.specs.declared.go.Stop.TheVariants as stop
+use Rattle.scopes.specs.Stops.{tag_of}
 use Rattle.held.specs.Held.{mem_of, model_at, counted_of, log_of, Held, Worded, Comes, Ran}
 use Rattle.held.specs.Laws.{with_entries, entries_held, entries_model, lent_same}
 use Rattle.loads.specs.Steps.{line_at, counted_on, step_from, lists_fit, counted_out, acted, load_at, files_in, command_reads, Doing}
@@ -38,14 +41,14 @@ ran_as files area₀ area nums₀ nums log₁ log s u r D E f e v =
     }
 
 -- a refusal
-pub comes_refused : (files area nums log₀ log : List ℕ) (r : Out) (d : Reading) → (r.tag ≡ 0 → ⊥) → d ≡ refused r.tag r.state.count.commands → Comes files area nums log₀ log r d
-comes_refused files area nums log₀ log r d z e = record { result = rw (ne_eqb r.tag 0 z) (sym e); logged = λ h. absurd (z h) }
+pub comes_refused : (files area nums log₀ log : List ℕ) (r : Out) (d : Reading) → (tag_of r.stop ≡ 0 → ⊥) → d ≡ refused (tag_of r.stop) r.state.count.commands → Comes files area nums log₀ log r d
+comes_refused files area nums log₀ log r d z e = record { result = rw (ne_eqb (tag_of r.stop) 0 z) (sym e); logged = λ h. absurd (z h) }
 
-pub refused_is : (files area nums log₀ log : List ℕ) (r : Out) (d : Reading) → (r.tag ≡ 0 → ⊥) → Comes files area nums log₀ log r d → d ≡ refused r.tag r.state.count.commands
-refused_is files area nums log₀ log r d z v = sym v.result ∙ rw (ne_eqb r.tag 0 z)
+pub refused_is : (files area nums log₀ log : List ℕ) (r : Out) (d : Reading) → (tag_of r.stop ≡ 0 → ⊥) → Comes files area nums log₀ log r d → d ≡ refused (tag_of r.stop) r.state.count.commands
+refused_is files area nums log₀ log r d z v = sym v.result ∙ rw (ne_eqb (tag_of r.stop) 0 z)
 
-pub done_is : (files area nums log₀ log : List ℕ) (r : Out) (d : Reading) → r.tag ≡ 0 → Comes files area nums log₀ log r d → d ≡ done (counted_of r.state) (model_at files area nums r.state (log_of d))
-done_is files area nums log₀ log r d z v = sym v.result ∙ rw (eq-eqb r.tag 0 z)
+pub done_is : (files area nums log₀ log : List ℕ) (r : Out) (d : Reading) → tag_of r.stop ≡ 0 → Comes files area nums log₀ log r d → d ≡ done (counted_of r.state) (model_at files area nums r.state (log_of d))
+done_is files area nums log₀ log r d z v = sym v.result ∙ rw (eq-eqb (tag_of r.stop) 0 z)
 
 -- ---- the limits of commands and lists come first
 cut : (a b c s p r : Bool) → (a && (b && c)) ≡ false → (b && ((a && (s && (p && c))) && r)) ≡ false
@@ -121,9 +124,9 @@ module _ (job files area nums words : List ℕ) (count n k left : ℕ) (s : Stat
 
     module _ (x : Out) (ex : x ≡ counted_out s ls) where
       -- it is past these limits
-      over_by : (log : List ℕ) (b : Bool) → lists_fit s.count.commands s.count.entries ls ≡ b → x ≡ cond b (record { tag = 0; state = with_entries s (s.count.entries + total ls) }) (record { tag = 10; state = s }) → (x.tag ≡ 0 → ⊥)
+      over_by : (log : List ℕ) (b : Bool) → lists_fit s.count.commands s.count.entries ls ≡ b → x ≡ cond b (record { stop = None; state = with_entries s (s.count.entries + total ls) }) (record { stop = Some stop.PastLimit; state = s }) → (tag_of x.stop ≡ 0 → ⊥)
           → Ran files area area nums nums log log s x reads
-      over_by log true q e z = absurd (z (ap (λ (o : Out). o.tag) e))
+      over_by log true q e z = absurd (z (ap (λ (o : Out). (tag_of o.stop)) e))
       over_by log false q e z =
           record {
             held = λ h. absurd (z h);
@@ -135,16 +138,16 @@ module _ (job files area nums words : List ℕ) (count n k left : ℕ) (s : Stat
                 (rw e));
           }
 
-      pub command_over : (log : List ℕ) → (x.tag ≡ 0 → ⊥) → Ran files area area nums nums log log s x reads
+      pub command_over : (log : List ℕ) → (tag_of x.stop ≡ 0 → ⊥) → Ran files area area nums nums log log s x reads
       command_over log z = over_by log (lists_fit s.count.commands s.count.entries ls) refl ex z
 
       -- it is within them
-      within_by : (b : Bool) → lists_fit s.count.commands s.count.entries ls ≡ b → x ≡ cond b (record { tag = 0; state = with_entries s (s.count.entries + total ls) }) (record { tag = 10; state = s }) → x.tag ≡ 0
+      within_by : (b : Bool) → lists_fit s.count.commands s.count.entries ls ≡ b → x ≡ cond b (record { stop = None; state = with_entries s (s.count.entries + total ls) }) (record { stop = Some stop.PastLimit; state = s }) → tag_of x.stop ≡ 0
           → (lists_fit s.count.commands s.count.entries ls ≡ true) × (x.state ≡ with_entries s (s.count.entries + total ls))
       within_by true q e z = (q, ap (λ (o : Out). o.state) e)
-      within_by false q e z = absurd (omega (arith, ap (λ (o : Out). o.tag) e, z))
+      within_by false q e z = absurd (omega (arith, ap (λ (o : Out). (tag_of o.stop)) e, z))
 
-      module _ (z : x.tag ≡ 0) where
+      module _ (z : tag_of x.stop ≡ 0) where
         fits : lists_fit s.count.commands s.count.entries ls ≡ true
         fits = (within_by (lists_fit s.count.commands s.count.entries ls) refl ex z).0
 

@@ -24,6 +24,7 @@ use Rattle.store.specs.Added.{scope_set}
 use Rattle.store.specs.declared.state.State.{State}
 use Rattle.made.specs.Made.{reach_of}
 use Rattle.scopes.specs.declared.go.Out.{Out}
+use Rattle.scopes.specs.Stops.{tag_of}
 use Rattle.held.specs.Grows.{bounded_ends}
 use Rattle.held.specs.Held.{mem_of, model_at, counted_of, log_of, Logged, Held, Lent, Comes, Ran}
 use Rattle.held.specs.Laws.{with_entries, lent_two}
@@ -86,7 +87,7 @@ no_entries c l e = rw e
 
 module _ (job files area nums words : List ℕ) (count n k left : ℕ) (s : State) (v : Doing job files area nums words count n k left s)
     (c : ℕ) (ec : command_named (bytes (mem_of files area s) (pair_at words 0)) ≡ named_by c)
-    (x : Out) (ex : x ≡ counted_out s (entries_of (lists_by (named_by c) (line_at files area words n s).name (line_at files area words n s).rest))) (z : x.tag ≡ 0) (two : c ≡ 2) where
+    (x : Out) (ex : x ≡ counted_out s (entries_of (lists_by (named_by c) (line_at files area words n s).name (line_at files area words n s).rest))) (z : tag_of x.stop ≡ 0) (two : c ≡ 2) where
   abbrev reads : Bytes → Reading
   reads text = command_reads job files area nums count words n k left s text
 
@@ -119,7 +120,7 @@ module _ (job files area nums words : List ℕ) (count n k left : ℕ) (s : Stat
     lent_first : Lent s.fill.end area area' nums nums
     lent_first = record { kept = w.kept; back = w.back; low = refl; high = refl }
 
-    pub load_refused : (log : List ℕ) → (b.tag ≡ 0 → ⊥) → Ran files area area' nums nums log log s b reads
+    pub load_refused : (log : List ℕ) → (tag_of b.stop ≡ 0 → ⊥) → Ran files area area' nums nums log log s b reads
     load_refused log h =
         record {
           held = λ q. absurd (h q);
@@ -128,7 +129,7 @@ module _ (job files area nums words : List ℕ) (count n k left : ℕ) (s : Stat
           reads = λ log₀ text g. comes_refused files area' nums log₀ log b (reads text) h (step_is text ∙ (w.refuses h).is text);
         }
 
-    module _ (h : b.tag ≡ 0) where
+    module _ (h : tag_of b.stop ≡ 0) where
       o : Opens job files area area' nums count words n k left s b m
       o = w.opens h
 
@@ -148,7 +149,7 @@ module _ (job files area nums words : List ℕ) (count n k left : ℕ) (s : Stat
         comes : (log₀ text : Bytes) → Logged log₀ log s.fill.log text → Comes files area'' nums'' log₀ log'' r (d text)
         comes log₀ text q = g.reads log₀ text (rw o.log q)
 
-        pub load_failed : (r.tag ≡ 0 → ⊥) → Ran files area area'' nums nums'' log log'' s r reads
+        pub load_failed : (tag_of r.stop ≡ 0 → ⊥) → Ran files area area'' nums nums'' log log'' s r reads
         load_failed f =
             record {
               held = λ q. absurd (f q);
@@ -158,7 +159,7 @@ module _ (job files area nums words : List ℕ) (count n k left : ℕ) (s : Stat
                   (step_is text ∙ o.is text ∙ ap (restored (model_at files area nums s text)) (refused_is files area'' nums'' log₀ log'' r (d text) f (comes log₀ text q)));
             }
 
-        module _ (f : r.tag ≡ 0) (u : State) (eu : u ≡ restored_by s r.state s.head.top) where
+        module _ (f : tag_of r.stop ≡ 0) (u : State) (eu : u ≡ restored_by s r.state s.head.top) where
           far : s.fill.end ≤ r.state.fill.end
           far = omega (arith, o.more, g.more f)
 
@@ -207,7 +208,7 @@ module _ (job files area nums words : List ℕ) (count n k left : ℕ) (s : Stat
           count_is : counted_of u ≡ counted_of r.state
           count_is = let p : u.count ≡ r.state.count = ap (λ (t : State). t.count) eu ∙ restored_count s r.state s.head.top in ap (λ y. record { commands = y.commands; substituted = y.substituted; scopes = y.scopes; entries = y.entries }) p
 
-          pub load_done : Ran files area area'' nums nums'' log log'' s (record { tag = 0; state = u }) reads
+          pub load_done : Ran files area area'' nums nums'' log log'' s (record { stop = None; state = u }) reads
           load_done =
               let e : u.fill.end ≡ r.state.fill.end = ap (λ (t : State). t.fill.end) eu ∙ ap (λ y. y.end) (restored_fill s r.state s.head.top) in
               let a : u.fill.log ≡ r.state.fill.log = ap (λ (t : State). t.fill.log) eu ∙ ap (λ y. y.log) (restored_fill s r.state s.head.top) in

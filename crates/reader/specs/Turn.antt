@@ -19,6 +19,8 @@ use Rattle.store.specs.View.{model_of}
 use Rattle.store.specs.Rows.{store_of}
 use Rattle.store.specs.declared.state.State.{State}
 use Rattle.scopes.specs.declared.go.Out.{Out}
+use Rattle.scopes.specs.declared.go.Stop.TheVariants as stop
+use Rattle.scopes.specs.Stops.{tag_of}
 use Rattle.held.specs.Grows.{bounded_ends}
 use Rattle.held.specs.Held.{mem_of, model_at, counted_of, log_of, Logged, Lends, Held, Lent, Comes, Ran}
 use Rattle.held.specs.Laws.{lent_two}
@@ -160,7 +162,7 @@ module _ (job files area₀ nums₀ log₁ : List ℕ) (count k left : ℕ) (s :
 
       module _ (area' words' : List ℕ) (r : Result (Option Words) Full) (w : NextOf files T at vs area area' o limit words words' r) where
         -- there is no command left
-        none_by : NextOf files T at vs area area' o limit words words' (Ok None) → Ran files area₀ area' nums₀ nums log₁ log s (record { tag = 0; state = u }) all_reads
+        none_by : NextOf files T at vs area area' o limit words words' (Ok None) → Ran files area₀ area' nums₀ nums log₁ log s (record { stop = None; state = u }) all_reads
         none_by y =
             let e : commands (drop at T) ≡ [] = none_left vs o limit (commands (drop at T)) y.is in
             let ends : (log₀ text : Bytes) (p : Rest area nums log at u log₀ text) → all_reads text ≡ done (counted_of u) (model_at files area nums u p.written) = λ log₀ text p. sym p.reads ∙ reads_none load path VS (commands (drop at T)) (counted_of u) (model_at files area nums u p.written) e in
@@ -174,7 +176,7 @@ module _ (job files area₀ nums₀ log₁ : List ℕ) (count k left : ℕ) (s :
                   record { result = rw (l, y.lent.area) (sym (ends log₀ text p)); logged = λ z. rw l p.logged };
             }
 
-        pub turn_none : r ≡ Ok None → Ran files area₀ area' nums₀ nums log₁ log s (record { tag = 0; state = u }) all_reads
+        pub turn_none : r ≡ Ok None → Ran files area₀ area' nums₀ nums log₁ log s (record { stop = None; state = u }) all_reads
         turn_none e = none_by (rw e at w)
 
         -- a reading limit is passed
@@ -190,18 +192,18 @@ module _ (job files area₀ nums₀ log₁ : List ℕ) (count k left : ℕ) (s :
             let q : limit + (24576 - limit) ≡ 24576 = omega (arith, limit_in) in
             rw q at (sym (drop-drop (24576 - limit) limit area') ∙ ap (drop (24576 - limit)) h ∙ drop-drop (24576 - limit) limit area)
 
-        full_by : NextOf files T at vs area area' o limit words words' (Err full) → (b : State) → b ≡ begun_at u o → Ran files area₀ area' nums₀ nums log₁ log s (record { tag = 10; state = b }) all_reads
+        full_by : NextOf files T at vs area area' o limit words words' (Err full) → (b : State) → b ≡ begun_at u o → Ran files area₀ area' nums₀ nums log₁ log s (record { stop = Some stop.PastLimit; state = b }) all_reads
         full_by y b eb' =
             record {
               held = λ z. absurd (omega (arith, z));
               more = λ z. absurd (omega (arith, z));
               lent = lent_two s.fill.end o area₀ area area' nums₀ nums nums g.more g.lent (record { kept = y.lent.kept; back = far y.lent.back; low = refl; high = refl });
               reads = λ log₀ text q.
-                  comes_refused files area' nums log₀ log (record { tag = 10; state = b }) (all_reads text) (λ z. absurd (omega (arith, z)))
+                  comes_refused files area' nums log₀ log (record { stop = Some stop.PastLimit; state = b }) (all_reads text) (λ z. absurd (omega (arith, z)))
                   (past_reads_is (past_left vs o limit (commands (drop at T)) y.is) log₀ text (g.rest log₀ text q) ∙ rw eb');
             }
 
-        pub turn_full : r ≡ Err full → (b : State) → b ≡ begun_at u o → Ran files area₀ area' nums₀ nums log₁ log s (record { tag = 10; state = b }) all_reads
+        pub turn_full : r ≡ Err full → (b : State) → b ≡ begun_at u o → Ran files area₀ area' nums₀ nums log₁ log s (record { stop = Some stop.PastLimit; state = b }) all_reads
         turn_full e b eb' = full_by (rw e at w) b eb'
 
         -- a command is read
@@ -286,7 +288,7 @@ module _ (job files area₀ nums₀ log₁ : List ℕ) (count k left : ℕ) (s :
               comes : (log₀ text : Bytes) (p : Rest area nums log at u log₀ text) → Comes files area'' nums'' log₀ log'' d (command_reads job files area' nums count words' n k left b p.written)
               comes log₀ text p = c.reads log₀ p.written (rw at_log p.logged)
 
-              pub turn_failed : (d.tag ≡ 0 → ⊥) → Ran files area₀ area'' nums₀ nums'' log₁ log'' s d all_reads
+              pub turn_failed : (tag_of d.stop ≡ 0 → ⊥) → Ran files area₀ area'' nums₀ nums'' log₁ log'' s d all_reads
               turn_failed z =
                   record {
                     held = λ q. absurd (z q);
@@ -298,7 +300,7 @@ module _ (job files area₀ nums₀ log₁ : List ℕ) (count k left : ℕ) (s :
                         (sym (goes log₀ text p) ∙ ap (λ (x : Reading). go_on load path x (read_commands load path VS (commands (drop next T)))) (refused_is files area'' nums'' log₀ log'' d (command_reads job files area' nums count words' n k left b p.written) z (comes log₀ text p)));
                   }
 
-              pub turn_again : d.tag ≡ 0 → length words' ≡ length words → length area'' ≡ length area' → length nums'' ≡ length nums → length log'' ≡ length log → Going area'' nums'' log'' words' next d.state
+              pub turn_again : tag_of d.stop ≡ 0 → length words' ≡ length words → length area'' ≡ length area' → length nums'' ≡ length nums → length log'' ≡ length log → Going area'' nums'' log'' words' next d.state
               turn_again z lw la ln ll =
                   record {
                     held = c.held z;

@@ -10,6 +10,7 @@ use Rattle.joined.specs.Joined.{bodies, body_bytes}
 use Rattle.held.specs.Held.{Held, Comes}
 use Rattle.loads.specs.Steps.{files_in}
 use Rattle.scopes.specs.declared.go.Out.{Out}
+use Rattle.scopes.specs.Stops.{tag_of}
 
 -- "The start file has depth 0": the first `count` files of an index, from file `first` on
 abbrev pub reading_at : Bytes → List ℕ → ℕ → ℕ → Reading
@@ -30,7 +31,7 @@ pub record Starts (job files area nums : List ℕ) (count first : ℕ) : Type 0 
 -- the area is written up to 24,576, and of the numbers those from 1,152 up to 14,656
 pub record WasRead (job files₀ files area₀ area nums₀ nums log₀ log : List ℕ) (count first : ℕ) (r : Out) : Type 0 where
   pub comes : Comes files area nums log₀ log r (reading_at job nums₀ count first)
-  pub held : r.tag ≡ 0 → Held files area nums 0 r.state
+  pub held : tag_of r.stop ≡ 0 → Held files area nums 0 r.state
   pub texts : files ≡ bodies job nums₀ count ++ drop (length (bodies job nums₀ count)) files₀
   pub area_back : drop 24576 area ≡ drop 24576 area₀
   pub index : take 1152 nums ≡ take 1152 nums₀

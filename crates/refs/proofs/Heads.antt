@@ -14,8 +14,8 @@ use Rattle.text.specs.Sames.{same_refl, same_eq, differ, both, no_true}
 use Rattle.spans.specs.Span.{bytes}
 use Rattle.out.specs.Emit.{Out, emit}
 use Rattle.out.specs.Bytewise.{flat}
-use Rattle.names.specs.Name.{name_of, is_word, slash}
-use Rattle.names.specs.Laws.{word_is}
+use Rattle.names.specs.Name.{stands, name_of, is_word, slash}
+use Rattle.names.specs.Laws.{stands_word, word_is}
 use Rattle.refs.specs.Text.{text_of, front_of}
 use Rattle.refs.specs.Heads.{head_ref, is_bare, is_name, is_plain, one_slash, Apart}
 use Rattle.refs.specs.Laws.{name_is}
@@ -121,10 +121,10 @@ module _ (job mem : Bytes) where
       let a = both (not r.cut) _ h in
       let b = both (eqb r.last.scope.len 0 && eqb r.last.word.len 0) _ a.1 in
       let c = both (eqb r.last.scope.len 0) _ b.0 in
-      let d = both (not r.last.sep) (eqb r.last.form 0) b.1 in
+      let d = both (not r.last.sep) (stands r.last.form) b.1 in
       let e : r.last.scope.len ≡ 0 = eqb-true _ _ c.0 in
       let f : r.last.word.len ≡ 0 = eqb-true _ _ c.1 in
-      rw (no_is r.cut a.0, e, f, no_is r.last.sep d.0, d.1, append-nil (slash r.sep))
+      rw (no_is r.cut a.0, e, f, no_is r.last.sep d.0, stands_word r.last.form d.1, append-nil (slash r.sep))
 
   plain_is : (r : Ref) → is_plain r ≡ true → text_of job mem r ≡ bytes mem r.name.word
   plain_is r h = let a = both (is_name r) (is_word r.name) h in name_is job mem r a.0 ∙ word_is mem r.name a.1

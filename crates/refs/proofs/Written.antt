@@ -13,6 +13,7 @@ use Rattle.text.specs.Lists.{take_none}
 use Rattle.text.specs.Sames.{no_true}
 use Rattle.out.specs.Emit.{Out, emit, emit_append}
 use Rattle.out.specs.Bytewise.{flat, becomes, dotted, flat_two, flat_same}
+use Rattle.out.specs.declared.bytewise.Mode.{Mode}
 use Rattle.names.specs.Name.{name_of, slash, step_of as name_step}
 use Rattle.names.specs.declared.name.Name.{Name}
 use Rattle.refs.specs.Text.{front_of, text_of, as_dots}
@@ -83,11 +84,11 @@ module _ (d : Bool) (t : Bytes) (o o₂ : Out) where
       go true h e = absurd (no_true h)
       go false h e = e
 
-  pub put_dotted : (m : ℕ) → o₂ ≡ emit o (flat (becomes 2) t) → not d ≡ false → m ≡ 0 → o₂ ≡ emit o (flat (becomes m) (as_dots d t))
+  pub put_dotted : (m : Mode) → o₂ ≡ emit o (flat (becomes Mode.Dotted) t) → not d ≡ false → m ≡ Mode.Same → o₂ ≡ emit o (flat (becomes m) (as_dots d t))
   unfolding becomes
   put_dotted m e h g = rw g (go d h e)
     where
-      go : (d : Bool) → not d ≡ false → o₂ ≡ emit o (flat (becomes 2) t) → o₂ ≡ emit o (flat (becomes 0) (as_dots d t))
+      go : (d : Bool) → not d ≡ false → o₂ ≡ emit o (flat (becomes Mode.Dotted) t) → o₂ ≡ emit o (flat (becomes Mode.Same) (as_dots d t))
       go true h e = rw (flat_same (dotted t)) e
       go false h e = absurd (no_true (sym h))
 

@@ -2,7 +2,7 @@
 use Rattle.std.specs.Prelude.{◌≡◌, Bool, false, true, not, ◌&&◌, ◌||◌, List, [], ◌∷◌, ◌++◌, eqb}
 use Rattle.text.specs.Ascii.{Bytes}
 use Rattle.text.specs.Compare.{same}
-use Rattle.names.specs.Name.{is_word}
+use Rattle.names.specs.Name.{stands, is_word}
 use Rattle.refs.specs.Text.{ref_of}
 use Rattle.refs.specs.declared.Ref.{Ref}
 
@@ -16,7 +16,7 @@ head_ref r = ref_of r.name r.cut r.upto r.sep r.last 0 0
 
 -- the name is whole, and nothing but a slash stands behind it
 abbrev pub is_bare : Ref → Bool
-is_bare r = not r.cut && ((eqb r.last.scope.len 0 && eqb r.last.word.len 0) && (not r.last.sep && eqb r.last.form 0))
+is_bare r = not r.cut && ((eqb r.last.scope.len 0 && eqb r.last.word.len 0) && (not r.last.sep && stands r.last.form))
 
 -- the text is a whole name
 abbrev pub is_name : Ref → Bool

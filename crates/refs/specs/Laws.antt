@@ -6,8 +6,8 @@ use borrow.Author.Tests.{eqb-true, not-true}
 use Rattle.text.specs.Ascii.{Bytes}
 use Rattle.text.specs.Sames.{both}
 use Rattle.spans.specs.Span.{bytes}
-use Rattle.names.specs.Name.{name_of}
-use Rattle.names.specs.Laws.{dotted_step, dotted_none}
+use Rattle.names.specs.Name.{stands, name_of}
+use Rattle.names.specs.Laws.{stands_word, dotted_step, dotted_none}
 use Rattle.names.specs.declared.name.Name.{Name}
 use Rattle.refs.specs.Text.{text_of, no_name, whole_ref, front_ref, job_ref, dot_of, as_dots}
 use Rattle.refs.specs.Heads.{is_bare, is_name}
@@ -38,11 +38,11 @@ module _ (job mem : Bytes) where
       let a = both (not r.cut) _ x.0 in
       let b = both (eqb r.last.scope.len 0 && eqb r.last.word.len 0) _ a.1 in
       let c = both (eqb r.last.scope.len 0) _ b.0 in
-      let d = both (not r.last.sep) (eqb r.last.form 0) b.1 in
+      let d = both (not r.last.sep) (stands r.last.form) b.1 in
       let e : r.last.scope.len ≡ 0 = eqb-true _ _ c.0 in
       let f : r.last.word.len ≡ 0 = eqb-true _ _ c.1 in
       let z : r.len ≡ 0 = eqb-true _ _ y.1 in
-      rw (not-true r.cut a.0, not-true r.sep y.0, e, f, not-true r.last.sep d.0, d.1, z, append-nil)
+      rw (not-true r.cut a.0, not-true r.sep y.0, e, f, not-true r.last.sep d.0, stands_word r.last.form d.1, z, append-nil)
 
 pub dots_step : (dots : Bool) (b : ℕ) (t : Bytes) → as_dots dots (b ∷ t) ≡ dot_of dots b ∷ as_dots dots t
 dots_step true b t = dotted_step b t

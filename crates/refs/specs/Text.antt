@@ -6,6 +6,7 @@ use Rattle.out.specs.Bytewise.{dotted}
 use Rattle.spans.specs.Span.{◌⋯◌}
 use Rattle.names.specs.Name.{named, name_of, slash}
 use Rattle.names.specs.declared.name.Name.{Name}
+use Rattle.names.specs.declared.name.Form.TheVariants.{Word}
 use Rattle.refs.specs.declared.Ref.{Ref}
 
 abbrev pub front_of : Bool → ℕ → Bytes → Bytes
@@ -29,7 +30,7 @@ abbrev pub ref_of : Name → Bool → ℕ → Bool → Name → ℕ → ℕ → 
 ref_of n c k p l at len = record { name = n; cut = c; upto = k; sep = p; last = l; at = at; len = len }
 
 abbrev pub no_name : Name
-no_name = named (0 ⋯ 0) false (0 ⋯ 0) 0
+no_name = named (0 ⋯ 0) false (0 ⋯ 0) Word
 
 abbrev pub whole_ref : Name → Ref
 whole_ref n = ref_of n false 0 false no_name 0 0

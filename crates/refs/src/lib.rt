@@ -8,11 +8,14 @@ ghost use Rattle.out.specs.Bytewise.{flat as Bytewise·flat, becomes as Bytewise
 ghost use Rattle.names.specs.Name.{name_of, slash};
 ghost use Rattle.refs.specs.Text.{front_of, text_of, step_of, Starts, no_name, whole_ref, front_ref, job_ref, dot_of, as_dots};
 ghost use Rattle.refs.specs.Heads.{is_there, head_ref, is_bare, is_name, is_plain, one_slash, Apart};
+ghost use Rattle.spans.specs.Memory.{memory};
 
 use names::compare::same_names;
-use names::name::{Name, is_word};
+use names::name::{Form, Name, is_word, stands};
 use names::put::{put_mapped, put_span};
+use out::bytewise::Mode;
 use out::emit::Text;
+use spans::span::Memory;
 use text::compare::same;
 use text::part::part;
 
@@ -33,7 +36,7 @@ pub struct Ref {
 pub fn no_name() -> Name
     ensures { result ≡ no_name }
 {
-    names::name::alone(spans::span::Span { at: 0, len: 0 }, 0)
+    names::name::alone(spans::span::Span { at: 0, len: 0 }, Form::Word)
 }
 
 // A whole name.
@@ -95,38 +98,38 @@ fn of_part(job: &[u8], at: usize, len: usize) -> Option<(u8, Ref)>
 }
 
 // The first byte of what stands behind the name and the slash.
-fn of_last(job: &[u8], files: &[u8], area: &[u8], r: Ref) -> Option<(u8, Ref)>
-    ensures { name_of (files.now ++ area.now) r.last ++ take r.len (drop r.at job.now) ≡ step_of job.now (files.now ++ area.now) result }
+fn of_last(job: &[u8], mem: &Memory, r: Ref) -> Option<(u8, Ref)>
+    ensures { name_of (memory mem.now) r.last ++ take r.len (drop r.at job.now) ≡ step_of job.now (memory mem.now) result }
 {
     let rest = of_job(r.at, r.len);
-    match names::name::next(files, area, r.last) {
+    match names::name::next(mem, r.last) {
         None => of_part(job, r.at, r.len),
         Some((b, last)) => Some((b, Ref { last, ..rest })),
     }
 }
 
 // The first byte of what stands behind the name.
-fn behind(job: &[u8], files: &[u8], area: &[u8], r: Ref) -> Option<(u8, Ref)>
-    ensures { slash r.sep ++ (name_of (files.now ++ area.now) r.last ++ take r.len (drop r.at job.now)) ≡ step_of job.now (files.now ++ area.now) result }
+fn behind(job: &[u8], mem: &Memory, r: Ref) -> Option<(u8, Ref)>
+    ensures { slash r.sep ++ (name_of (memory mem.now) r.last ++ take r.len (drop r.at job.now)) ≡ step_of job.now (memory mem.now) result }
 {
     if r.sep {
         let rest = of_job(r.at, r.len);
         let last = r.last;
         return Some((b'/', Ref { last, ..rest }));
     }
-    of_last(job, files, area, r)
+    of_last(job, mem, r)
 }
 
 // The first byte of what is left, and what is left then.
-pub fn next(job: &[u8], files: &[u8], area: &[u8], r: Ref) -> Option<(u8, Ref)>
-    ensures { text_of job.now (files.now ++ area.now) r ≡ step_of job.now (files.now ++ area.now) result }
+pub fn next(job: &[u8], mem: &Memory, r: Ref) -> Option<(u8, Ref)>
+    ensures { text_of job.now (memory mem.now) r ≡ step_of job.now (memory mem.now) result }
 {
     if r.cut & (r.upto == 0) {
-        return behind(job, files, area, r);
+        return behind(job, mem, r);
     }
     let upto = r.upto.saturating_sub(1);
-    match names::name::next(files, area, r.name) {
-        None => behind(job, files, area, r),
+    match names::name::next(mem, r.name) {
+        None => behind(job, mem, r),
         Some((b, name)) => Some((b, Ref { name, upto, ..r })),
     }
 }
@@ -135,8 +138,7 @@ pub fn next(job: &[u8], files: &[u8], area: &[u8], r: Ref) -> Option<(u8, Ref)>
 #[derive(Drop)]
 pub struct Stream<'a> {
     pub job: &'a [u8],
-    pub files: &'a [u8],
-    pub area: &'a [u8],
+    pub mem: &'a Memory<'a>,
     pub left: Ref,
 }
 
@@ -151,28 +153,18 @@ impl Iterator for Stream<'_> {
     ghost remaining = { item_count left_of };
 
     fn next(&mut self) -> Option<u8> {
-        let (b, left) = next(self.job, self.files, self.area, self.left)?;
+        let (b, left) = next(self.job, self.mem, self.left)?;
         self.left = left;
         Some(b)
     }
 }
 
 // Whether two texts are the same, byte by byte.
-fn same_streams(job: &[u8], files: &[u8], area: &[u8], a: Ref, b: Ref) -> bool
-    ensures { result ≡ Compare·same (text_of job.now (files.now ++ area.now) a) (text_of job.now (files.now ++ area.now) b) }
+fn same_streams(job: &[u8], mem: &Memory, a: Ref, b: Ref) -> bool
+    ensures { result ≡ Compare·same (text_of job.now (memory mem.now) a) (text_of job.now (memory mem.now) b) }
 {
-    let x = Stream {
-        job,
-        files,
-        area,
-        left: a,
-    };
-    let y = Stream {
-        job,
-        files,
-        area,
-        left: b,
-    };
+    let x = Stream { job, mem, left: a };
+    let y = Stream { job, mem, left: b };
     x.eq(y)
 }
 
@@ -188,7 +180,7 @@ fn is_bare(r: Ref) -> bool
     ensures { result ≡ is_bare r }
 {
     let l = r.last;
-    !r.cut && ((l.scope.len == 0 && l.word.len == 0) && (!l.sep && l.form == 0))
+    !r.cut && ((l.scope.len == 0 && l.word.len == 0) && (!l.sep && stands(l.form)))
 }
 
 // Whether a text is a whole name.
@@ -205,14 +197,14 @@ fn one_slash(a: bool, b: bool) -> bool
     a == b
 }
 
-// Whether two texts are the same but for their parts of the job.
-fn same_heads<'a>(job: &[u8], files: &'a [u8], area: &'a [u8], a: Ref, b: Ref) -> bool
-    ensures { result ≡ Compare·same (text_of job.now (files.now ++ area.now) (head_ref a)) (text_of job.now (files.now ++ area.now) (head_ref b)) }
+// Whether two texts are the same but for their parts of the job. No derive says this: texts at other places can be the same.
+fn same_heads<'a>(job: &[u8], mem: &Memory<'a>, a: Ref, b: Ref) -> bool
+    ensures { result ≡ Compare·same (text_of job.now (memory mem.now) (head_ref a)) (text_of job.now (memory mem.now) (head_ref b)) }
 {
     if is_bare(a) & (is_bare(b) & one_slash(a.sep, b.sep)) {
-        return same_names(files, area, a.name, b.name);
+        return same_names(mem, a.name, b.name);
     }
-    same_streams(job, files, area, head(a), head(b))
+    same_streams(job, mem, head(a), head(b))
 }
 
 // Whether both have a last byte and these differ.
@@ -226,8 +218,8 @@ fn end_apart(u: &[u8], v: &[u8]) -> bool
 }
 
 // Whether two texts are the same. Their parts of the job are looked at first: these tell most ports apart.
-pub fn same_refs<'a>(job: &[u8], files: &'a [u8], area: &'a [u8], a: Ref, b: Ref) -> bool
-    ensures { result ≡ Compare·same (text_of job.now (files.now ++ area.now) a) (text_of job.now (files.now ++ area.now) b) }
+pub fn same_refs<'a>(job: &[u8], mem: &Memory<'a>, a: Ref, b: Ref) -> bool
+    ensures { result ≡ Compare·same (text_of job.now (memory mem.now) a) (text_of job.now (memory mem.now) b) }
 {
     let u = part(job, a.at, a.len);
     let v = part(job, b.at, b.len);
@@ -235,12 +227,12 @@ pub fn same_refs<'a>(job: &[u8], files: &'a [u8], area: &'a [u8], a: Ref, b: Ref
         if end_apart(u, v) {
             return false;
         }
-        return same_streams(job, files, area, a, b);
+        return same_streams(job, mem, a, b);
     }
     if !same(u, v) {
         return false;
     }
-    same_heads(job, files, area, a, b)
+    same_heads(job, mem, a, b)
 }
 
 // A slash as a dot, where dots are wanted.
@@ -254,35 +246,30 @@ pub fn dot(dots: bool, b: u8) -> u8
 }
 
 // Writes a text byte by byte in one of the modes of `becomes`, with `/` as `.` where dots are wanted.
-fn put_stream(to: &mut Text, m: u8, dots: bool, job: &[u8], files: &[u8], area: &[u8], r: Ref)
-    ensures { Writes to.old (Bytewise·flat (Bytewise·becomes m) (as_dots dots (text_of job.now (files.now ++ area.now) r))) to.new }
+fn put_stream(to: &mut Text, m: Mode, dots: bool, job: &[u8], mem: &Memory, r: Ref)
+    ensures { Writes to.old (Bytewise·flat (Bytewise·becomes m) (as_dots dots (text_of job.now (memory mem.now) r))) to.new }
 {
     let left = r;
-    for b in (Stream {
-        job,
-        files,
-        area,
-        left,
-    }) {
+    for b in (Stream { job, mem, left }) {
         to.becomes(m, dot(dots, b));
     }
 }
 
 // Writes what stands behind the name and the slash in one of the modes of `becomes`.
-fn put_last(to: &mut Text, m: u8, job: &[u8], files: &[u8], area: &[u8], r: Ref)
-    ensures { Writes to.old (Bytewise·flat (Bytewise·becomes m) (name_of (files.now ++ area.now) r.last ++ take r.len (drop r.at job.now))) to.new }
+fn put_last(to: &mut Text, m: Mode, job: &[u8], mem: &Memory, r: Ref)
+    ensures { Writes to.old (Bytewise·flat (Bytewise·becomes m) (name_of (memory mem.now) r.last ++ take r.len (drop r.at job.now))) to.new }
 {
-    put_mapped(to, m, files, area, r.last);
+    put_mapped(to, m, mem, r.last);
     to.flat(m, part(job, r.at, r.len))
 }
 
 // Writes the first bytes of a name in one of the modes of `becomes`.
-fn put_front(to: &mut Text, m: u8, files: &[u8], area: &[u8], n: Name, upto: usize)
-    ensures { Writes to.old (Bytewise·flat (Bytewise·becomes m) (take upto (name_of (files.now ++ area.now) n))) to.new }
+fn put_front(to: &mut Text, m: Mode, mem: &Memory, n: Name, upto: usize)
+    ensures { Writes to.old (Bytewise·flat (Bytewise·becomes m) (take upto (name_of (memory mem.now) n))) to.new }
 {
     let mut x = n;
     for _i in 0..upto {
-        let Some((b, u)) = names::name::next(files, area, x) else {
+        let Some((b, u)) = names::name::next(mem, x) else {
             return;
         };
         to.becomes(m, b);
@@ -291,14 +278,14 @@ fn put_front(to: &mut Text, m: u8, files: &[u8], area: &[u8], n: Name, upto: usi
 }
 
 // Writes what stands before the slash.
-fn put_named(to: &mut Text, m: u8, files: &[u8], area: &[u8], r: Ref)
-    ensures { Writes to.old (Bytewise·flat (Bytewise·becomes m) (front_of r.cut r.upto (name_of (files.now ++ area.now) r.name))) to.new }
+fn put_named(to: &mut Text, m: Mode, mem: &Memory, r: Ref)
+    ensures { Writes to.old (Bytewise·flat (Bytewise·becomes m) (front_of r.cut r.upto (name_of (memory mem.now) r.name))) to.new }
 {
     let n = r.name;
     if r.cut {
-        return put_front(to, m, files, area, n, r.upto);
+        return put_front(to, m, mem, n, r.upto);
     }
-    put_mapped(to, m, files, area, n)
+    put_mapped(to, m, mem, n)
 }
 
 // Whether a text is a word as it stands.
@@ -309,53 +296,53 @@ fn is_plain(r: Ref) -> bool
 }
 
 // Writes a text in one of the modes of `becomes`.
-fn put_plain(to: &mut Text, m: u8, job: &[u8], files: &[u8], area: &[u8], r: Ref)
-    ensures { Writes to.old (Bytewise·flat (Bytewise·becomes m) (text_of job.now (files.now ++ area.now) r)) to.new }
+fn put_plain(to: &mut Text, m: Mode, job: &[u8], mem: &Memory, r: Ref)
+    ensures { Writes to.old (Bytewise·flat (Bytewise·becomes m) (text_of job.now (memory mem.now) r)) to.new }
 {
     if is_plain(r) {
-        return put_span(to, m, files, area, r.name.word);
+        return put_span(to, m, mem, r.name.word);
     }
-    put_named(to, m, files, area, r);
+    put_named(to, m, mem, r);
     if r.sep {
         to.becomes(m, b'/');
-        return put_last(to, m, job, files, area, r);
+        return put_last(to, m, job, mem, r);
     }
-    put_last(to, m, job, files, area, r)
+    put_last(to, m, job, mem, r)
 }
 
 // Writes a text in one of the modes of `becomes`, with `/` as `.` where dots are wanted.
-pub fn put(to: &mut Text, m: u8, dots: bool, job: &[u8], files: &[u8], area: &[u8], r: Ref)
-    ensures { Writes to.old (Bytewise·flat (Bytewise·becomes m) (as_dots dots (text_of job.now (files.now ++ area.now) r))) to.new }
+pub fn put(to: &mut Text, m: Mode, dots: bool, job: &[u8], mem: &Memory, r: Ref)
+    ensures { Writes to.old (Bytewise·flat (Bytewise·becomes m) (as_dots dots (text_of job.now (memory mem.now) r))) to.new }
 {
     if !dots {
-        return put_plain(to, m, job, files, area, r);
+        return put_plain(to, m, job, mem, r);
     }
-    if m == 0 {
-        return put_plain(to, 2, job, files, area, r);
+    match m {
+        Mode::Same => put_plain(to, Mode::Dotted, job, mem, r),
+        _ => put_stream(to, m, dots, job, mem, r),
     }
-    put_stream(to, m, dots, job, files, area, r)
 }
 
 // Whether a name is not empty.
-fn has_name(files: &[u8], area: &[u8], n: Name) -> bool
-    ensures { result ≡ is_there (name_of (files.now ++ area.now) n) }
+fn has_name(mem: &Memory, n: Name) -> bool
+    ensures { result ≡ is_there (name_of (memory mem.now) n) }
 {
-    names::name::next(files, area, n).is_some()
+    names::name::next(mem, n).is_some()
 }
 
 // Whether a text is not empty. Its part of the job and its name are looked at first: one of them mostly is there.
-pub fn has_bytes(job: &[u8], files: &[u8], area: &[u8], r: Ref) -> bool
-    ensures { result ≡ is_there (text_of job.now (files.now ++ area.now) r) }
+pub fn has_bytes(job: &[u8], mem: &Memory, r: Ref) -> bool
+    ensures { result ≡ is_there (text_of job.now (memory mem.now) r) }
 {
     let u = part(job, r.at, r.len);
     if u.len() != 0 {
         return true;
     }
-    if r.sep | has_name(files, area, r.last) {
+    if r.sep | has_name(mem, r.last) {
         return true;
     }
     if r.cut & (r.upto == 0) {
         return false;
     }
-    has_name(files, area, r.name)
+    has_name(mem, r.name)
 }

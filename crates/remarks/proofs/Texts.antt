@@ -21,6 +21,8 @@ use Rattle.texts.specs.Texts.{warning_line}
 use Rattle.texts.specs.Laws.{one_warning}
 use Rattle.clamps.specs.Values.{stored_name}
 use Rattle.clamps.specs.Laws.{stored_is}
+use Rattle.format.specs.declared.arg.Wrap.{Wrap}
+use Rattle.texts.specs.declared.Literal.{Literal}
 use Rattle.format.specs.Args.{arg_of, name_arg, fixed_arg}
 use Rattle.format.specs.Laws.{name_arg_lem}
 use Rattle.format.specs.declared.arg.Arg.{Arg}
@@ -32,10 +34,6 @@ use Rattle.remarks.specs.Lines.{no_signal, unknown_domain, not_outputs, clamp_un
 -- ---- warnings
 
 -- ---- a text over a buffer
-
--- what was written into the text stands in the buffer
-pub over_written : (out out' : Bytes) (at o : ℕ) (z₀ z₁ : Out) (t : Bytes) → z₁ ≡ emit z₀ t → z₀ ≡ out ▸ at → out' ▸ o ≡ z₁ → out' ▸ o ≡ emit (out ▸ at) t
-over_written out out' at o z₀ z₁ t e f g = g ∙ rw (← f) e
 
 module _ (warn : Bool) (c : Cover) (out : Bytes) where
   -- a line that was written
@@ -98,21 +96,21 @@ pub ruleset unknowns = (rules, unknown_written)
 
 -- ---- the line
 
-pub or_not : (m : Option Stored) (k : ℕ) (r : Arg) → r ≡ fixed_arg k → m ≡ None → r ≡ or_arg m k
+pub or_not : (m : Option Stored) (k : Literal) (r : Arg) → r ≡ fixed_arg (Wrap.Literal k) → m ≡ None → r ≡ or_arg m k
 or_not m k r e h = rw h e
 
-pub or_given : (m : Option Stored) (k : ℕ) (s : Stored) (n : Name) (r : Arg) → r ≡ name_arg n → n ≡ stored_name s → m ≡ Some s → r ≡ or_arg m k
+pub or_given : (m : Option Stored) (k : Literal) (s : Stored) (n : Name) (r : Arg) → r ≡ name_arg n → n ≡ stored_name s → m ≡ Some s → r ≡ or_arg m k
 or_given m k s n r e f h = rw (h, ← f) e
 
 pub ruleset ors = (rules, or_not, or_given)
 
 module _ (job mem : Bytes) (scope : List Bytes) (top : Bytes) where
-  or_zero : (m : Option Stored) → arg_of job mem scope top (or_arg m 7) ≡ or_else (maybe_of mem m) (ascii "0")
+  or_zero : (m : Option Stored) → arg_of job mem scope top (or_arg m Literal.Zero) ≡ or_else (maybe_of mem m) (ascii "0")
   unfolding arg_of
   or_zero None = refl
   or_zero (Some s) = name_arg_lem job mem scope top (stored_name s) ∙ stored_is mem s
 
-  or_high : (m : Option Stored) → arg_of job mem scope top (or_arg m 10) ≡ or_else (maybe_of mem m) (ascii "high")
+  or_high : (m : Option Stored) → arg_of job mem scope top (or_arg m Literal.High) ≡ or_else (maybe_of mem m) (ascii "high")
   unfolding arg_of
   or_high None = refl
   or_high (Some s) = name_arg_lem job mem scope top (stored_name s) ∙ stored_is mem s
@@ -122,7 +120,7 @@ module _ (job mem : Bytes) (scope : List Bytes) (top : Bytes) where
 
   pub line_written : (x : Isolation) (signal : Name) (o o' : Out) (a b c d e : Arg) (n m : Name)
       → o' ≡ emit o (fill (ascii "isolation {0} on {1}: clamp {2} control {3} sense {4}\n") (arg_of job mem scope top a) (arg_of job mem scope top b) (arg_of job mem scope top c) (arg_of job mem scope top d) (arg_of job mem scope top e))
-      → a ≡ name_arg n → n ≡ stored_name x.name → b ≡ name_arg m → m ≡ stored_name x.domain → c ≡ or_arg x.clamp 7 → d ≡ name_arg signal → e ≡ or_arg x.sense 10
+      → a ≡ name_arg n → n ≡ stored_name x.name → b ≡ name_arg m → m ≡ stored_name x.domain → c ≡ or_arg x.clamp Literal.Zero → d ≡ name_arg signal → e ≡ or_arg x.sense Literal.High
       → o' ≡ emit o (strategy_line (string mem x.name) (string mem x.domain) (or_else (maybe_of mem x.clamp) (ascii "0")) (name_of mem signal) (or_else (maybe_of mem x.sense) (ascii "high")))
   line_written x signal o o' a b c d e n m w ea en eb em ec ed ee =
       let p : arg_of job mem scope top a ≡ string mem x.name = name_of_lem x.name n a ea en in

@@ -1,11 +1,13 @@
 -- The texts of a strategy in the report. Assumes nothing.
 use Rattle.std.specs.Prelude.{Option, Some, None}
 use Rattle.store.specs.declared.stored.Stored.{Stored}
-use Rattle.std.specs.Prelude.{ℕ, ◌≡◌, Bool, []}
+use Rattle.std.specs.Prelude.{◌≡◌, Bool, []}
 use Rattle.text.specs.Ascii.{Bytes}
 use Rattle.out.specs.Emit.{◌▸◌, emit}
 use Rattle.out.specs.Fill.{format1, format2, format5}
 use Rattle.clamps.specs.Values.{stored_name}
+use Rattle.format.specs.declared.arg.Wrap.{Wrap}
+use Rattle.texts.specs.declared.Literal.{Literal}
 use Rattle.format.specs.Args.{name_arg, fixed_arg}
 use Rattle.format.specs.declared.arg.Arg.{Arg}
 use Rattle.keep.specs.Covered.{said_by}
@@ -28,8 +30,8 @@ abbrev pub strategy_line : Bytes → Bytes → Bytes → Bytes → Bytes → Byt
 strategy_line n d clamp signal sense = format5 "isolation {0} on {1}: clamp {2} control {3} sense {4}\n" n d clamp signal sense
 
 -- what is given, or a literal
-abbrev pub or_arg : Option Stored → ℕ → Arg
-or_arg None k = fixed_arg k
+abbrev pub or_arg : Option Stored → Literal → Arg
+or_arg None k = fixed_arg (Wrap.Literal k)
 or_arg (Some s) k = name_arg (stored_name s)
 
 -- a line more

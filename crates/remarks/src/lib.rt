@@ -3,7 +3,7 @@
 
 ghost use Rattle.std.specs.Prelude.{◌≡◌, ◌++◌};
 ghost use Rattle.text.specs.Ascii.{ascii};
-ghost use Rattle.out.specs.Emit.{◌▸◌, emit};
+ghost use Rattle.out.specs.Text.{Writes};
 ghost use Rattle.names.specs.Name.{name_of};
 ghost use Rattle.model.specs.Commands.{or_else};
 ghost use Rattle.store.specs.Strings.{string, maybe_of};
@@ -11,28 +11,33 @@ ghost use Rattle.texts.specs.Isolation.{lowered};
 ghost use Rattle.texts.specs.Texts.{warning_line};
 ghost use Rattle.keep.specs.Covered.{Remarked};
 ghost use Rattle.remarks.specs.Lines.{no_signal, unknown_domain, not_outputs, clamp_unknown, strategy_line, or_arg, Lined};
+ghost use Rattle.spans.specs.Memory.{memory};
 
 use clamps::{put_lowered, stored};
-use format::arg::{Arg, fixed, name as name_arg};
+use format::arg::{Arg, Wrap, fixed, name as name_arg};
 use format::fill::{fill, fill1, fill2};
+use format::source::Source;
+use jobindex::{Design, Index};
 use keep::{Cover, warned};
 use names::name::Name;
 use out::emit::Text;
+use scope::ScopePath;
+use spans::span::Memory;
 use store::state::Isolation;
 use store::stored::Stored;
+use texts::Literal;
 
 // It has no signal.
 #[tactic(auto, using(crate::proofs::Texts::warns))]
-pub fn no_signal(
+pub fn no_signal<'a>(
     out: &mut [u8],
     warn: bool,
-    job: &[u8],
-    files: &[u8],
-    area: &[u8],
+    job: &'a [u8],
+    mem: &Memory<'a>,
     c: Cover,
     n: Name,
 ) -> Cover
-    ensures { Remarked warn (no_signal (name_of (files.now ++ area.now) n)) c out.old result out.new }
+    ensures { Remarked warn (no_signal (name_of (memory mem.now) n)) c out.old result out.new }
 {
     if !warn {
         return warned(c, c.at);
@@ -41,12 +46,15 @@ pub fn no_signal(
     fill1(
         &mut text,
         b"warning: isolation strategy '{0}' has no -isolation_signal; not simulated\n",
-        job,
-        files,
-        area,
-        b"",
-        0,
-        b"",
+        &Source {
+            design: Design {
+                index: Index { job, rows: &[] },
+                count: 0,
+            },
+            mem: *mem,
+            scope: ScopePath { over: b"", from: 0 },
+            top: b"",
+        },
         name_arg(n),
     );
     let o = text.end();
@@ -54,18 +62,18 @@ pub fn no_signal(
 }
 
 // Its domain d is not known.
+// As `not_outputs` with another template: one function for both takes the template and the definition that it writes, which is no plainer.
 #[tactic(auto, using(crate::proofs::Texts::warns))]
-pub fn unknown_domain(
+pub fn unknown_domain<'a>(
     out: &mut [u8],
     warn: bool,
-    job: &[u8],
-    files: &[u8],
-    area: &[u8],
+    job: &'a [u8],
+    mem: &Memory<'a>,
     c: Cover,
     n: Name,
     d: Name,
 ) -> Cover
-    ensures { Remarked warn (unknown_domain (name_of (files.now ++ area.now) n) (name_of (files.now ++ area.now) d)) c out.old result out.new }
+    ensures { Remarked warn (unknown_domain (name_of (memory mem.now) n) (name_of (memory mem.now) d)) c out.old result out.new }
 {
     if !warn {
         return warned(c, c.at);
@@ -74,12 +82,15 @@ pub fn unknown_domain(
     fill2(
         &mut text,
         b"warning: isolation strategy '{0}': unknown domain '{1}'\n",
-        job,
-        files,
-        area,
-        b"",
-        0,
-        b"",
+        &Source {
+            design: Design {
+                index: Index { job, rows: &[] },
+                count: 0,
+            },
+            mem: *mem,
+            scope: ScopePath { over: b"", from: 0 },
+            top: b"",
+        },
         name_arg(n),
         name_arg(d),
     );
@@ -89,17 +100,16 @@ pub fn unknown_domain(
 
 // It applies to a, which is not the outputs.
 #[tactic(auto, using(crate::proofs::Texts::warns))]
-pub fn not_outputs(
+pub fn not_outputs<'a>(
     out: &mut [u8],
     warn: bool,
-    job: &[u8],
-    files: &[u8],
-    area: &[u8],
+    job: &'a [u8],
+    mem: &Memory<'a>,
     c: Cover,
     n: Name,
     a: Name,
 ) -> Cover
-    ensures { Remarked warn (not_outputs (name_of (files.now ++ area.now) n) (name_of (files.now ++ area.now) a)) c out.old result out.new }
+    ensures { Remarked warn (not_outputs (name_of (memory mem.now) n) (name_of (memory mem.now) a)) c out.old result out.new }
 {
     if !warn {
         return warned(c, c.at);
@@ -108,12 +118,15 @@ pub fn not_outputs(
     fill2(
         &mut text,
         b"warning: isolation strategy '{0}': -applies_to {1} not simulated (outputs only)\n",
-        job,
-        files,
-        area,
-        b"",
-        0,
-        b"",
+        &Source {
+            design: Design {
+                index: Index { job, rows: &[] },
+                count: 0,
+            },
+            mem: *mem,
+            scope: ScopePath { over: b"", from: 0 },
+            top: b"",
+        },
         name_arg(n),
         name_arg(a),
     );
@@ -122,77 +135,63 @@ pub fn not_outputs(
 }
 
 // Writes the warning about the clamp value v.
-fn put_unknown(
-    out: &mut [u8],
-    at: usize,
-    job: &[u8],
-    files: &[u8],
-    area: &[u8],
-    n: Name,
-    v: Name,
-) -> usize
-    ensures { out.new ▸ result ≡ emit (out.old ▸ at) (warning_line (clamp_unknown (name_of (files.now ++ area.now) n) (lowered (name_of (files.now ++ area.now) v)))) }
+fn put_unknown<'a>(to: &mut Text, job: &'a [u8], mem: &Memory<'a>, n: Name, v: Name)
+    ensures { Writes to.old (warning_line (clamp_unknown (name_of (memory mem.now) n) (lowered (name_of (memory mem.now) v)))) to.new }
 {
-    let mut text = Text::over(out, at);
     fill1(
-        &mut text,
+        to,
         b"warning: isolation strategy '{0}': clamp value '",
-        job,
-        files,
-        area,
-        b"",
-        0,
-        b"",
+        &Source {
+            design: Design {
+                index: Index { job, rows: &[] },
+                count: 0,
+            },
+            mem: *mem,
+            scope: ScopePath { over: b"", from: 0 },
+            top: b"",
+        },
         name_arg(n),
     );
-    put_lowered(&mut text, files, area, v);
-    text.put(b"' not simulated\n");
-    text.end()
+    put_lowered(to, mem, v);
+    to.put(b"' not simulated\n")
 }
 
 // Its clamp value v is none that is simulated.
 #[tactic(auto, using(crate::proofs::Texts::warns))]
-pub fn clamp_unknown(
+pub fn clamp_unknown<'a>(
     out: &mut [u8],
     warn: bool,
-    job: &[u8],
-    files: &[u8],
-    area: &[u8],
+    job: &'a [u8],
+    mem: &Memory<'a>,
     c: Cover,
     n: Name,
     v: Name,
 ) -> Cover
-    ensures { Remarked warn (clamp_unknown (name_of (files.now ++ area.now) n) (lowered (name_of (files.now ++ area.now) v))) c out.old result out.new }
+    ensures { Remarked warn (clamp_unknown (name_of (memory mem.now) n) (lowered (name_of (memory mem.now) v))) c out.old result out.new }
 {
     if !warn {
         return warned(c, c.at);
     }
-    let o = put_unknown(out, c.at, job, files, area, n, v);
+    let mut text = Text::over(out, c.at);
+    put_unknown(&mut text, job, mem, n, v);
+    let o = text.end();
     warned(c, o)
 }
 
 // What is given, or a literal.
 #[tactic(auto, using(crate::proofs::Texts::ors))]
-fn or_literal(m: Option<Stored>, k: u8) -> Arg
+fn or_literal(m: Option<Stored>, k: Literal) -> Arg
     ensures { result ≡ or_arg m k }
 {
     match m {
-        None => fixed(k),
+        None => fixed(Wrap::Literal(k)),
         Some(s) => name_arg(stored(s)),
     }
 }
 
 // Writes the line of a strategy with this signal.
-fn put_line(
-    out: &mut [u8],
-    at: usize,
-    job: &[u8],
-    files: &[u8],
-    area: &[u8],
-    x: Isolation,
-    signal: Name,
-) -> usize
-    ensures { out.new ▸ result ≡ emit (out.old ▸ at) (strategy_line (string (files.now ++ area.now) x.name) (string (files.now ++ area.now) x.domain) (or_else (maybe_of (files.now ++ area.now) x.clamp) (ascii "0")) (name_of (files.now ++ area.now) signal) (or_else (maybe_of (files.now ++ area.now) x.sense) (ascii "high"))) }
+fn put_line<'a>(to: &mut Text, job: &'a [u8], mem: &Memory<'a>, x: Isolation, signal: Name)
+    ensures { Writes to.old (strategy_line (string (memory mem.now) x.name) (string (memory mem.now) x.domain) (or_else (maybe_of (memory mem.now) x.clamp) (ascii "0")) (name_of (memory mem.now) signal) (or_else (maybe_of (memory mem.now) x.sense) (ascii "high"))) to.new }
 {
     let own = x.name;
     let domain = x.domain;
@@ -200,45 +199,47 @@ fn put_line(
     let written = x.sense;
     let n = stored(own);
     let d = stored(domain);
-    let clamp = or_literal(given, 7);
-    let sense = or_literal(written, 10);
-    let mut text = Text::over(out, at);
+    let clamp = or_literal(given, Literal::Zero);
+    let sense = or_literal(written, Literal::High);
     fill(
-        &mut text,
+        to,
         b"isolation {0} on {1}: clamp {2} control {3} sense {4}\n",
-        job,
-        files,
-        area,
-        b"",
-        0,
-        b"",
+        &Source {
+            design: Design {
+                index: Index { job, rows: &[] },
+                count: 0,
+            },
+            mem: *mem,
+            scope: ScopePath { over: b"", from: 0 },
+            top: b"",
+        },
         name_arg(n),
         name_arg(d),
         clamp,
         name_arg(signal),
         sense,
-    );
-    text.end()
+    )
 }
 
 // The line of a strategy with this signal.
 #[tactic(auto, using(crate::proofs::Texts::lineds))]
-pub fn line(
+pub fn line<'a>(
     out: &mut [u8],
     warn: bool,
-    job: &[u8],
-    files: &[u8],
-    area: &[u8],
+    job: &'a [u8],
+    mem: &Memory<'a>,
     c: Cover,
     x: Isolation,
     signal: Name,
 ) -> Cover
-    ensures { Lined warn (strategy_line (string (files.now ++ area.now) x.name) (string (files.now ++ area.now) x.domain) (or_else (maybe_of (files.now ++ area.now) x.clamp) (ascii "0")) (name_of (files.now ++ area.now) signal) (or_else (maybe_of (files.now ++ area.now) x.sense) (ascii "high"))) c out.old result out.new }
+    ensures { Lined warn (strategy_line (string (memory mem.now) x.name) (string (memory mem.now) x.domain) (or_else (maybe_of (memory mem.now) x.clamp) (ascii "0")) (name_of (memory mem.now) signal) (or_else (maybe_of (memory mem.now) x.sense) (ascii "high"))) c out.old result out.new }
 {
     if warn {
         return c;
     }
-    let o = put_line(out, c.at, job, files, area, x, signal);
+    let mut text = Text::over(out, c.at);
+    put_line(&mut text, job, mem, x, signal);
+    let o = text.end();
     Cover {
         over: c.over,
         ports: c.ports,

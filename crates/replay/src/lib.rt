@@ -159,6 +159,7 @@ pub fn replay(rt: &(impl Files + Print), path: &str) -> io::Result<()> {
     let mut file = fs::open(rt, path)?;
     let mut jobs: u64 = 0;
     let mut differences: u64 = 0;
+    // Counted by hand: the cases end where a read finds none, and their number is written, so an iterator is no plainer.
     while jobs < 100000 {
         let case = next(rt, &mut file, jobs)?;
         if case == 2 {

@@ -21,11 +21,12 @@ use Rattle.text.specs.Compare.{same}
 use Rattle.text.specs.Scan.{before, Ends}
 use Rattle.jobindex.specs.Index.{module_row}
 use Rattle.jobindex.specs.declared.Span.{Span}
+use Rattle.design.specs.Lists.{on_some}
 use Rattle.design.specs.Lookup.{module_at}
 use Rattle.texts.specs.Scope.{override_parts, without_top}
 use Rattle.lines.specs.Cursors.{spanned}
-use Rattle.lookup.specs.Rows.{modules, row_is, ModuleSeen, below, at_none, at_more, row_none, row_some}
-use Rattle.search.specs.declared.Found.{Found}
+use Rattle.lookup.specs.Rows.{modules, row_is, ModuleSeen, below, at_none, at_more}
+use Rattle.search.specs.declared.Way.{Way as Names}
 use Rattle.search.specs.Found.{way_from}
 use Rattle.scope.specs.declared.PartAt.{PartAt}
 use Rattle.scope.specs.Parts.{separates, parts, PartSeen, no_parts, parts_skip, parts_word}
@@ -121,16 +122,9 @@ module _ (over top : Bytes) where
 pub ruleset tops = (rules, top_none, top_first, top_other)
 
 -- ---- down a path: `names` are still to go
-row_one : (job : Bytes) (index : List ℕ) (row : ℕ) → row_is job index (row + 1) ≡ Some (module_row job index row)
-unfolding row_is
-row_one job index row = rw add-one
-
-module _ (job : Bytes) (index : List ℕ) (count row : ℕ) (n : Bytes) (ns : List Bytes) (q : ℕ) (seen : ModuleSeen job index count (below (modules job index count) (module_row job index row) n) q) where
-  down_none : q ≡ 0 → module_at (modules job index count) (module_row job index row) (n ∷ ns) ≡ None
-  down_none h = at_more (modules job index count) (module_row job index row) n ns ∙ rw (← seen.says, h, row_none job index)
-
-  down_some : (q ≡ 0 → ⊥) → module_at (modules job index count) (module_row job index row) (n ∷ ns) ≡ module_at (modules job index count) (module_row job index (q - 1)) ns
-  down_some h = at_more (modules job index count) (module_row job index row) n ns ∙ rw (← seen.says, row_some job index q h)
+module _ (job : Bytes) (index : List ℕ) (count row : ℕ) (n : Bytes) (ns : List Bytes) (q : Option ℕ) (seen : ModuleSeen job index count (below (modules job index count) (module_row job index row) n) q) where
+  down : module_at (modules job index count) (module_row job index row) (n ∷ ns) ≡ on_some (row_is job index q) None λ m. module_at (modules job index count) m ns
+  down = at_more (modules job index count) (module_row job index row) n ns ∙ rw (← seen.says)
 
 pub record Along (job : Bytes) (index : List ℕ) (count k : ℕ) (over : Bytes) (at row i : ℕ) : Type 0 where
   pub left : module_at (modules job index count) (module_row job index k) (parts over at) ≡ module_at (modules job index count) (module_row job index row) (parts over i)
@@ -142,27 +136,30 @@ module _ (job : Bytes) (index : List ℕ) (count k : ℕ) (over : Bytes) (at : �
   along_start f h = record { left = refl; there = h; few = f }
 
   module _ (row i : ℕ) (inv : Along job index count k over at row i) where
-    pub along_end : PartSeen over i None → ModuleSeen job index count (module_at (modules job index count) (module_row job index k) (parts over at)) (row + 1)
+    pub along_end : PartSeen over i None → ModuleSeen job index count (module_at (modules job index count) (module_row job index k) (parts over at)) (Some row)
     along_end seen =
         let e : parts over i ≡ [] = rw (← seen.says) in
-        record { says = row_one job index row ∙ sym (inv.left ∙ rw e (at_none (modules job index count) (module_row job index row))); within = omega (arith, inv.there) }
+        record { says = sym (inv.left ∙ rw e (at_none (modules job index count) (module_row job index row))); within = inv.there }
 
     module _ (r : PartAt) (seen : PartSeen over i (Some r)) where
       pub along_less : length over - r.next < length over - i
       along_less = omega (arith, seen.goes.0, seen.goes.1)
 
-      module _ (w : Bytes) (ew : w ≡ take r.len (drop r.at over)) (q : ℕ) (found : ModuleSeen job index count (below (modules job index count) (module_row job index row) w) q) where
+      module _ (w : Bytes) (ew : w ≡ take r.len (drop r.at over)) where
         names_are : parts over i ≡ w ∷ parts over r.next
         names_are = rw (ew, ← seen.says)
 
-        pub along_none : q ≡ 0 → ModuleSeen job index count (module_at (modules job index count) (module_row job index k) (parts over at)) 0
-        along_none h = record { says = row_none job index ∙ sym (inv.left ∙ rw names_are (down_none job index count row w (parts over r.next) q found h)); within = omega arith }
+        abbrev BelowIs : Option ℕ → Type 0
+        BelowIs = ModuleSeen job index count (below (modules job index count) (module_row job index row) w)
 
-        pub along_on : (q ≡ 0 → ⊥) → Along job index count k over at (q - 1) r.next
-        along_on h =
+        pub along_none : BelowIs None → ModuleSeen job index count (module_at (modules job index count) (module_row job index k) (parts over at)) None
+        along_none found = record { says = sym (inv.left ∙ rw names_are (down job index count row w (parts over r.next) None found)); within = tt }
+
+        pub along_on : (q : ℕ) → BelowIs (Some q) → Along job index count k over at q r.next
+        along_on q found =
             record {
-              left = inv.left ∙ rw names_are (down_some job index count row w (parts over r.next) q found h);
-              there = omega (arith, found.within);
+              left = inv.left ∙ rw names_are (down job index count row w (parts over r.next) (Some q) found);
+              there = found.within;
               few = inv.few;
             }
 
@@ -179,23 +176,26 @@ module _ (job : Bytes) (index : List ℕ) (count k : ℕ) (names : List Span) wh
   way_start c h = record { left = refl; there = h; few = c }
 
   module _ (row i : ℕ) (inv : Way job index count k names row i) where
-    pub way_end : length names ≤ i → (f : Found) → names ≡ take f.count f.names → ModuleSeen job index count (module_at (modules job index count) (module_row job index k) (way_from job 0 f)) (row + 1)
+    pub way_end : length names ≤ i → (f : Names) → names ≡ take f.count f.names → ModuleSeen job index count (module_at (modules job index count) (module_row job index k) (way_from job 0 f)) (Some row)
     way_end h f e =
         let d : drop i names ≡ [] = drop_of_length-le names {i = i} h in
-        record { says = row_one job index row ∙ sym (rw (sub-zero, ← e) (inv.left ∙ rw d (at_none (modules job index count) (module_row job index row)))); within = omega (arith, inv.there) }
+        record { says = sym (rw (sub-zero, ← e) (inv.left ∙ rw d (at_none (modules job index count) (module_row job index row)))); within = inv.there }
 
-    module _ (h : i < length names) (d : Span) (w : Bytes) (ew : w ≡ spanned job (get_or names i d)) (q : ℕ) (found : ModuleSeen job index count (below (modules job index count) (module_row job index row) w) q) where
+    module _ (h : i < length names) (d : Span) (w : Bytes) (ew : w ≡ spanned job (get_or names i d)) where
       way_names : map (spanned job) (drop i names) ≡ w ∷ map (spanned job) (drop (i + 1) names)
       way_names = ap (λ (l : List Span). map (spanned job) l) (drop-cons names i d h) ∙ rw (ew, add-one i)
 
-      pub way_none : q ≡ 0 → (f : Found) → names ≡ take f.count f.names → ModuleSeen job index count (module_at (modules job index count) (module_row job index k) (way_from job 0 f)) 0
-      way_none y f e = record { says = row_none job index ∙ sym (rw (sub-zero, ← e) (inv.left ∙ rw way_names (down_none job index count row w (map (spanned job) (drop (i + 1) names)) q found y))); within = omega arith }
+      abbrev WayBelow : Option ℕ → Type 0
+      WayBelow = ModuleSeen job index count (below (modules job index count) (module_row job index row) w)
 
-      pub way_on : (q ≡ 0 → ⊥) → Way job index count k names (q - 1) (i + 1)
-      way_on y =
+      pub way_none : WayBelow None → (f : Names) → names ≡ take f.count f.names → ModuleSeen job index count (module_at (modules job index count) (module_row job index k) (way_from job 0 f)) None
+      way_none found f e = record { says = sym (rw (sub-zero, ← e) (inv.left ∙ rw way_names (down job index count row w (map (spanned job) (drop (i + 1) names)) None found))); within = tt }
+
+      pub way_on : (q : ℕ) → WayBelow (Some q) → Way job index count k names q (i + 1)
+      way_on q found =
           record {
-            left = inv.left ∙ rw way_names (down_some job index count row w (map (spanned job) (drop (i + 1) names)) q found y);
-            there = omega (arith, found.within);
+            left = inv.left ∙ rw way_names (down job index count row w (map (spanned job) (drop (i + 1) names)) (Some q) found);
+            there = found.within;
             few = inv.few;
           }
 

@@ -9,9 +9,18 @@ ghost use Rattle.texts.specs.Scope.{override_parts, without_top};
 ghost use Rattle.lookup.specs.Rows.{ModuleSeen, modules};
 ghost use Rattle.search.specs.Found.{way_from};
 ghost use Rattle.scope.specs.Parts.{parts as Parts·parts, separates, PartSeen};
+ghost use Rattle.lookup.specs.Design.{modules_in};
+ghost use Rattle.jobindex.specs.Modules.{module_in};
 
-use jobindex::Span;
-use search::Found;
+use jobindex::{Design, Span};
+use search::Way;
+
+// The scope's path: the parts of a text from a place on.
+#[derive(Clone, Copy)]
+pub struct ScopePath<'a> {
+    pub over: &'a [u8],
+    pub from: usize,
+}
 
 // A part of an override: where it begins, its length, and where the next one is looked for.
 #[derive(Clone, Copy)]
@@ -71,53 +80,38 @@ pub fn behind_top(over: &[u8], top: &[u8]) -> usize
 
 // The module below module k that the parts of an override from `at` on lead to.
 #[tactic(auto, using(crate::proofs::Turns::alongs))]
-pub fn module_along(
-    job: &[u8],
-    index: &[u32],
-    count: usize,
-    k: usize,
-    over: &[u8],
-    at: usize,
-) -> usize
-    requires { (count ≤ 128) × (k < count) }
-    ensures { ModuleSeen job.now index.now count (module_at (modules job.now index.now count) (module_row job.now index.now k) (Parts·parts over.now at)) result }
+pub fn module_along(design: &Design, k: usize, over: &[u8], at: usize) -> Option<usize>
+    requires { (design.now.count ≤ 128) × (k < design.now.count) }
+    ensures { ModuleSeen design.now.index.job.now design.now.index.rows.now design.now.count (module_at (modules_in design.now) (module_in design.now.index k) (Parts·parts over.now at)) result }
 {
     let mut i = at;
     let mut row = k;
     while let Some(part) = next_part(over, i) {
         let name = text::part::part(over, part.at, part.len);
-        let below = lookup::module_below(job, index, count, row, name);
-        if below == 0 {
-            return 0;
-        }
-        row = below - 1;
+        row = lookup::module_below(design, row, name)?;
         i = part.next;
     }
-    row + 1
+    Some(row)
 }
 
 // The names of a way.
-fn names_of(f: &Found) -> &[Span]
-    ensures { result.now ≡ take f.now.count f.now.names }
+fn names_of(w: &Way) -> &[Span]
+    ensures { result.now ≡ take w.now.count w.now.names }
 {
-    let names: &[Span] = &f.names;
-    &names[..f.count.min(names.len())]
+    let names: &[Span] = &w.names;
+    &names[..w.count.min(names.len())]
 }
 
 // The module below module k that the way of a type search leads to.
 #[tactic(auto, using(crate::proofs::Turns::way_turns))]
-pub fn module_found(job: &[u8], index: &[u32], count: usize, k: usize, f: Found) -> usize
-    requires { (count ≤ 128) × ((k < count) × (length f.names ≡ 33)) }
-    ensures { ModuleSeen job.now index.now count (module_at (modules job.now index.now count) (module_row job.now index.now k) (way_from job.now 0 f)) result }
+pub fn module_found(design: &Design, k: usize, w: Way) -> Option<usize>
+    requires { (design.now.count ≤ 128) × ((k < design.now.count) × (length w.names ≡ 33)) }
+    ensures { ModuleSeen design.now.index.job.now design.now.index.rows.now design.now.count (module_at (modules_in design.now) (module_in design.now.index k) (way_from design.now.index.job.now 0 w)) result }
 {
-    let names = names_of(&f);
+    let names = names_of(&w);
     let mut row = k;
     for name in names {
-        let below = lookup::module_below(job, index, count, row, lines::part_of(job, *name));
-        if below == 0 {
-            return 0;
-        }
-        row = below - 1;
+        row = lookup::module_below(design, row, lines::part_of(design.index.job, *name))?;
     }
-    row + 1
+    Some(row)
 }

@@ -1,5 +1,5 @@
 -- Laws: the scope moved. Assumes nothing.
-use Rattle.std.specs.Prelude.{Option, Some, None}
+use Rattle.std.specs.Prelude.{Option, Some, None, Result, Ok, Err}
 use Prim.Native.Nat.{ℕ, ◌+◌, ◌-◌, ◌≤◌, ◌<◌, ◌^◌}
 use native.Mathlib.Omega.{arith}
 use mathlib.Core.Path.{◌≡◌, refl, sym, ap, ◌∙◌}
@@ -24,7 +24,8 @@ use Rattle.store.specs.Strings.{string, span_of, stored_of}
 use Rattle.store.specs.declared.stored.Stored.{Stored}
 use Rattle.store.specs.declared.state.State.{State}
 use Rattle.scopes.specs.declared.go.Place.{Place}
-use Rattle.scopes.specs.declared.go.Went.{Went}
+use Rattle.scopes.specs.declared.go.Stop.{Stop}
+use Rattle.scopes.specs.declared.go.Stop.TheVariants as stop
 use Rattle.scopes.specs.Target.{target_of, Targets}
 use Rattle.scopes.specs.Moves.{scope_fits, place_of, out_of, Reaches, Space, Aims, Line, Moves, Goes, Shifts, Leads}
 use Rattle.scopes.specs.States.{moves_at}
@@ -71,8 +72,8 @@ module _ (files area : Bytes) (s : Place) (t : Span) (v : Reaches files area s t
   to_fits = omega (arith, reach_end (length files) t, v.string, v.small)
 
   module _ (n : ℕ) (e : n ≡ length (bytes (files ++ area) t)) where
-    pub to_over : (ltb 512 n || ltb (8192 - s.scopes) n) ≡ true → Goes (files ++ area) s t (record { tag = 10; place = s }) (scope_fits s.scopes (bytes (files ++ area) t))
-    to_over g = rw (over s.scopes (bytes (files ++ area) t) n e v.counted g) (record { tag = refl; place = refl })
+    pub to_over : (ltb 512 n || ltb (8192 - s.scopes) n) ≡ true → Goes (files ++ area) s t (Err stop.PastLimit) (scope_fits s.scopes (bytes (files ++ area) t))
+    to_over g = rw (over s.scopes (bytes (files ++ area) t) n e v.counted g) refl
 
     module _ (g : (ltb 512 n || ltb (8192 - s.scopes) n) ≡ false) where
       pub to_few : s.scopes + n ≤ 8192
@@ -81,33 +82,31 @@ module _ (files area : Bytes) (s : Place) (t : Span) (v : Reaches files area s t
       pub to_add : s.scopes + n < 2 ^ 64
       to_add = omega (arith, to_few)
 
-      pub to_under : (y : Stored) (r : Went) → y ≡ stored_of t → r.tag ≡ 0 → r.place ≡ record { scope = y; scopes = s.scopes + n; end = s.end } → Goes (files ++ area) s t r (scope_fits s.scopes (bytes (files ++ area) t))
-      to_under y r ey et er =
+      pub to_under : (y : Stored) → y ≡ stored_of t → Goes (files ++ area) s t (Ok (record { scope = y; scopes = s.scopes + n; end = s.end })) (scope_fits s.scopes (bytes (files ++ area) t))
+      to_under y ey =
           rw (under s.scopes (bytes (files ++ area) t) n e v.counted g)
           (record {
-            tag = et;
-            place = er ∙ rw (ey, e);
+            is = rw (ey, e);
             long = omega (arith, short s.scopes (bytes (files ++ area) t) n e v.counted g, e, bytes_long (files ++ area) t whole);
           })
 
 -- seen from the whole area, of which nothing is changed
-module _ (files area : Bytes) (s : Place) (x : Span) (t : Bytes) (r : Went) (v : Reaches files (take s.end area) s x) (e : bytes (files ++ take s.end area) x ≡ t) where
+module _ (files area : Bytes) (s : Place) (x : Span) (t : Bytes) (r : Result Place Stop) (v : Reaches files (take s.end area) s x) (e : bytes (files ++ take s.end area) x ≡ t) where
   seen : (b : Bool) → Goes (files ++ take s.end area) s x r b → Shifts files area area s t r b
   seen true g =
-      let q : r.place.end ≡ s.end = ap (λ (u : Place). u.end) g.place in
-      let p : r.place.scope ≡ stored_of x = ap (λ (u : Place). u.scope) g.place in
       record {
-        tag = g.tag;
-        scope = rw (q, p) e;
-        scopes = ap (λ (u : Place). u.scopes) g.place ∙ rw e;
-        more = omega (arith, q);
-        few = omega (arith, q);
+        place = record { scope = stored_of x; scopes = s.scopes + length (bytes (files ++ take s.end area) x); end = s.end };
+        is = g.is;
+        scope = e;
+        scopes = rw e;
+        more = omega arith;
+        few = omega arith;
         kept = refl;
         back = refl;
-        reaches = rw (q, p) v.string;
-        long = rw p g.long;
+        reaches = v.string;
+        long = g.long;
       }
-  seen false g = record { tag = g.tag; place = g.place; same = refl }
+  seen false g = record { is = g; same = refl }
 
   pub goes_moves : Goes (files ++ take s.end area) s x r (scope_fits s.scopes (bytes (files ++ take s.end area) x)) → Shifts files area area s t r (scope_fits s.scopes t)
   goes_moves g = seen (scope_fits s.scopes t) (rw e at g)
@@ -185,7 +184,7 @@ module _ (files area : Bytes) (s : Place) (name : Span) (v : Aims files area s n
 
   module _ (x : Span) (ex : x ≡ span_of s.scope) (a : ℕ) (ea : a ≡ length (bytes mem x)) where
     -- the scope is the root
-    pub below_root : a ≡ 0 → (r : Went) → Goes mem s name r (scope_fits s.scopes (bytes mem name)) → Shifts files area area s told r (scope_fits s.scopes told)
+    pub below_root : a ≡ 0 → (r : Result Place Stop) → Goes mem s name r (scope_fits s.scopes (bytes mem name)) → Shifts files area area s told r (scope_fits s.scopes told)
     below_root z r g =
         goes_moves files area s name told r (up_to_lem files area s v.space name v.named) (below_none (string mem s.scope) (bytes mem name) a (ea ∙ rw ex) z) g
 
@@ -210,8 +209,8 @@ module _ (files area : Bytes) (s : Place) (name : Span) (v : Aims files area s n
       told_long : a + 1 + b ≡ length told
       told_long = rw (told_is, length-append) (omega (arith, ea, eb))
 
-      pub below_over : (ltb 512 (a + 1 + b) || ltb (8192 - s.scopes) (a + 1 + b)) ≡ true → Shifts files area area s told (record { tag = 10; place = s }) (scope_fits s.scopes told)
-      below_over g = rw (over s.scopes told (a + 1 + b) told_long v.space.counted g) (record { tag = refl; place = refl; same = refl })
+      pub below_over : (ltb 512 (a + 1 + b) || ltb (8192 - s.scopes) (a + 1 + b)) ≡ true → Shifts files area area s told (Err stop.PastLimit) (scope_fits s.scopes told)
+      below_over g = rw (over s.scopes told (a + 1 + b) told_long v.space.counted g) (record { is = refl; same = refl })
 
       module _ (g : (ltb 512 (a + 1 + b) || ltb (8192 - s.scopes) (a + 1 + b)) ≡ false) where
         pub below_few : s.scopes + (a + 1 + b) ≤ 8192
@@ -247,21 +246,20 @@ module _ (files area : Bytes) (s : Place) (name : Span) (v : Aims files area s n
           new : Wrote area area3 s.end told e
           new = rw told_is (below_wrote files area s.end x name below_room area1 p w area3 e w3)
 
-          pub below_in : (y : Stored) (r : Went) → y ≡ stored_of ((length files + s.end) ⋯ (a + 1 + b)) → r.tag ≡ 0 → r.place ≡ record { scope = y; scopes = s.scopes + (a + 1 + b); end = e } → Shifts files area area3 s told r (scope_fits s.scopes told)
-          below_in y r ey et er =
-              let q : r.place.end ≡ e = ap (λ (k : Place). k.end) er in
-              let k : r.place.scope ≡ stored_of ((length files + s.end) ⋯ (a + 1 + b)) = ap (λ (k : Place). k.scope) er ∙ ey in
+          pub below_in : (y : Stored) → y ≡ stored_of ((length files + s.end) ⋯ (a + 1 + b)) → Shifts files area area3 s told (Ok (record { scope = y; scopes = s.scopes + (a + 1 + b); end = e })) (scope_fits s.scopes told)
+          below_in y k =
               let m : e ≤ length area = omega (arith, end_is, below_few, v.space.room) in
               rw (under s.scopes told (a + 1 + b) told_long v.space.counted g)
               (record {
-                tag = et;
-                scope = rw (q, k, told_long) (wrote_is files area area3 told s.end e new m);
-                scopes = ap (λ (k : Place). k.scopes) er ∙ rw told_long;
-                more = omega (arith, q, end_is);
-                few = omega (arith, q, end_is, told_long);
+                place = record { scope = y; scopes = s.scopes + (a + 1 + b); end = e };
+                is = refl;
+                scope = rw (k, told_long) (wrote_is files area area3 told s.end e new m);
+                scopes = rw told_long;
+                more = omega (arith, end_is);
+                few = omega (arith, end_is, told_long);
                 kept = wrote_kept area area3 s.end told e new m;
-                back = rw q (wrote_back area area3 s.end told e new m);
-                reaches = rw (q, k) (omega (arith, reach_held (length files) ((length files + s.end) ⋯ (a + 1 + b)) (stored (omega arith)), end_is));
+                back = wrote_back area area3 s.end told e new m;
+                reaches = rw k (omega (arith, reach_held (length files) ((length files + s.end) ⋯ (a + 1 + b)) (stored (omega arith)), end_is));
                 long = rw k below_short;
               })
 
@@ -276,11 +274,11 @@ module _ (files area : Bytes) (s : Place) (name : Span) (t : Option Span) (v : A
   pub aims_below : t ≡ None → Aims files area s name None
   aims_below e = rw e at v
 
-  pub go_at : (x : Span) → t ≡ Some x → (r : Went) → Goes (files ++ take s.end area) s x r (scope_fits s.scopes (bytes (files ++ take s.end area) x))
+  pub go_at : (x : Span) → t ≡ Some x → (r : Result Place Stop) → Goes (files ++ take s.end area) s x r (scope_fits s.scopes (bytes (files ++ take s.end area) x))
       → Shifts files area area s (target_of (files ++ take s.end area) (string (files ++ take s.end area) s.scope) (bytes (files ++ take s.end area) name) t) r (scope_fits s.scopes (target_of (files ++ take s.end area) (string (files ++ take s.end area) s.scope) (bytes (files ++ take s.end area) name) t))
   go_at x e r g = rw e (goes_moves files area s x (bytes (files ++ take s.end area) x) r (aims_at x e) refl g)
 
-  pub go_beneath : (area' : Bytes) → t ≡ None → (r : Went) → Shifts files area area' s (below (string (files ++ take s.end area) s.scope) (bytes (files ++ take s.end area) name)) r (scope_fits s.scopes (below (string (files ++ take s.end area) s.scope) (bytes (files ++ take s.end area) name)))
+  pub go_beneath : (area' : Bytes) → t ≡ None → (r : Result Place Stop) → Shifts files area area' s (below (string (files ++ take s.end area) s.scope) (bytes (files ++ take s.end area) name)) r (scope_fits s.scopes (below (string (files ++ take s.end area) s.scope) (bytes (files ++ take s.end area) name)))
       → Shifts files area area' s (target_of (files ++ take s.end area) (string (files ++ take s.end area) s.scope) (bytes (files ++ take s.end area) name) t) r (scope_fits s.scopes (target_of (files ++ take s.end area) (string (files ++ take s.end area) s.scope) (bytes (files ++ take s.end area) name) t))
   go_beneath area' e r g = rw e g
 
@@ -305,7 +303,7 @@ module _ (files area : Bytes) (words : List ℕ) (n : ℕ) (s : Place) (v : Line
       aims : Aims files area s name t
       aims = record { space = v.space; named = named; target = g.within (length files) (length files + s.end) (small_end files area s v.space) scope_reach named }
 
-      goes : (area' : Bytes) (r : Went) → Shifts files area area' s (target_of known (string known s.scope) (bytes known name) t) r (scope_fits s.scopes (target_of known (string known s.scope) (bytes known name) t)) → Shifts files area area' s goal r (scope_fits s.scopes goal)
+      goes : (area' : Bytes) (r : Result Place Stop) → Shifts files area area' s (target_of known (string known s.scope) (bytes known name) t) r (scope_fits s.scopes (target_of known (string known s.scope) (bytes known name) t)) → Shifts files area area' s goal r (scope_fits s.scopes goal)
       goes area' r m = let e : target_of known (string known s.scope) (bytes known name) t ≡ goal = rw ex at g.is in rw e at m
 
     -- set_scope
@@ -316,7 +314,7 @@ module _ (files area : Bytes) (words : List ℕ) (n : ℕ) (s : Place) (v : Line
       pub set_aims : Aims files area s name t
       set_aims = aims name named_reach (bytes known name) (moved (bytes known x) (bytes known name)) refl t g
 
-      pub set_moves : (area' : Bytes) (r : Went) → Shifts files area area' s (target_of known (string known s.scope) (bytes known name) t) r (scope_fits s.scopes (target_of known (string known s.scope) (bytes known name) t))
+      pub set_moves : (area' : Bytes) (r : Result Place Stop) → Shifts files area area' s (target_of known (string known s.scope) (bytes known name) t) r (scope_fits s.scopes (target_of known (string known s.scope) (bytes known name) t))
           → (u : State) → place_of u ≡ s → Moves files area area' u (moved (string (files ++ take u.fill.end area) u.head.scope) (name_of (words_from (files ++ take u.fill.end area) words n 1))) (out_of u r) (scope_fits u.count.scopes (moved (string (files ++ take u.fill.end area) u.head.scope) (name_of (words_from (files ++ take u.fill.end area) words n 1))))
       set_moves area' r m u e =
           moves_at files area area' u (λ p. moved (string (files ++ take p.end area) p.scope) (name_of (words_from (files ++ take p.end area) words n 1))) s r e
@@ -324,8 +322,8 @@ module _ (files area : Bytes) (words : List ℕ) (n : ℕ) (s : Place) (v : Line
 
     -- load_upf
     module _ (f : Option Span) (a : Finds known words n (option_of (ascii "-scope") (words_from known words n 1)) f) where
-      pub load_same : f ≡ None → (r : Went) → r.tag ≡ 0 → r.place ≡ s → Leads files area area s (option_of (ascii "-scope") (words_from known words n 1)) r
-      load_same e r p q = rw (← a.is, e) (record { tag = p; place = q; same = refl })
+      pub load_same : f ≡ None → Leads files area area s (option_of (ascii "-scope") (words_from known words n 1)) (Ok s)
+      load_same e = rw (← a.is, e) (record { is = refl; same = refl })
 
       module _ (w : Span) (e : f ≡ Some w) (t : Option Span) (g : Targets known x w (entered (bytes known x) (bytes known w)) t) where
         option_reach : reach (length files) w ≤ length files + s.end
@@ -334,7 +332,7 @@ module _ (files area : Bytes) (words : List ℕ) (n : ℕ) (s : Place) (v : Line
         pub load_aims : Aims files area s w t
         load_aims = aims w option_reach (bytes known w) (entered (bytes known x) (bytes known w)) refl t g
 
-        pub load_moves : (area' : Bytes) (r : Went) → Shifts files area area' s (target_of known (string known s.scope) (bytes known w) t) r (scope_fits s.scopes (target_of known (string known s.scope) (bytes known w) t))
+        pub load_moves : (area' : Bytes) (r : Result Place Stop) → Shifts files area area' s (target_of known (string known s.scope) (bytes known w) t) r (scope_fits s.scopes (target_of known (string known s.scope) (bytes known w) t))
             → Leads files area area' s (option_of (ascii "-scope") (words_from known words n 1)) r
         load_moves area' r m = rw (← a.is, e) (rw ex at (goes w option_reach (bytes known w) (entered (bytes known x) (bytes known w)) refl t g area' r m))
 

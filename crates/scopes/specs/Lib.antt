@@ -1,3 +1,4 @@
+pub mod Stops
 pub mod Target
 pub mod Moves
 pub mod States

@@ -1,5 +1,5 @@
 -- The scope moved: what is asked of the memory, and what is left there. Assumes nothing.
-use Rattle.std.specs.Prelude.{ℕ, ◌+◌, ◌-◌, ◌≤◌, ◌<◌, ◌^◌, ◌≡◌, Bool, true, false, ◌&&◌, List, ◌++◌, leb, length, take, drop, Option, None, Some}
+use Rattle.std.specs.Prelude.{ℕ, ◌+◌, ◌-◌, ◌≤◌, ◌<◌, ◌^◌, ◌≡◌, Bool, true, false, ◌&&◌, List, ◌++◌, leb, length, take, drop, Option, None, Some, Result, Ok, Err}
 use Rattle.text.specs.Ascii.{Bytes}
 use Rattle.spans.specs.Span.{bytes, pairs}
 use Rattle.spans.specs.Reach.{reach, last_of}
@@ -11,7 +11,9 @@ use Rattle.store.specs.declared.stored.Stored.{Stored}
 use Rattle.store.specs.declared.state.State.{State}
 use Rattle.scopes.specs.declared.go.Out.{Out}
 use Rattle.scopes.specs.declared.go.Place.{Place}
-use Rattle.scopes.specs.declared.go.Went.{Went}
+use Rattle.scopes.specs.declared.go.Stop.{Stop}
+use Rattle.scopes.specs.declared.go.Stop.TheVariants as stop
+use Rattle.scopes.specs.Stops.{tag_of}
 use Rattle.scopes.specs.Target.{target_reach}
 
 -- "a scope 512 bytes, all scopes from `set_scope` and `load_upf -scope` together 8,192": the scope t, where there have been `all` bytes
@@ -41,9 +43,10 @@ moved_to s x all e =
 abbrev pub place_of : State → Place
 place_of s = record { scope = s.head.scope; scopes = s.count.scopes; end = s.fill.end }
 
--- the answer with the state in its new place
-abbrev pub out_of : State → Went → Out
-out_of s w = record { tag = w.tag; state = moved_to s w.place.scope w.place.scopes w.place.end }
+-- the answer with the state in its new place; where it stops, the state is as it was
+abbrev pub out_of : State → Result Place Stop → Out
+out_of s (Ok q) = record { stop = None; state = moved_to s q.scope q.scopes q.end }
+out_of s (Err x) = record { stop = Some x; state = s }
 
 -- ---- what is asked
 
@@ -76,13 +79,13 @@ pub record Line (files area : Bytes) (words : List ℕ) (n : ℕ) (p : Place) : 
 
 -- a limit is passed: nothing is changed
 pub record Stays (area₀ area : Bytes) (s : State) (r : Out) : Type 0 where
-  pub tag : r.tag ≡ 10
+  pub tag : tag_of r.stop ≡ 10
   pub state : r.state ≡ s
   pub same : area ≡ area₀
 
 -- the scope is t; the area is changed from its end on, and only by as many bytes as t has
 pub record In (files area₀ area : Bytes) (s : State) (t : Bytes) (r : Out) : Type 0 where
-  pub tag : r.tag ≡ 0
+  pub tag : tag_of r.stop ≡ 0
   pub scope : string (files ++ take r.state.fill.end area) r.state.head.scope ≡ t
   pub state : r.state ≡ moved_to s r.state.head.scope (s.count.scopes + length t) r.state.fill.end
   pub more : s.fill.end ≤ r.state.fill.end
@@ -99,7 +102,7 @@ Moves files area₀ area s t r false = Stays area₀ area s r
 
 -- ---- a load: without `-scope` it stays
 pub record Same (area₀ area : Bytes) (s : State) (r : Out) : Type 0 where
-  pub tag : r.tag ≡ 0
+  pub tag : tag_of r.stop ≡ 0
   pub state : r.state ≡ s
   pub same : area ≡ area₀
 
@@ -112,49 +115,43 @@ Enters files area₀ area s (Some w) r =
 -- ---- the same of a place alone
 
 -- to a string that is there, nothing is written
-pub record To (p : Place) (x : Span) (all : ℕ) (r : Went) : Type 0 where
-  pub tag : r.tag ≡ 0
-  pub place : r.place ≡ record { scope = stored_of x; scopes = all; end = p.end }
+pub record To (p : Place) (x : Span) (all : ℕ) (r : Result Place Stop) : Type 0 where
+  pub is : r ≡ Ok (record { scope = stored_of x; scopes = all; end = p.end })
   pub long : x.len ≤ most_scope
 
-pub record Not (p : Place) (r : Went) : Type 0 where
-  pub tag : r.tag ≡ 10
-  pub place : r.place ≡ p
-
-abbrev pub Goes : Bytes → Place → Span → Went → Bool → Type 0
+abbrev pub Goes : Bytes → Place → Span → Result Place Stop → Bool → Type 0
 Goes mem p x r true = To p x (p.scopes + length (bytes mem x)) r
-Goes mem p x r false = Not p r
+Goes mem p x r false = r ≡ Err stop.PastLimit
 
 -- a limit is passed: nothing is changed
-pub record Rests (area₀ area : Bytes) (p : Place) (r : Went) : Type 0 where
-  pub tag : r.tag ≡ 10
-  pub place : r.place ≡ p
+pub record Rests (area₀ area : Bytes) (r : Result Place Stop) : Type 0 where
+  pub is : r ≡ Err stop.PastLimit
   pub same : area ≡ area₀
 
 -- the scope is t; the area is changed from its end on, and only by as many bytes as t has
-pub record Arrives (files area₀ area : Bytes) (p : Place) (t : Bytes) (r : Went) : Type 0 where
-  pub tag : r.tag ≡ 0
-  pub scope : string (files ++ take r.place.end area) r.place.scope ≡ t
-  pub scopes : r.place.scopes ≡ p.scopes + length t
-  pub more : p.end ≤ r.place.end
-  pub few : r.place.end ≤ p.end + length t
+pub record Arrives (files area₀ area : Bytes) (p : Place) (t : Bytes) (r : Result Place Stop) : Type 0 where
+  pub place : Place
+  pub is : r ≡ Ok place
+  pub scope : string (files ++ take place.end area) place.scope ≡ t
+  pub scopes : place.scopes ≡ p.scopes + length t
+  pub more : p.end ≤ place.end
+  pub few : place.end ≤ p.end + length t
   pub kept : take p.end area ≡ take p.end area₀
-  pub back : drop r.place.end area ≡ drop r.place.end area₀
-  pub reaches : reach (length files) (span_of r.place.scope) ≤ length files + r.place.end
-  pub long : r.place.scope.len ≤ most_scope
+  pub back : drop place.end area ≡ drop place.end area₀
+  pub reaches : reach (length files) (span_of place.scope) ≤ length files + place.end
+  pub long : place.scope.len ≤ most_scope
 
 -- by whether it is within the limits
-abbrev pub Shifts : Bytes → Bytes → Bytes → Place → Bytes → Went → Bool → Type 0
+abbrev pub Shifts : Bytes → Bytes → Bytes → Place → Bytes → Result Place Stop → Bool → Type 0
 Shifts files area₀ area p t r true = Arrives files area₀ area p t r
-Shifts files area₀ area p t r false = Rests area₀ area p r
+Shifts files area₀ area p t r false = Rests area₀ area r
 
 -- a load: without `-scope` it stays
-pub record Keeps (area₀ area : Bytes) (p : Place) (r : Went) : Type 0 where
-  pub tag : r.tag ≡ 0
-  pub place : r.place ≡ p
+pub record Keeps (area₀ area : Bytes) (p : Place) (r : Result Place Stop) : Type 0 where
+  pub is : r ≡ Ok p
   pub same : area ≡ area₀
 
-abbrev pub Leads : Bytes → Bytes → Bytes → Place → Option Bytes → Went → Type 0
+abbrev pub Leads : Bytes → Bytes → Bytes → Place → Option Bytes → Result Place Stop → Type 0
 Leads files area₀ area p None r = Keeps area₀ area p r
 Leads files area₀ area p (Some w) r =
     Shifts files area₀ area p (entered (string (files ++ take p.end area₀) p.scope) w) r

@@ -4,17 +4,18 @@ ghost use Rattle.spans.specs.Span.{bytes};
 ghost use Rattle.model.specs.Scope.{moved as Scope·moved, entered as Scope·entered};
 ghost use Rattle.model.specs.Up.{up_size};
 ghost use Rattle.scopes.specs.Target.{Rooted, Targets};
+ghost use Rattle.spans.specs.Memory.{memory};
 
-use spans::span::{Span, first, is, size};
+use spans::span::{Memory, Span, first, is, size};
 
 // How many bytes of a string stand before its last `/`; none where there is none.
-fn up(files: &[u8], area: &[u8], s: Span) -> usize
-    ensures { result ≡ up_size (bytes (files.now ++ area.now) s) }
+fn up(mem: &Memory, s: Span) -> usize
+    ensures { result ≡ up_size (bytes (memory mem.now) s) }
 {
     let mut i = 0;
     let mut last = 0;
     let mut x = s;
-    while let Some((b, t)) = first(files, area, x) {
+    while let Some((b, t)) = first(mem, x) {
         last = later(last, i, b);
         i += 1;
         x = t;
@@ -33,10 +34,10 @@ fn later(last: usize, i: usize, b: u8) -> usize
 }
 
 // A name behind a `/` is taken from the root, any other below the scope.
-fn rooted(files: &[u8], area: &[u8], name: Span) -> Option<Span>
-    ensures { Rooted (files.now ++ area.now) name result }
+fn rooted(mem: &Memory, name: Span) -> Option<Span>
+    ensures { Rooted (memory mem.now) name result }
 {
-    let (b, _) = first(files, area, name)?;
+    let (b, _) = first(mem, name)?;
     if b != b'/' {
         return None;
     }
@@ -47,33 +48,33 @@ fn rooted(files: &[u8], area: &[u8], name: Span) -> Option<Span>
 }
 
 // Where set_scope goes.
-pub fn moved<'a>(files: &'a [u8], area: &'a [u8], scope: Span, name: Span) -> Option<Span>
-    ensures { Targets (files.now ++ area.now) scope name (Scope·moved (bytes (files.now ++ area.now) scope) (bytes (files.now ++ area.now) name)) result }
+pub fn moved<'a>(mem: &Memory<'a>, scope: Span, name: Span) -> Option<Span>
+    ensures { Targets (memory mem.now) scope name (Scope·moved (bytes (memory mem.now) scope) (bytes (memory mem.now) name)) result }
 {
-    if is(files, area, name, b".") {
+    if is(mem, name, b".") {
         return Some(Span { at: 0, len: 0 });
     }
-    if size(files, area, name) == 0 {
+    if size(mem, name) == 0 {
         return Some(Span { at: 0, len: 0 });
     }
-    if is(files, area, name, b"..") {
+    if is(mem, name, b"..") {
         return Some(Span {
             at: scope.at,
-            len: up(files, area, scope),
+            len: up(mem, scope),
         });
     }
-    rooted(files, area, name)
+    rooted(mem, name)
 }
 
 // Where load_upf goes with -scope.
-pub fn entered<'a>(files: &'a [u8], area: &'a [u8], scope: Span, name: Span) -> Option<Span>
-    ensures { Targets (files.now ++ area.now) scope name (Scope·entered (bytes (files.now ++ area.now) scope) (bytes (files.now ++ area.now) name)) result }
+pub fn entered<'a>(mem: &Memory<'a>, scope: Span, name: Span) -> Option<Span>
+    ensures { Targets (memory mem.now) scope name (Scope·entered (bytes (memory mem.now) scope) (bytes (memory mem.now) name)) result }
 {
-    if is(files, area, name, b".") {
+    if is(mem, name, b".") {
         return Some(scope);
     }
-    if is(files, area, name, b"/") {
+    if is(mem, name, b"/") {
         return Some(scope);
     }
-    rooted(files, area, name)
+    rooted(mem, name)
 }

@@ -7,15 +7,12 @@ use native.Mathlib.Numerals.{add-one}
 use native.Mathlib.Omega.{arith}
 use mathlib.Core.Bool.{Bool, true, false}
 use mathlib.Core.List.{List, [], ◌∷◌, map}
-use Rattle.std.specs.Prelude.{Option, None, Some}
+use Rattle.std.specs.Prelude.{Option, None, Some, Result, Ok, Err, IsErrAnd}
 use lib.ListN.{length, take, drop, set, length-set, length-replicate}
-use lib.Dec.{ltb}
 use lib.Seq.{drop-cons, get_or-set_same, drop-set-lt}
 use borrow.Author.Rules.{rules}
-use borrow.Author.Tests.{lt-ltb, le-ltb, ltb-true, ltb-false}
 use Rattle.text.specs.Ascii.{Bytes}
 use Rattle.text.specs.Compare.{same}
-use Rattle.text.specs.Sames.{no_true}
 use Rattle.joblines.specs.Job.{Module}
 use Rattle.joblines.specs.Sections.{insts_in}
 use Rattle.jobindex.specs.Index.{section, module_row}
@@ -26,9 +23,11 @@ use Rattle.design.specs.Lookup.{module_named}
 use Rattle.design.specs.Search.{Search, nothing, called, under, or_else, at_instance, among_instances, search_from}
 use Rattle.lines.specs.Cursors.{spanned, inst_is, InstSeen}
 use Rattle.lines.specs.declared.InstAt.{InstAt}
-use Rattle.lookup.specs.Rows.{modules, row_is, ModuleSeen, insts_from, insts_end, insts_are}
+use Rattle.lookup.specs.Rows.{modules, ModuleSeen, insts_from, insts_end, insts_are}
 use Rattle.search.specs.declared.Found.{Found}
-use Rattle.search.specs.Found.{way_from, Searched, no_names, no_way, past, way_to, way_below}
+use Rattle.search.specs.declared.TooMany.{TooMany}
+use Rattle.search.specs.declared.Way.{Way}
+use Rattle.search.specs.Found.{way_from, Made, Searched, Deeper, no_names, way_to, way_below}
 
 -- ---- answers
 no_long : length no_names ≡ 33
@@ -56,35 +55,21 @@ least s r = go s.found
     go (Some ns) = omega arith
 
 -- nothing found so far: the calls add up
-module _ (job : Bytes) (depth calls : ℕ) (s : Search) (few : calls < 4096) where
-  none_here : (made : ℕ) → s.found ≡ None → calls + s.calls ≡ made → made ≤ 4096 → Searched job depth calls s (no_way made)
-  none_here made f e h =
-      record {
-        over_is = sym (le-ltb most_calls (calls + s.calls) (omega arith));
-        calls_is = λ q. sym e;
-        way_is = λ q. sym f;
-        deeper = λ q t. absurd (no_true t);
-        long = no_long;
-      }
+module _ (job : Bytes) (depth calls : ℕ) (s : Search) where
+  none_here : (made : ℕ) → s.found ≡ None → calls + s.calls ≡ made → made ≤ 4096 → Searched job depth calls s (Ok (record { calls = made; way = None }))
+  none_here made f e h = record { calls_is = sym e; few = h; way_is = sym f; goes = tt }
 
 -- ---- a call
 module _ (job : Bytes) (index : List ℕ) (count : ℕ) (kind : Bytes) (k left calls : ℕ) where
   abbrev whole : Search
   whole = search_from (modules job index count) kind left (module_row job index k)
 
-  pub call_over : calls ≡ 4096 → (f : Found) → f ≡ past → Searched job (33 - left) calls whole f
-  call_over h f e =
-      rw e (record {
-        over_is = sym (lt-ltb most_calls (calls + whole.calls) (omega (arith, calls_one (modules job index count) kind left (module_row job index k))));
-        calls_is = λ q. absurd (no_true (sym q));
-        way_is = λ q. absurd (no_true (sym q));
-        deeper = λ q t. absurd (no_true t);
-        long = no_long;
-      })
+  pub call_over : calls ≡ 4096 → (e : TooMany) → Searched job (33 - left) calls whole (Err e)
+  call_over h e = omega (arith, calls_one (modules job index count) kind left (module_row job index k))
 
-  pub call_last : calls ≤ 4096 → (calls ≡ 4096 → ⊥) → left ≡ 0 → (f : Found) → f ≡ no_way (calls + 1) → Searched job (33 - left) calls whole f
+  pub call_last : calls ≤ 4096 → (calls ≡ 4096 → ⊥) → left ≡ 0 → Searched job (33 - left) calls whole (Ok (record { calls = calls + 1; way = None }))
   unfolding search_from
-  call_last l h z f e = rw (e, z) (none_here job 33 calls (called nothing) (omega arith) (calls + 1) refl (omega arith) (omega arith))
+  call_last l h z = rw z (none_here job 33 calls (called nothing) (calls + 1) refl (omega arith) (omega arith))
 
   -- the instances left, from `at` up to `end`
   abbrev rest : ℕ → ℕ → Search
@@ -110,11 +95,11 @@ module _ (job : Bytes) (index : List ℕ) (count : ℕ) (kind : Bytes) (k left c
       record { total = ap (λ (q : Search). calls + q.calls) e ∙ omega arith; found_by_lem = ap (λ (q : Search). q.found) e; few = omega arith; room = omega arith; deep = l33; more = omega arith; many = l128 }
 
   module _ (made at end : ℕ) (inv : Left job index count kind k left calls made at end) where
-    pub left_end : InstSeen job at end None → (f : Found) → f ≡ no_way made → Searched job (33 - left) calls (whole job index count kind k left calls) f
+    pub left_end : InstSeen job at end None → Searched job (33 - left) calls (whole job index count kind k left calls) (Ok (record { calls = made; way = None }))
     unfolding among_instances
-    left_end seen f e =
+    left_end seen =
         let n : rest job index count kind k left calls at end ≡ nothing = rw (← seen.says) in
-        rw e (none_here job (33 - left) calls (whole job index count kind k left calls) inv.room made (inv.found_by_lem ∙ ap (λ (q : Search). q.found) n) (inv.total ∙ (ap (λ (q : Search). made + q.calls) n ∙ add-zero made)) inv.few)
+        none_here job (33 - left) calls (whole job index count kind k left calls) made (inv.found_by_lem ∙ ap (λ (q : Search). q.found) n) (inv.total ∙ (ap (λ (q : Search). made + q.calls) n ∙ add-zero made)) inv.few
 
     module _ (i : InstAt) (seen : InstSeen job at end (Some i)) where
       pub left_less : end - i.next < end - at
@@ -131,24 +116,25 @@ module _ (job : Bytes) (index : List ℕ) (count : ℕ) (kind : Bytes) (k left c
         test : same (spanned job i.kind) kind ≡ b
         test = sym (eb ∙ ap (λ (q : Bytes). same q kind) ep)
 
-        pub left_found : b ≡ true → (depth : ℕ) → depth ≡ 33 - left → (f : Found) → f ≡ way_to depth i.name made → Searched job (33 - left) calls (whole job index count kind k left calls) f
-        left_found h depth ed f e =
+        pub left_found : b ≡ true → (depth : ℕ) → depth ≡ 33 - left → (w : Way) → w ≡ way_to depth i.name → Searched job (33 - left) calls (whole job index count kind k left calls) (Ok (record { calls = made; way = Some w }))
+        left_found h depth ed w e =
             let s : rest job index count kind k left calls at end ≡ record { found = Some (spanned job i.name ∷ []); calls = 0 } = rest_here ∙ rw (test, h) in
             let c : calls + (whole job index count kind k left calls).calls ≡ made = inv.total ∙ (ap (λ (q : Search). made + q.calls) s ∙ add-zero made) in
             let one : depth + 1 - (depth + 1) ≡ 0 = omega arith in
             rw (e, ← ed) (record {
-              over_is = sym (le-ltb most_calls (calls + (whole job index count kind k left calls).calls) (omega (arith, inv.few)));
-              calls_is = λ q. sym c;
-              way_is = λ q. ap (λ (w : List Bytes). Some w) (way_cons job no_names depth (depth + 1) i.name (omega (arith, no_long, inv.more)) (omega arith) ∙ rw one) ∙ sym (inv.found_by_lem ∙ ap (λ (q : Search). q.found) s);
-              deeper = λ q y. omega arith;
-              long = length-set no_names depth i.name ∙ no_long;
+              calls_is = sym c;
+              few = inv.few;
+              way_is = ap (λ (w : List Bytes). Some w) (way_cons job no_names depth (depth + 1) i.name (omega (arith, no_long, inv.more)) (omega arith) ∙ rw one) ∙ sym (inv.found_by_lem ∙ ap (λ (q : Search). q.found) s);
+              goes = (omega arith, length-set no_names depth i.name ∙ no_long);
             })
 
-        module _ (h : b ≡ false) (row : ℕ) (named : ModuleSeen job index count (module_named (modules job index count) p) row) where
-          pub left_unlisted : row ≡ 0 → Left job index count kind k left calls made i.next end
-          unfolding row_is
-          left_unlisted z =
-              let m : module_named (modules job index count) (spanned job i.kind) ≡ None = rw (← ep, ← named.says, z) in
+        module _ (h : b ≡ false) where
+          abbrev NamedIs : Option ℕ → Type 0
+          NamedIs = ModuleSeen job index count (module_named (modules job index count) p)
+
+          pub left_unlisted : NamedIs None → Left job index count kind k left calls made i.next end
+          left_unlisted named =
+              let m : module_named (modules job index count) (spanned job i.kind) ≡ None = rw (← ep, ← named.says) in
               let s : rest job index count kind k left calls at end ≡ or_else nothing (rest job index count kind k left calls i.next end) = rest_here ∙ rw (test, h, m) in
               record {
                 total = inv.total ∙ (ap (λ (q : Search). made + q.calls) s ∙ omega arith);
@@ -160,66 +146,57 @@ module _ (job : Bytes) (index : List ℕ) (count : ℕ) (kind : Bytes) (k left c
                 many = inv.many;
               }
 
-          module _ (z : row ≡ 0 → ⊥) where
+          module _ (row : ℕ) (named : NamedIs (Some row)) where
             abbrev sub : Search
-            sub = search_from (modules job index count) kind (left - 1) (module_row job index (row - 1))
+            sub = search_from (modules job index count) kind (left - 1) (module_row job index row)
 
             rest_listed : rest job index count kind k left calls at end ≡ or_else (under (spanned job i.name) sub) (rest job index count kind k left calls i.next end)
-            unfolding row_is
             rest_listed =
-                let y : row ≡ suc (row - 1) = omega arith in
-                let m : module_named (modules job index count) (spanned job i.kind) ≡ Some (module_row job index (row - 1)) = rw (← ep, ← named.says) (ap (row_is job index) y) in
+                let m : module_named (modules job index count) (spanned job i.kind) ≡ Some (module_row job index row) = rw (← ep, ← named.says) in
                 rest_here ∙ rw (test, h, m)
 
-            module _ (f : Found) (s : Searched job (33 - (left - 1)) made sub f) where
-              pub left_over : f.over ≡ true → Searched job (33 - left) calls (whole job index count kind k left calls) f
-              left_over o =
-                  let m : most_calls < made + sub.calls = ltb-true most_calls (made + sub.calls) (sym s.over_is ∙ o) in
-                  let l = least (under (spanned job i.name) sub) (rest job index count kind k left calls i.next end) in
-                  let e : (rest job index count kind k left calls at end).calls ≡ (or_else (under (spanned job i.name) sub) (rest job index count kind k left calls i.next end)).calls = ap (λ (q : Search). q.calls) rest_listed in
+            pub left_over : most_calls < made + sub.calls → (r : Result Found TooMany) (x : TooMany) → IsErrAnd r (λ y. y ≡ x) → Searched job (33 - left) calls (whole job index count kind k left calls) r
+            left_over m (Err y) x q =
+                let l = least (under (spanned job i.name) sub) (rest job index count kind k left calls i.next end) in
+                let e : (rest job index count kind k left calls at end).calls ≡ (or_else (under (spanned job i.name) sub) (rest job index count kind k left calls i.next end)).calls = ap (λ (q : Search). q.calls) rest_listed in
+                omega (arith, inv.total)
+            left_over m (Ok f) x q = absurd q
+
+            module _ (f : Found) (s : Made job (33 - (left - 1)) made sub f) where
+              within : made + sub.calls ≤ 4096
+              within = omega (arith, s.calls_is, s.few)
+
+              pub left_below : (v : Way) → f.way ≡ Some v → (depth : ℕ) → depth ≡ 33 - left → (w : Way) → w ≡ way_below v depth i.name → Searched job (33 - left) calls (whole job index count kind k left calls) (Ok (record { calls = f.calls; way = Some w }))
+              left_below v y depth ed w e =
+                  let deep : 33 - (left - 1) ≡ depth + 1 = omega (arith, inv.deep, inv.more) in
+                  let g : Deeper (depth + 1) (Some v) = rw (deep, y) at s.goes in
+                  let u : sub.found ≡ Some (way_from job (depth + 1) v) = sym s.way_is ∙ rw (y, deep) in
+                  let r : rest job index count kind k left calls at end ≡ under (spanned job i.name) sub = rest_listed ∙ rw u in
+                  let c : calls + (whole job index count kind k left calls).calls ≡ made + sub.calls = inv.total ∙ ap (λ (q : Search). made + q.calls) r in
+                  let path : map (spanned job) (take (v.count - depth) (drop depth (set v.names depth i.name))) ≡ spanned job i.name ∷ way_from job (depth + 1) v =
+                  way_cons job v.names depth v.count i.name (omega (arith, g.1, inv.more)) (omega (arith, g.0)) in
+                  let under_is : (under (spanned job i.name) sub).found ≡ Some (spanned job i.name ∷ way_from job (depth + 1) v) = rw u in
+                  let found : (whole job index count kind k left calls).found ≡ Some (spanned job i.name ∷ way_from job (depth + 1) v) = inv.found_by_lem ∙ (ap (λ (q : Search). q.found) r ∙ under_is) in
+                  rw (e, ← ed) (record {
+                    calls_is = s.calls_is ∙ sym c;
+                    few = s.few;
+                    way_is = rw path (sym found);
+                    goes = (omega (arith, g.0), length-set v.names depth i.name ∙ g.1);
+                  })
+
+              pub left_on : f.way ≡ None → Left job index count kind k left calls f.calls i.next end
+              left_on y =
+                  let w : sub.found ≡ None = sym s.way_is ∙ rw y in
+                  let r : rest job index count kind k left calls at end ≡ record { found = (rest job index count kind k left calls i.next end).found; calls = sub.calls + (rest job index count kind k left calls i.next end).calls } = rest_listed ∙ rw w in
                   record {
-                    over_is = o ∙ sym (lt-ltb most_calls (calls + (whole job index count kind k left calls).calls) (omega (arith, inv.total)));
-                    calls_is = λ q. absurd (no_true (sym q ∙ o));
-                    way_is = λ q. absurd (no_true (sym q ∙ o));
-                    deeper = λ q. absurd (no_true (sym q ∙ o));
-                    long = s.long;
+                    total = inv.total ∙ (ap (λ (q : Search). made + q.calls) r ∙ omega (arith, s.calls_is));
+                    found_by_lem = inv.found_by_lem ∙ ap (λ (q : Search). q.found) r;
+                    few = s.few;
+                    room = inv.room;
+                    deep = inv.deep;
+                    more = inv.more;
+                    many = inv.many;
                   }
-
-              module _ (o : f.over ≡ false) where
-                within : made + sub.calls ≤ 4096
-                within = ltb-false most_calls (made + sub.calls) (sym s.over_is ∙ o)
-
-                pub left_below : f.found ≡ true → (depth : ℕ) → depth ≡ 33 - left → (q : Found) → q ≡ way_below f depth i.name → Searched job (33 - left) calls (whole job index count kind k left calls) q
-                left_below y depth ed q e =
-                    let deep : 33 - (left - 1) ≡ depth + 1 = omega (arith, inv.deep, inv.more) in
-                    let w : sub.found ≡ Some (way_from job (depth + 1) f) = sym (s.way_is o) ∙ rw (y, deep) in
-                    let r : rest job index count kind k left calls at end ≡ under (spanned job i.name) sub = rest_listed ∙ rw w in
-                    let c : calls + (whole job index count kind k left calls).calls ≡ made + sub.calls = inv.total ∙ ap (λ (q : Search). made + q.calls) r in
-                    let path : map (spanned job) (take (f.count - depth) (drop depth (set f.names depth i.name))) ≡ spanned job i.name ∷ way_from job (depth + 1) f =
-                    way_cons job f.names depth f.count i.name (omega (arith, s.long, inv.more)) (omega (arith, s.deeper o y)) in
-                    let under_is : (under (spanned job i.name) sub).found ≡ Some (spanned job i.name ∷ way_from job (depth + 1) f) = rw w in
-                    let found : (whole job index count kind k left calls).found ≡ Some (spanned job i.name ∷ way_from job (depth + 1) f) = inv.found_by_lem ∙ (ap (λ (q : Search). q.found) r ∙ under_is) in
-                    rw (e, ← ed) (record {
-                      over_is = s.over_is ∙ ap (ltb most_calls) (sym c);
-                      calls_is = λ v. s.calls_is o ∙ sym c;
-                      way_is = λ v. rw (y, path) (sym found);
-                      deeper = λ v x. omega (arith, s.deeper o y);
-                      long = length-set f.names depth i.name ∙ s.long;
-                    })
-
-                pub left_on : f.found ≡ false → Left job index count kind k left calls f.calls i.next end
-                left_on y =
-                    let w : sub.found ≡ None = sym (s.way_is o) ∙ rw y in
-                    let r : rest job index count kind k left calls at end ≡ record { found = (rest job index count kind k left calls i.next end).found; calls = sub.calls + (rest job index count kind k left calls i.next end).calls } = rest_listed ∙ rw w in
-                    record {
-                      total = inv.total ∙ (ap (λ (q : Search). made + q.calls) r ∙ omega (arith, s.calls_is o));
-                      found_by_lem = inv.found_by_lem ∙ ap (λ (q : Search). q.found) r;
-                      few = omega (arith, s.calls_is o, within);
-                      room = inv.room;
-                      deep = inv.deep;
-                      more = inv.more;
-                      many = inv.many;
-                    }
 
 pub ruleset starts = (rules, call_over, call_last, left_start)
 

@@ -5,117 +5,108 @@ ghost use Rattle.std.specs.Prelude.{◌≡◌, true, false, ◌+◌, ◌-◌, �
 ghost use Rattle.jobindex.specs.Index.{module_row};
 ghost use Rattle.design.specs.Search.{search_from, search_type};
 ghost use Rattle.lookup.specs.Rows.{modules};
-ghost use Rattle.search.specs.Found.{Searched, no_way, past, way_to, way_below};
+ghost use Rattle.search.specs.Found.{Searched, way_to, way_below};
+ghost use Rattle.lookup.specs.Design.{modules_in};
+ghost use Rattle.jobindex.specs.Modules.{module_in};
 
-use jobindex::Span;
+use jobindex::{Design, Span};
 
-// What a search comes to: whether it would make more than 4,096 calls; whether an instance was found, and the calls made so far; the
-// instance names of the way to it, parts of the job.
+// The search would make more than 4,096 calls.
+#[derive(Clone, Copy, Debug, PartialEq, Eq)]
+pub struct TooMany;
+
+// The way to an instance: its instance names, parts of the job.
 #[derive(Clone, Copy)]
-pub struct Found {
-    pub over: bool,
-    pub found: bool,
-    pub calls: usize,
+pub struct Way {
     pub count: usize,
     pub names: [Span; 33],
 }
 
-// Nothing found.
-fn nothing(calls: usize) -> Found
-    ensures { result ≡ no_way calls }
-{
-    Found {
-        over: false,
-        found: false,
-        calls,
-        count: 0,
-        names: [Span { at: 0, len: 0 }; 33],
-    }
-}
-
-// More calls than allowed.
-fn refused() -> Found
-    ensures { result ≡ past }
-{
-    Found {
-        over: true,
-        ..nothing(0)
-    }
+// What a search comes to: the calls made so far, and the way to the instance where one was found.
+#[derive(Clone, Copy)]
+pub struct Found {
+    pub calls: usize,
+    pub way: Option<Way>,
 }
 
 // The way to an instance of the name `name` at a depth.
-fn found_at(depth: usize, name: Span, calls: usize) -> Found
+fn found_at(depth: usize, name: Span) -> Way
     requires { depth < 33 }
-    ensures { result ≡ way_to depth name calls }
+    ensures { result ≡ way_to depth name }
 {
-    let way = Found {
-        found: true,
+    let way = Way {
         count: depth + 1,
-        ..nothing(calls)
+        names: [Span { at: 0, len: 0 }; 33],
     };
     below(way, depth, name)
 }
 
 // A way that begins one instance further up.
-fn below(mut f: Found, depth: usize, name: Span) -> Found
+fn below(mut w: Way, depth: usize, name: Span) -> Way
     requires { depth < 33 }
-    ensures { result ≡ way_below f depth name }
+    ensures { result ≡ way_below w depth name }
 {
-    f.names[depth] = name;
-    f
+    w.names[depth] = name;
+    w
 }
 
 // The search from module k with `left` depths left, after `calls` calls.
 #[tactic(auto, using(crate::proofs::Turns::starts, crate::proofs::Turns::turns))]
 fn search_from(
-    job: &[u8],
-    index: &[u32],
-    count: usize,
+    design: &Design,
     kind: &[u8],
     k: usize,
     left: usize,
     calls: usize,
-) -> Found
-    requires { (count ≤ 128) × ((k ≤ 128) × ((left ≤ 33) × (calls ≤ 4096))) }
-    ensures { Searched job.now (33 - left) calls (search_from (modules job.now index.now count) kind.now left (module_row job.now index.now k)) result }
+) -> Result<Found, TooMany>
+    requires { (design.now.count ≤ 128) × ((k ≤ 128) × ((left ≤ 33) × (calls ≤ 4096))) }
+    ensures { Searched design.now.index.job.now (33 - left) calls (search_from (modules_in design.now) kind.now left (module_in design.now.index k)) result }
 {
     if calls == 4096 {
-        return refused();
+        return Err(TooMany);
     }
     if left == 0 {
-        return nothing(calls + 1);
+        return Ok(Found {
+            calls: calls + 1,
+            way: None,
+        });
     }
     let mut made = calls + 1;
     let depth = 33 - left;
-    let end = lookup::insts_end(index, k);
-    let mut at = lookup::insts_from(index, k);
-    while let Some(inst) = lines::next_inst(job, at, end) {
-        let t = lines::part_of(job, inst.kind);
+    let end = lookup::insts_end(design.index.rows, k);
+    let mut at = lookup::insts_from(design.index.rows, k);
+    while let Some(inst) = lines::next_inst(design.index.job, at, end) {
+        let t = lines::part_of(design.index.job, inst.kind);
         if text::compare::same(t, kind) {
-            return found_at(depth, inst.name, made);
+            return Ok(Found {
+                calls: made,
+                way: Some(found_at(depth, inst.name)),
+            });
         }
-        let row = lookup::module_named(job, index, count, t);
-        if row == 0 {
+        let Some(row) = lookup::module_named(design, t) else {
             at = inst.next;
             continue;
-        }
-        let f = search_from(job, index, count, kind, row - 1, left - 1, made);
-        if f.over {
-            return f;
-        }
-        if f.found {
-            return below(f, depth, inst.name);
+        };
+        let f = search_from(design, kind, row, left - 1, made)?;
+        if let Some(way) = f.way {
+            return Ok(Found {
+                calls: f.calls,
+                way: Some(below(way, depth, inst.name)),
+            });
         }
         made = f.calls;
         at = inst.next;
     }
-    nothing(made)
+    Ok(Found {
+        calls: made,
+        way: None,
+    })
 }
 
 // The way from module k to the first instance of a type.
-pub fn find_by_type(job: &[u8], index: &[u32], count: usize, k: usize, kind: &[u8]) -> Found
-    requires { (count ≤ 128) × (k ≤ 128) }
-    ensures { Searched job.now 0 0 (search_type (modules job.now index.now count) (module_row job.now index.now k) kind.now) result }
+pub fn find_by_type(design: &Design, k: usize, kind: &[u8]) -> Result<Found, TooMany>
+    requires { (design.now.count ≤ 128) × (k ≤ 128) }
+    ensures { Searched design.now.index.job.now 0 0 (search_type (modules_in design.now) (module_in design.now.index k) kind.now) result }
 {
-    search_from(job, index, count, kind, k, 33, 0)
+    search_from(design, kind, k, 33, 0)
 }

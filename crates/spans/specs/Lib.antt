@@ -4,3 +4,4 @@ pub mod Area
 pub mod Frame
 pub mod Writes
 pub mod Reach
+pub mod Memory

@@ -1,11 +1,19 @@
 // Spans: a stored string is a place and a length in one list, the files' bytes followed by the area's. Every function is total: a span that
 // runs past the end has the bytes that are there.
-ghost use Rattle.std.specs.Prelude.{◌≡◌, ◌++◌, ◌-◌, min, length, take};
+ghost use Rattle.std.specs.Prelude.{◌≡◌, ◌++◌, length, take};
 ghost use Rattle.text.specs.Compare.{same as Compare·same};
 ghost use Rattle.spans.specs.Span.{bytes, got_of, pair_at};
+ghost use Rattle.spans.specs.Memory.{memory};
 
 use text::compare::same;
 use text::part::{num, part};
+
+// The memory that strings lie in: the files' bytes, followed by the area's.
+#[derive(Clone, Copy)]
+pub struct Memory<'a> {
+    pub files: &'a [u8],
+    pub area: &'a [u8],
+}
 
 #[derive(Clone, Copy, PartialEq, Eq)]
 pub struct Span {
@@ -15,26 +23,26 @@ pub struct Span {
 
 // The first byte of what is left of a string.
 #[tactic(auto, using(crate::proofs::Spans::spans))]
-pub fn first(files: &[u8], area: &[u8], s: Span) -> Option<(u8, Span)>
-    ensures { bytes (files.now ++ area.now) s ≡ got_of (files.now ++ area.now) result }
+pub fn first(mem: &Memory, s: Span) -> Option<(u8, Span)>
+    ensures { bytes (memory mem.now) s ≡ got_of (memory mem.now) result }
 {
     let at = s.at;
     if s.len == 0 {
         return None;
     }
-    if at < files.len() {
+    if at < mem.files.len() {
         return Some((
-            files[at],
+            mem.files[at],
             Span {
                 at: at + 1,
                 len: s.len - 1,
             },
         ));
     }
-    let k = at - files.len();
-    if k < area.len() {
+    let k = at - mem.files.len();
+    if k < mem.area.len() {
         return Some((
-            area[k],
+            mem.area[k],
             Span {
                 at: at + 1,
                 len: s.len - 1,
@@ -47,8 +55,7 @@ pub fn first(files: &[u8], area: &[u8], s: Span) -> Option<(u8, Span)>
 // A string, read byte by byte: what is left of it.
 #[derive(Drop)]
 pub struct Stream<'a> {
-    pub files: &'a [u8],
-    pub area: &'a [u8],
+    pub mem: &'a Memory<'a>,
     pub left: Span,
 }
 
@@ -63,7 +70,7 @@ impl Iterator for Stream<'_> {
     ghost remaining = { item_count left_of };
 
     fn next(&mut self) -> Option<u8> {
-        let (b, left) = first(self.files, self.area, self.left)?;
+        let (b, left) = first(self.mem, self.left)?;
         self.left = left;
         Some(b)
     }
@@ -71,77 +78,70 @@ impl Iterator for Stream<'_> {
 
 // How many bytes a string has.
 #[tactic(auto, using(crate::proofs::Spans::size_is))]
-pub fn size(files: &[u8], area: &[u8], s: Span) -> usize
-    ensures { result ≡ length (bytes (files.now ++ area.now) s) }
+pub fn size(mem: &Memory, s: Span) -> usize
+    ensures { result ≡ length (bytes (memory mem.now) s) }
 {
-    let there = (files.len() + area.len()).saturating_sub(s.at);
+    let there = (mem.files.len() + mem.area.len()).saturating_sub(s.at);
     s.len.min(there)
 }
 
 // The string as a part of whichever slice holds it: all of it, where it does not cross from one to the other.
 #[tactic(auto, using(crate::proofs::Spans::fetches))]
-pub fn fetch<'a>(files: &'a [u8], area: &'a [u8], s: Span) -> &'a [u8]
-    ensures { result.now ≡ take (length result.now) (bytes (files.now ++ area.now) s) }
+pub fn fetch<'a>(mem: &Memory<'a>, s: Span) -> &'a [u8]
+    ensures { result.now ≡ take (length result.now) (bytes (memory mem.now) s) }
 {
     let at = s.at;
-    if at < files.len() {
-        return part(files, at, s.len);
+    if at < mem.files.len() {
+        return part(mem.files, at, s.len);
     }
-    let k = at - files.len();
-    part(area, k, s.len)
+    let k = at - mem.files.len();
+    part(mem.area, k, s.len)
 }
 
 // Whether the string is w, byte by byte.
-fn is_stream(files: &[u8], area: &[u8], s: Span, w: &[u8]) -> bool
-    ensures { result ≡ Compare·same (bytes (files.now ++ area.now) s) w.now }
+fn is_stream(mem: &Memory, s: Span, w: &[u8]) -> bool
+    ensures { result ≡ Compare·same (bytes (memory mem.now) s) w.now }
 {
     let left = s;
-    Stream { files, area, left }.eq(w.iter().copied())
+    Stream { mem, left }.eq(w.iter().copied())
 }
 
 // Whether the string is w.
 #[tactic(auto, using(crate::proofs::Spans::is_whole))]
-pub fn is<'a>(files: &'a [u8], area: &'a [u8], s: Span, w: &[u8]) -> bool
-    ensures { result ≡ Compare·same (bytes (files.now ++ area.now) s) w.now }
+pub fn is<'a>(mem: &Memory<'a>, s: Span, w: &[u8]) -> bool
+    ensures { result ≡ Compare·same (bytes (memory mem.now) s) w.now }
 {
-    let p = fetch(files, area, s);
+    let p = fetch(mem, s);
     if p.len() == s.len {
         return same(p, w);
     }
-    is_stream(files, area, s, w)
+    is_stream(mem, s, w)
 }
 
 // Whether two strings are the same, byte by byte.
-fn same_streams(files: &[u8], area: &[u8], s: Span, t: Span) -> bool
-    ensures { result ≡ Compare·same (bytes (files.now ++ area.now) s) (bytes (files.now ++ area.now) t) }
+// As in `names::compare` with another type of stream: one function for both is generic in the stream, which is no plainer.
+fn same_streams(mem: &Memory, s: Span, t: Span) -> bool
+    ensures { result ≡ Compare·same (bytes (memory mem.now) s) (bytes (memory mem.now) t) }
 {
-    let x = Stream {
-        files,
-        area,
-        left: s,
-    };
-    let y = Stream {
-        files,
-        area,
-        left: t,
-    };
+    let x = Stream { mem, left: s };
+    let y = Stream { mem, left: t };
     x.eq(y)
 }
 
-// Whether two strings are the same.
+// Whether two strings are the same. `==` of the spans says only that they lie at one place.
 #[tactic(auto, using(crate::proofs::Spans::same_ways))]
-pub fn same_spans<'a>(files: &'a [u8], area: &'a [u8], s: Span, t: Span) -> bool
-    ensures { result ≡ Compare·same (bytes (files.now ++ area.now) s) (bytes (files.now ++ area.now) t) }
+pub fn same_spans<'a>(mem: &Memory<'a>, s: Span, t: Span) -> bool
+    ensures { result ≡ Compare·same (bytes (memory mem.now) s) (bytes (memory mem.now) t) }
 {
     if s == t {
         return true;
     }
-    let p = fetch(files, area, s);
-    let q = fetch(files, area, t);
+    let p = fetch(mem, s);
+    let q = fetch(mem, t);
     if (p.len() == s.len) & (q.len() == t.len) {
         return same(p, q);
     }
-    same_streams(files, area, s, t)
+    same_streams(mem, s, t)
 }
 
 // The k-th span of a list of numbers, two numbers each.
@@ -155,18 +155,4 @@ pub fn pair(nums: &[u32], k: usize) -> Span
         at: num(nums, 2 * k) as usize,
         len: num(nums, 2 * k + 1) as usize,
     }
-}
-
-// What is left of a when b is taken away, 0 where b is more.
-pub fn minus(a: usize, b: usize) -> usize
-    ensures { result ≡ a - b }
-{
-    a.saturating_sub(b)
-}
-
-// The smaller of two numbers.
-pub fn least(a: usize, b: usize) -> usize
-    ensures { result ≡ min a b }
-{
-    a.min(b)
 }

@@ -1,7 +1,7 @@
 -- Putting the words of states one after the other; laws as the needs ask them. Assumes nothing.
 use Rattle.std.specs.Prelude.{Option}
 use Rattle.std.specs.Prelude.{ℕ, suc, ◌+◌, ◌-◌, ◌≤◌, ◌<◌, ◌^◌, ◌≡◌, refl, Bool, true, false, cond, not, length, drop, None, Some}
-use Rattle.std.proofs.Common.{arith, add-zero, ◌∙◌, length-append}
+use Rattle.std.proofs.Common.{arith, add-zero, ◌∙◌, length-append, drop_of_length-le}
 use Rattle.std.proofs.Math.Path.{sym, ap}
 use mathlib.Core.List.{List, [], ◌∷◌, ◌++◌, map, append_assoc, append-nil, map-append}
 use Rattle.std.proofs.lemmas.List.{length-map}
@@ -61,6 +61,13 @@ not_wanted true false e = refl
 not_wanted false true e = refl
 not_wanted false false e = absurd (e refl)
 
+-- no state is left behind the last word
+pub putting_done : (mem : Bytes) (words : List ℕ) (n : ℕ) (ss : List State) (want : Bool) (nums₀ : List ℕ) (at : ℕ) (nums : List ℕ) (k o : ℕ) → Putting mem words n ss want nums₀ at nums k o → n ≤ k → Puts mem words n (chosen want ss) nums₀ nums at o
+unfolding chosen
+putting_done mem words n ss want nums₀ at nums k o inv h =
+    let q : chosen want (drop k ss) ≡ [] = rw (drop_of_length-le ss {i = k} (omega (arith, inv.short, h))) in
+    record { put = inv.put; becomes = inv.becomes; ends = inv.ends; is = sym (append-nil (map (string mem) inv.put)) ∙ ap (λ (l : List Bytes). map (string mem) inv.put ++ l) (sym q) ∙ inv.is; within = inv.within }
+
 module _ (mem : Bytes) (words : List ℕ) (n : ℕ) (ss : List State) (want : Bool) (nums₀ : List ℕ) (at : ℕ) (nums : List ℕ) (k o : ℕ) (inv : Putting mem words n ss want nums₀ at nums k o) (r : Option (Bool × Span)) (a : States mem words n (pick k ss) r) where
   pub putting_end : r ≡ None → Puts mem words n (chosen want ss) nums₀ nums at o
   unfolding chosen
@@ -85,12 +92,6 @@ module _ (mem : Bytes) (words : List ℕ) (n : ℕ) (ss : List State) (want : Bo
     here : chosen want (drop k ss) ≡ cond (cond want one (not one)) (bytes mem v ∷ chosen want (drop (k + 1) ss)) (chosen want (drop (k + 1) ss))
     unfolding chosen
     here = ap (chosen want) (pick_some k ss this its)
-
-    pub putting_next : n < 2 ^ 64 → k + 1 < 2 ^ 64
-    putting_next h = omega (arith, pick_in k ss this its, inv.short)
-
-    pub putting_less : length ss - (k + 1) < length ss - k
-    putting_less = omega (arith, pick_in k ss this its)
 
     pub putting_fits : last_of span_end (pairs words 0 n) < 2 ^ 32 → v.at + v.len < 2 ^ 32
     putting_fits h = omega (arith, rw g at (a.within span_end refl))

@@ -108,6 +108,7 @@ pub struct Fill {
 }
 
 // At most 32 records, in the order in which they were made.
+// No heap: the records stand in an array with their count.
 #[derive(Clone, Copy, Default)]
 pub struct Few<T> {
     pub n: usize,
@@ -115,6 +116,7 @@ pub struct Few<T> {
 }
 
 // The variables: four numbers each.
+// No heap: the records stand in an array with their count.
 #[derive(Clone, Copy, Default)]
 pub struct Variables {
     pub n: usize,

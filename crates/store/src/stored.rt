@@ -26,7 +26,7 @@ pub fn empty() -> Stored
     Stored { at: 0, len: 0 }
 }
 
-// A span, stored.
+// A span, stored. `From` has no place for what is asked here, and by `TryFrom` each caller would handle an error that cannot come.
 pub fn narrow(s: Span) -> Stored
     requires { s.at + s.len < 2 ^ 32 }
     ensures { result ≡ stored_of s }
@@ -38,16 +38,18 @@ pub fn narrow(s: Span) -> Stored
 }
 
 // A stored string as a span.
-pub fn span(s: Stored) -> Span
-    ensures { result ≡ span_of s }
-{
-    Span {
-        at: s.at as usize,
-        len: s.len as usize,
+impl From<Stored> for Span {
+    ghost from_gives = { λ s r. r ≡ span_of s };
+
+    fn from(s: Stored) -> Span {
+        Span {
+            at: s.at as usize,
+            len: s.len as usize,
+        }
     }
 }
 
-// What was looked for, stored.
+// What was looked for, stored. This and the next three name what the library's methods give, and what is asked for it.
 pub fn as_maybe(f: Option<Span>) -> Option<Stored>
     requires { found_end f < 2 ^ 32 }
     ensures { result ≡ maybe_found f }

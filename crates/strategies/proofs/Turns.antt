@@ -1,5 +1,5 @@
 -- A strategy: each law is stated as a need asks it. Assumes nothing.
-use Rattle.std.specs.Prelude.{Option, Some, None}
+use Rattle.std.specs.Prelude.{Option}
 use Prim.Native.Nat.{ℕ, ◌+◌}
 use native.Mathlib.Omega.{arith}
 use mathlib.Core.Path.{◌≡◌, refl, sym, ap, ◌∙◌}
@@ -11,7 +11,6 @@ use Rattle.text.specs.Sames.{no_true}
 use Rattle.out.specs.Emit.{Out, ◌▸◌, emit, emit_append}
 use Rattle.names.specs.Name.{name_of}
 use Rattle.names.specs.declared.name.Name.{Name}
-use Rattle.refs.specs.Text.{no_name}
 use Rattle.model.specs.Commands.{or_else}
 use Rattle.store.specs.Strings.{string, maybe_of}
 use Rattle.store.specs.View.{isolation_of}
@@ -31,16 +30,10 @@ use Rattle.remarks.specs.Lines.{strategy_line, Lined}
 use Rattle.strategies.specs.Gains.{line_gain, covered_gain}
 use Rattle.strategies.specs.Values.{given_name, strategy_of}
 
-pub given_not : (m : Option Stored) (r : Name) → r ≡ no_name → m ≡ None → r ≡ given_name m
-given_not m r e h = rw h e
-
-pub given_some : (m : Option Stored) (s : Stored) (r : Name) → r ≡ stored_name s → m ≡ Some s → r ≡ given_name m
-given_some m s r e h = rw h e
-
 pub numbered : (n : ℕ) (x : Isolation) (r : Name) → r ≡ stored_name x.name → ◌≡◌ {A = Strategy} (record { number = n; name = r }) (strategy_of n x)
 numbered n x r e = rw e
 
-pub ruleset givens = (rules, given_not, given_some, numbered)
+pub ruleset givens = (rules, numbered)
 
 -- ---- with these elements
 

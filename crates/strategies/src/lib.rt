@@ -14,25 +14,29 @@ ghost use Rattle.cover.specs.Found.{Asks};
 ghost use Rattle.coverall.specs.Elements.{aims_for};
 ghost use Rattle.strategies.specs.Gains.{covered_gain};
 ghost use Rattle.strategies.specs.Values.{given_name, strategy_of};
+ghost use Rattle.spans.specs.Memory.{memory};
+ghost use Rattle.nametable.specs.Names.{names_in};
+ghost use Rattle.lookup.specs.Design.{modules_in};
+ghost use Rattle.jobindex.specs.Modules.{module_in};
 
 use clamps::stored;
 use cover::Strategy;
 use coverall::cover_all;
+use jobindex::Design;
 use keep::Cover;
 use names::name::Name;
 use refs::no_name;
 use remarks::line;
+use spans::span::Memory;
 use store::state::Isolation;
 use store::stored::Stored;
+use text::part::Rows;
 
 // What is given, as a name.
 pub fn given(m: Option<Stored>) -> Name
     ensures { result ≡ given_name m }
 {
-    match m {
-        None => no_name(),
-        Some(s) => stored(s),
-    }
+    m.map_or(no_name(), stored)
 }
 
 // A strategy by its number, with its name.
@@ -50,30 +54,24 @@ fn by_number(number: usize, x: Isolation) -> Strategy
 pub fn in_elements<'a>(
     out: &mut [u8],
     warn: bool,
-    job: &[u8],
-    index: &[u32],
-    count: usize,
+    design: &Design,
     k: usize,
-    files: &'a [u8],
-    area: &'a [u8],
+    mem: &Memory<'a>,
     ports: &mut [u32],
     c: Cover,
     number: usize,
     x: Isolation,
     signal: Name,
     outputs: bool,
-    table: &[u32],
-    n: usize,
+    table: &Rows,
 ) -> Cover
-    requires { Ready c ports.old × (Asks job.now files.now area.now count k number × (n ≤ 65536)) }
-    ensures { Answer job.now (files.now ++ area.now) warn c out.old (covered_gain number (isolation_of (files.now ++ area.now) x) (name_of (files.now ++ area.now) signal) (flat_map (aims_for outputs (modules job.now index.now count) (module_row job.now index.now k)) (table_names (files.now ++ area.now) table.now n)) (kept_in job.now (files.now ++ area.now) ports.old c.ports)) result out.new ports.new }
+    requires { Ready c ports.old × (Asks design.now.index.job.now mem.now.files.now mem.now.area.now design.now.count k number × (table.now.n ≤ 65536)) }
+    ensures { Answer design.now.index.job.now (memory mem.now) warn c out.old (covered_gain number (isolation_of (memory mem.now) x) (name_of (memory mem.now) signal) (flat_map (aims_for outputs (modules_in design.now) (module_in design.now.index k)) (names_in (memory mem.now) table.now)) (kept_in design.now.index.job.now (memory mem.now) ports.old c.ports)) result out.new ports.new }
 {
     let s = by_number(number, x);
-    let a = cover_all(
-        out, warn, job, index, count, k, files, area, ports, c, s, outputs, table, n,
-    );
+    let a = cover_all(out, warn, design, k, mem, ports, c, s, outputs, table);
     if a.over {
         return a;
     }
-    line(out, warn, job, files, area, a, x, signal)
+    line(out, warn, design.index.job, mem, a, x, signal)
 }

@@ -12,13 +12,14 @@ use super::piece::{Piece, next_piece};
 use super::variable::lookup;
 use super::written::dropped;
 use spans::area::append_span;
-use spans::span::{Span, size};
+use spans::span::{Memory, Span, size};
+use text::part::Rows;
 
 // A limit of document 01 on reading is passed.
 #[derive(Clone, Copy, Debug, PartialEq, Eq)]
 pub struct Full;
 
-// Writes n bytes of a written word from `at` on, and returns where they end.
+// Writes n bytes of a written word from `at` on, and returns where they end. Bytes between them are dropped, so that no `copy_from_slice` writes it.
 fn copy(body: &[u8], at: usize, n: usize, quoted: bool, area: &mut [u8], o: usize) -> usize
     requires { (n ≤ length (written quoted (drop at body.now))) × (o + n ≤ length area.old) }
     ensures { Wrote area.old area.new o (take n (written quoted (drop at body.now))) result }
@@ -63,7 +64,13 @@ fn put_value(
     requires { (m ≤ o) × ((o ≤ limit) × (limit ≤ length area.old)) }
     ensures { Puts area.old area.new o limit (bytes (files.now ++ take m area.old) s) result }
 {
-    let n = size(files, &area[..m], s);
+    let n = size(
+        &Memory {
+            files,
+            area: &area[..m],
+        },
+        s,
+    );
     if limit - o < n {
         return Err(Full);
     }
@@ -73,8 +80,7 @@ fn put_value(
 // Writes what stands for the piece p of a written word at i: the value of its name, or the piece as written.
 fn put_piece(
     files: &[u8],
-    vars: &[u32],
-    n: usize,
+    vars: &Rows,
     body: &[u8],
     quoted: bool,
     i: usize,
@@ -85,9 +91,19 @@ fn put_piece(
     limit: usize,
 ) -> Result<usize, Full>
     requires { IsPiece quoted body.now (i + 1) (written quoted (drop i body.now)) p × ((m ≤ o) × ((o ≤ limit) × (limit ≤ length area.old))) }
-    ensures { Puts area.old area.new o limit (image (variables (files.now ++ take m area.old) vars.now n) (written quoted (drop i body.now))) result }
+    ensures { Puts area.old area.new o limit (image (variables (files.now ++ take m area.old) vars.now.rows.now vars.now.n) (written quoted (drop i body.now))) result }
 {
-    match lookup(files, &area[..m], vars, n, body, p.from, p.name, quoted) {
+    match lookup(
+        &Memory {
+            files,
+            area: &area[..m],
+        },
+        vars,
+        body,
+        p.from,
+        p.name,
+        quoted,
+    ) {
         None => put_written(body, i, p.size, quoted, area, o, limit),
         Some(s) => put_value(files, area, m, s, o, limit),
     }
@@ -96,8 +112,7 @@ fn put_piece(
 // Writes a written word with its variables substituted to the area from `at` on, up to a limit. The variables lie in the files or before m in the area.
 pub fn substitute(
     files: &[u8],
-    vars: &[u32],
-    n: usize,
+    vars: &Rows,
     body: &[u8],
     quoted: bool,
     area: &mut [u8],
@@ -106,14 +121,14 @@ pub fn substitute(
     limit: usize,
 ) -> Result<usize, Full>
     requires { (m ≤ at) × ((at ≤ limit) × (limit ≤ length area.old)) }
-    ensures { Puts area.old area.new at limit (Substitution·substitute (variables (files.now ++ take m area.old) vars.now n) (written quoted body.now)) result }
+    ensures { Puts area.old area.new at limit (Substitution·substitute (variables (files.now ++ take m area.old) vars.now.rows.now vars.now.n) (written quoted body.now)) result }
 {
     let mut i = 0;
     let mut o = at;
     // Counted by hand: the place moves on by a whole piece, so an iterator is no plainer.
     while i < body.len() {
         let p = next_piece(body, i, quoted);
-        o = put_piece(files, vars, n, body, quoted, i, p, area, m, o, limit)?;
+        o = put_piece(files, vars, body, quoted, i, p, area, m, o, limit)?;
         i = p.end;
     }
     Ok(o)

@@ -5,10 +5,11 @@ ghost use Rattle.spans.specs.Span.{bytes, found_of};
 ghost use Rattle.tcl.specs.Substitution.{known as Substitution·known, lookup as Substitution·lookup};
 ghost use Rattle.substitution.specs.Written.{written};
 ghost use Rattle.substitution.specs.Stored.{name_at, value_at, variables};
+ghost use Rattle.spans.specs.Memory.{memory};
 
 use super::written::dropped;
-use spans::span::{Span, first, is, pair};
-use text::part::part;
+use spans::span::{Memory, Span, first, is, pair};
+use text::part::{Rows, part};
 
 // The name of variable k.
 pub fn name_of(vars: &[u32], k: usize) -> Span
@@ -31,21 +32,13 @@ pub fn value_of(vars: &[u32], k: usize) -> Span
 }
 
 // Whether `size` bytes of a written word from `at` on are the string s, byte by byte.
-fn is_written(
-    files: &[u8],
-    known: &[u8],
-    s: Span,
-    body: &[u8],
-    at: usize,
-    size: usize,
-    quoted: bool,
-) -> bool
-    ensures { result ≡ same (take size (written quoted (drop at body.now))) (bytes (files.now ++ known.now) s) }
+fn is_written(mem: &Memory, s: Span, body: &[u8], at: usize, size: usize, quoted: bool) -> bool
+    ensures { result ≡ same (take size (written quoted (drop at body.now))) (bytes (memory mem.now) s) }
 {
     let mut i = at;
     let mut left = size;
     let mut x = s;
-    while let Some((b, u)) = first(files, known, x) {
+    while let Some((b, u)) = first(mem, x) {
         if (left == 0) | (body.len() <= i) {
             return false;
         }
@@ -63,38 +56,35 @@ fn is_written(
 
 // Whether `size` bytes of a written word from `at` on are the string s.
 pub fn is_name<'a>(
-    files: &'a [u8],
-    known: &'a [u8],
+    mem: &Memory<'a>,
     s: Span,
     body: &[u8],
     at: usize,
     size: usize,
     quoted: bool,
 ) -> bool
-    ensures { result ≡ same (take size (written quoted (drop at body.now))) (bytes (files.now ++ known.now) s) }
+    ensures { result ≡ same (take size (written quoted (drop at body.now))) (bytes (memory mem.now) s) }
 {
     if quoted {
-        return is_written(files, known, s, body, at, size, quoted);
+        return is_written(mem, s, body, at, size, quoted);
     }
-    is(files, known, s, part(body, at, size))
+    is(mem, s, part(body, at, size))
 }
 
 // The value of the last of the first n variables that has this name.
 fn last<'a>(
-    files: &'a [u8],
-    known: &'a [u8],
-    vars: &[u32],
-    n: usize,
+    mem: &Memory<'a>,
+    vars: &Rows,
     body: &[u8],
     at: usize,
     size: usize,
     quoted: bool,
 ) -> Option<Span>
-    ensures { found_of (files.now ++ known.now) result ≡ Substitution·lookup (variables (files.now ++ known.now) vars.now n) (take size (written quoted (drop at body.now))) }
+    ensures { found_of (memory mem.now) result ≡ Substitution·lookup (variables (memory mem.now) vars.now.rows.now vars.now.n) (take size (written quoted (drop at body.now))) }
 {
-    for k in (0..n).rev() {
-        if is_name(files, known, name_of(vars, k), body, at, size, quoted) {
-            return Some(value_of(vars, k));
+    for k in (0..vars.n).rev() {
+        if is_name(mem, name_of(vars.rows, k), body, at, size, quoted) {
+            return Some(value_of(vars.rows, k));
         }
     }
     None
@@ -102,19 +92,17 @@ fn last<'a>(
 
 // The value of a name: none of an unknown or empty one.
 pub fn lookup<'a>(
-    files: &'a [u8],
-    known: &'a [u8],
-    vars: &[u32],
-    n: usize,
+    mem: &Memory<'a>,
+    vars: &Rows,
     body: &[u8],
     at: usize,
     size: usize,
     quoted: bool,
 ) -> Option<Span>
-    ensures { found_of (files.now ++ known.now) result ≡ Substitution·known (variables (files.now ++ known.now) vars.now n) (take size (written quoted (drop at body.now))) }
+    ensures { found_of (memory mem.now) result ≡ Substitution·known (variables (memory mem.now) vars.now.rows.now vars.now.n) (take size (written quoted (drop at body.now))) }
 {
     if (size == 0) | (body.len() <= at) {
         return None;
     }
-    last(files, known, vars, n, body, at, size, quoted)
+    last(mem, vars, body, at, size, quoted)
 }

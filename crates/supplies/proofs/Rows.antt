@@ -24,7 +24,9 @@ use Rattle.entries.specs.Loops.{entries_none, entries_first}
 use Rattle.entries.specs.declared.item.Item.{Item}
 use Rattle.names.specs.Scoped.{scoped}
 use Rattle.names.specs.Name.{name_of, name_end, Makes}
+use Rattle.names.specs.declared.name.Form.TheVariants.{Word}
 use Rattle.names.specs.declared.name.Name.{Name}
+use Rattle.names.specs.declared.name.Form.{Form}
 use Rattle.listnames.specs.Lists.{form_of, Whole, Known, whole_by}
 use Rattle.listnames.specs.Inside.{inside_fits, inside_is}
 use Rattle.model.specs.Records.{Connection}
@@ -41,7 +43,7 @@ use Rattle.supplies.specs.Nets.{is_below, Reads, Connects, Rowed}
 
 -- ---- a stored name
 
-pub name_known : (mem : Bytes) (b : Below) (s w : Span) (r : Name) → Makes mem s w 0 r → s ≡ span_of b.scope → w ≡ span_of b.word → Known mem (below_of mem b) (of_below end_of b) r
+pub name_known : (mem : Bytes) (b : Below) (s w : Span) (r : Name) → Makes mem s w Word r → s ≡ span_of b.scope → w ≡ span_of b.word → Known mem (below_of mem b) (of_below end_of b) r
 name_known mem b s w r m es ew = record { is = m.is ∙ rw (es, ew); ends = let h : name_end r ≤ max (s.at + s.len) (w.at + w.len) = m.ends in rw (es, ew) at h }
 
 -- ---- whether a name is an entry below a scope
@@ -68,7 +70,7 @@ module _ (mem : Bytes) (scope : Span) (p : Name) (text : Bytes) (w : Bool) (at :
     pub tests_inside : v.at + i.entry.at < 2 ^ 64
     tests_inside = inside_fits mem v text reads.is (entries_left first (drop at text)) r f i.entry i.quoted i.next h reads.small
 
-    module _ (u : Span) (eu : u ≡ (v.at + i.entry.at) ⋯ i.entry.len) (form : ℕ) (ef : form ≡ form_of i.quoted) (x : Name) (m : Makes mem scope u form x) (t : Bool) (et : t ≡ same (name_of mem x) (name_of mem p)) where
+    module _ (u : Span) (eu : u ≡ (v.at + i.entry.at) ⋯ i.entry.len) (form : Form) (ef : form ≡ form_of i.quoted) (x : Name) (m : Makes mem scope u form x) (t : Bool) (et : t ≡ same (name_of mem x) (name_of mem p)) where
       left_is : any (is_below mem scope p) (entries_left first (drop at text)) ≡ t || any (is_below mem scope p) (entries_left false (drop i.next text))
       left_is =
           let y : Bytes = entry_bytes i.quoted (bytes text i.entry) in
@@ -126,7 +128,7 @@ module _ (files area : Bytes) (r : Row) (net : Name) (c : Connects files area r 
       unfolding connections_of
       net_is_lem = rw (eq-eqb r.kind 1 k, et, es, ev) (net_any (string (files ++ area) r.scope) (name_of (files ++ area) p) (scoped (string (files ++ area) r.scope) (string (files ++ area) r.name)) (name_of (files ++ area) net) (list (string (files ++ area) r.value)))
 
-      pub row_yes : (w : Span) (x : Name) → Makes (files ++ area) s w 0 x → w ≡ span_of r.name → t ≡ true → Known (files ++ area) (net_of (connections_of (files ++ area) r) (name_of (files ++ area) p) (name_of (files ++ area) net)) (length (files ++ area)) x
+      pub row_yes : (w : Span) (x : Name) → Makes (files ++ area) s w Word x → w ≡ span_of r.name → t ≡ true → Known (files ++ area) (net_of (connections_of (files ++ area) r) (name_of (files ++ area) p) (name_of (files ++ area) net)) (length (files ++ area)) x
       row_yes w x m ew g =
           let a : reach_of (length files) r.scope ≤ length (files ++ area) = scope_far (length files) (length (files ++ area)) r k c.strings in
           let b : reach_of (length files) r.name ≤ length (files ++ area) = name_far (length files) (length (files ++ area)) r c.strings in

@@ -15,6 +15,7 @@ use Rattle.refs.specs.Text.{whole_ref}
 use Rattle.refs.specs.declared.Ref.{Ref}
 use Rattle.texts.specs.Supplies.{unrooted, net_block, net_blocks, supply_nets}
 use Rattle.model.specs.Records.{no_records, with_nets}
+use Rattle.format.specs.declared.arg.Wrap.{Wrap}
 use Rattle.format.specs.Args.{arg_of, rooted, wrapped_arg, name_arg, fixed_arg}
 use Rattle.format.specs.Laws.{name_arg_lem, rooted_name, dots_name, top_arg}
 use Rattle.format.specs.declared.arg.Arg.{Arg}
@@ -22,7 +23,7 @@ use Rattle.supplies.specs.Seen.{case_of, nets_setting, nets_only}
 
 -- ---- one net
 
-module _ (job mem : Bytes) (scope : List Bytes) (top t : Bytes) (o o' : Out) (n : Name) (a b : Arg) (w : Ref) (ea : a ≡ name_arg n) (eb : b ≡ wrapped_arg 2 w) (ew : w ≡ whole_ref n) where
+module _ (job mem : Bytes) (scope : List Bytes) (top t : Bytes) (o o' : Out) (n : Name) (a b : Arg) (w : Ref) (ea : a ≡ name_arg n) (eb : b ≡ wrapped_arg Wrap.Rooted w) (ew : w ≡ whole_ref n) where
   path_is : arg_of job mem scope top b ≡ rooted top scope (name_of mem n)
   path_is = rw (eb, ew) (rooted_name job mem scope top n)
 
@@ -32,7 +33,7 @@ module _ (job mem : Bytes) (scope : List Bytes) (top t : Bytes) (o o' : Out) (n 
   pub block_is : o' ≡ emit o (fill t (arg_of job mem scope top a) (arg_of job mem scope top b) [] [] []) → o' ≡ emit o (fill t (name_of mem n) (rooted top scope (name_of mem n)) [] [] [])
   block_is e = rw (name_is, path_is) at e
 
-  pub case_is : (c d : Arg) (v : Ref) → o' ≡ emit o (fill t (arg_of job mem scope top a) (arg_of job mem scope top b) (arg_of job mem scope top c) (arg_of job mem scope top d) []) → c ≡ wrapped_arg 3 v → v ≡ whole_ref n → d ≡ fixed_arg 4 → o' ≡ emit o (case_of t top scope (name_of mem n))
+  pub case_is : (c d : Arg) (v : Ref) → o' ≡ emit o (fill t (arg_of job mem scope top a) (arg_of job mem scope top b) (arg_of job mem scope top c) (arg_of job mem scope top d) []) → c ≡ wrapped_arg Wrap.Dots v → v ≡ whole_ref n → d ≡ fixed_arg Wrap.Top → o' ≡ emit o (case_of t top scope (name_of mem n))
   case_is c d v e ec ev ed =
       let x : arg_of job mem scope top c ≡ dotted (unrooted (rooted top scope (name_of mem n))) = rw (ec, ev) (dots_name job mem scope top n) in
       let y : arg_of job mem scope top d ≡ top = rw ed (top_arg job mem scope top _) in

@@ -15,6 +15,7 @@ use Rattle.tcl.specs.Lists.{list}
 use Rattle.names.specs.Name.{name_of}
 use Rattle.names.specs.declared.name.Name.{Name}
 use Rattle.names.specs.Frame.{alone_is}
+use Rattle.names.specs.declared.name.Form.TheVariants.{Word}
 use Rattle.nametable.specs.Table.{row_name, names_from, table_names, names_next}
 use Rattle.listnames.specs.Lists.{nth_below, Whole, Known, whole_by, supply_net_lem}
 use Rattle.design.specs.Paths.{element_path}
@@ -40,7 +41,7 @@ use Rattle.clamps.specs.Values.{stored_name}
 -- ---- arguments
 
 pub arg_string : (mem : Bytes) (s : Stored) (r : Arg) (x : Name) → r ≡ name_arg x → x ≡ stored_name s → ArgIs mem (string mem s) r
-arg_string mem s r x e ex = record { is = λ job scope top. rw (e, ex) (name_arg_lem job mem scope top (stored_name s) ∙ alone_is mem (span_of s) 0) }
+arg_string mem s r x e ex = record { is = λ job scope top. rw (e, ex) (name_arg_lem job mem scope top (stored_name s) ∙ alone_is mem (span_of s) Word) }
 
 pub arg_net : (mem : Bytes) (scope v : Stored) (r : Arg) (x : Name) (s u : Span) (end : ℕ) → r ≡ name_arg x → Known mem (nth_below (bytes mem s) 1 (list (bytes mem u))) end x → s ≡ span_of scope → u ≡ span_of v → ArgIs mem (nth_below (string mem scope) 1 (list (string mem v))) r
 arg_net mem scope v r x s u end e k es eu = record { is = λ job sc top. rw e (name_arg_lem job mem sc top x ∙ k.is ∙ rw (es, eu)) }

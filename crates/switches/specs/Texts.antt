@@ -6,6 +6,8 @@ use mathlib.Core.List.{List, [], ◌∷◌, ◌++◌, map, flat_map}
 use Rattle.text.specs.Ascii.{Bytes, ascii}
 use Rattle.text.specs.Compare.{same}
 use Rattle.out.specs.Emit.{Out, emit, ◌⊕◌}
+use Rattle.out.specs.Text.{shown, SameRoom}
+use Rattle.out.specs.declared.emit.Text.{Text}
 use Rattle.out.specs.Fill.{format1, format2, format3, format4}
 use Rattle.out.specs.Items.{each, joined}
 use Rattle.names.specs.Name.{name_of}
@@ -70,6 +72,10 @@ pub record Told (most : ℕ) (o : Out) (n : ℕ) (ws : List Bytes) (o' : Out) (n
   pub text : o' ≡ emit o (each warning_line ws)
   pub count : n' ≡ n + length ws
   pub few : n' ≤ n + most
+
+-- the same of texts that are being written
+abbrev pub Tells : ℕ → Text → ℕ → List Bytes → Text → ℕ → Type 0
+Tells most t n ws t' n' = SameRoom t t' × Told most (shown t) n ws (shown t') n'
 
 -- ---- of every setting with that scope
 

@@ -17,6 +17,7 @@ use Rattle.tcl.specs.Lists.{list}
 use Rattle.names.specs.Name.{name_of}
 use Rattle.names.specs.declared.name.Name.{Name}
 use Rattle.names.specs.Frame.{alone_is}
+use Rattle.names.specs.declared.name.Form.TheVariants.{Word}
 use Rattle.nametable.specs.Table.{table_names}
 use Rattle.listnames.specs.Lists.{Whole, Known, whole_by, supply_port}
 use Rattle.format.specs.Args.{arg_of, name_arg}
@@ -49,7 +50,7 @@ port_pieces o x y z = simp emit_fill
 
 pub port_told : (job mem : Bytes) (scope : List Bytes) (top : Bytes) (s : Stored) (port expected : Name) (o o' : Out) (n : ℕ) (a b c : Arg) (x : Name) → o' ≡ emit o (fill (ascii "warning: power switch '{0}': on_state uses input port '{1}' (expected '{2}')\n") (arg_of job mem scope top a) (arg_of job mem scope top b) (arg_of job mem scope top c) [] []) → a ≡ name_arg x → x ≡ stored_name s → b ≡ name_arg port → c ≡ name_arg expected → Told 1 o n (format3 "power switch '{0}': on_state uses input port '{1}' (expected '{2}')" (string mem s) (name_of mem port) (name_of mem expected) ∷ []) o' (n + 1)
 port_told job mem scope top s port expected o o' n a b c x e ea ex eb ec =
-    let p : arg_of job mem scope top a ≡ string mem s = rw (ea, ex) (name_arg_lem job mem scope top (stored_name s) ∙ alone_is mem (span_of s) 0) in
+    let p : arg_of job mem scope top a ≡ string mem s = rw (ea, ex) (name_arg_lem job mem scope top (stored_name s) ∙ alone_is mem (span_of s) Word) in
     let q : arg_of job mem scope top b ≡ name_of mem port = rw eb (name_arg_lem job mem scope top port) in
     let r : arg_of job mem scope top c ≡ name_of mem expected = rw ec (name_arg_lem job mem scope top expected) in
     told_one o o' n (format3 "power switch '{0}': on_state uses input port '{1}' (expected '{2}')" (string mem s) (name_of mem port) (name_of mem expected)) ((rw (p, q, r) at e) ∙ port_pieces o (string mem s) (name_of mem port) (name_of mem expected))

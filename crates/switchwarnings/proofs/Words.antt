@@ -11,7 +11,7 @@ use borrow.Author.Tests.{eq-eqb, ne_eqb}
 use Rattle.text.specs.Ascii.{Bytes, ascii}
 use Rattle.text.specs.Classes.{is_digit, is_variable}
 use Rattle.text.specs.Scan.{all, before}
-use Rattle.out.specs.Emit.{Out, emit, emit_append, wrote, kept}
+use Rattle.out.specs.Emit.{Out, emit, emit_append}
 use Rattle.out.specs.Fill.{fill, format1, arg, pick, turns, writes, emit_fill}
 use Rattle.out.specs.Items.{each, each_none}
 use Rattle.tcl.specs.Substitution.{no_variable}
@@ -23,6 +23,7 @@ use Rattle.refs.specs.Text.{text_of, front_ref}
 use Rattle.refs.specs.Laws.{front_is}
 use Rattle.refs.specs.declared.Ref.{Ref}
 use Rattle.design.specs.Paths.{element_path}
+use Rattle.format.specs.declared.arg.Wrap.{Wrap}
 use Rattle.format.specs.Args.{arg_of, wrapped_arg}
 use Rattle.format.specs.Laws.{plain_arg}
 use Rattle.format.specs.declared.arg.Arg.{Arg}
@@ -52,10 +53,6 @@ told_then a b c o o₁ o₂ n n₁ n₂ ws vs p q h =
       few = omega (arith, p.few, q.few);
     }
 
--- the buffer is as long as it was
-pub told_long : (most : ℕ) (o : Out) (n : ℕ) (ws : List Bytes) (o' : Out) (n' : ℕ) → Told most o n ws o' n' → length o'.bytes ≡ length o.bytes
-told_long most o n ws o' n' t = kept (wrote t.text)
-
 pub more_fits : (n : ℕ) → n ≤ 2 ^ 62 → n + 1 < 2 ^ 64
 more_fits n h = omega arith
 
@@ -84,7 +81,7 @@ module _ (job mem : Bytes) (scope : List Bytes) (table : List ℕ) (count k : �
     pub warn_number : t ≡ true → Told 1 o n (unless_known (signal_of (scope_setting scope) (controls_of (table_names mem table count)) (take k (name_of mem x)) None) (take k (name_of mem x))) o n
     warn_number d = rw (no_signal_lem, ← et, d) (told_none 1 o n)
 
-    pub warn_unknown : (top : Bytes) (o' : Out) (a : Arg) → o' ≡ emit o (fill (ascii "warning: power switch state uses unknown control port '{0}'\n") (arg_of job mem scope top a) [] [] [] []) → a ≡ wrapped_arg 0 w → t ≡ false → Told 1 o n (unless_known (signal_of (scope_setting scope) (controls_of (table_names mem table count)) (take k (name_of mem x)) None) (take k (name_of mem x))) o' (n + 1)
+    pub warn_unknown : (top : Bytes) (o' : Out) (a : Arg) → o' ≡ emit o (fill (ascii "warning: power switch state uses unknown control port '{0}'\n") (arg_of job mem scope top a) [] [] [] []) → a ≡ wrapped_arg Wrap.Plain w → t ≡ false → Told 1 o n (unless_known (signal_of (scope_setting scope) (controls_of (table_names mem table count)) (take k (name_of mem x)) None) (take k (name_of mem x))) o' (n + 1)
     warn_unknown top o' a e ea d =
         let z : arg_of job mem scope top a ≡ take k (name_of mem x) = rw ea (plain_arg job mem scope top w ∙ port_is) in
         rw (no_signal_lem, ← et, d) (told_one o o' n (format1 "power switch state uses unknown control port '{0}'" (take k (name_of mem x))) (e ∙ ap (λ (y : Bytes). emit o (fill (ascii "warning: power switch state uses unknown control port '{0}'\n") y [] [] [] [])) z ∙ word_pieces o (take k (name_of mem x))))

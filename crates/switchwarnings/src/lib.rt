@@ -2,10 +2,8 @@
 #![tactic(auto)]
 
 ghost use mathlib.Core.List.{[], ◌∷◌, ◌++◌, map, flat_map};
-ghost use Rattle.std.specs.Prelude.{None, true, ◌≡◌, ◌≤◌, ◌<◌, ◌^◌, length, take};
-ghost use Rattle.out.specs.Emit.{◌▸◌, emit};
-ghost use Rattle.out.specs.Fill.{format3, fill, is_template};
-ghost use Rattle.format.specs.Args.{arg_of};
+ghost use Rattle.std.specs.Prelude.{None, ◌≤◌, ◌<◌, ◌^◌, length, take};
+ghost use Rattle.out.specs.Fill.{format3};
 ghost use Rattle.spans.specs.Span.{bytes};
 ghost use Rattle.tcl.specs.Lists.{list};
 ghost use Rattle.names.specs.Name.{name_of};
@@ -17,14 +15,18 @@ ghost use Rattle.store.specs.View.{on_of};
 ghost use Rattle.texts.specs.Switches.{signal_of, unless_known, unknowns, on_warnings};
 ghost use Rattle.conditions.specs.Controls.{scope_setting};
 ghost use Rattle.switches.specs.Words.{ons_from, switch_in};
-ghost use Rattle.switches.specs.Texts.{Told, on_remarks, remarks};
+ghost use Rattle.switches.specs.Texts.{Tells, on_remarks, remarks};
 ghost use Rattle.switches.specs.Asked.{OfSwitch, OfSwitches, Controlled};
 ghost use Rattle.switchwarnings.specs.Asked.{Reads};
+ghost use Rattle.spans.specs.Memory.{memory};
+ghost use Rattle.scope.specs.Path.{path_of};
+ghost use Rattle.nametable.specs.Names.{names_in};
 
 use clamps::stored;
 use conditions::{behind, control, is_number, word_size};
-use format::arg::{Arg, name, wrapped};
+use format::arg::{Wrap, name, wrapped};
 use format::fill::{fill1, fill3};
+use format::source::Source;
 use listnames::{entries, nth};
 use names::compare::same_names;
 use names::name::{Name, next};
@@ -32,296 +34,152 @@ use out::emit::Text;
 use refs::front;
 use spans::span::Span;
 use store::state::{Few, Switch};
-use store::stored::{Stored, span};
+use store::stored::Stored;
 use store::word::word_at;
 use text::class::is_variable;
-use text::part::wide;
+use text::part::{Rows, wide};
 
-// Where the report ends, and how many warnings there are.
-#[derive(Clone, Copy)]
-pub struct Warned {
-    pub at: usize,
-    pub count: usize,
-}
-
-// Writes the template t with an argument in its places into out behind `at`.
-fn put1(
-    out: &mut [u8],
-    at: usize,
-    t: &[u8],
-    job: &[u8],
-    files: &[u8],
-    area: &[u8],
-    over: &[u8],
-    from: usize,
-    top: &[u8],
-    a: Arg,
-) -> usize
-    requires { is_template 1 t.now ≡ true }
-    ensures { out.new ▸ result ≡ emit (out.old ▸ at) (fill t.now (arg_of job.now (files.now ++ area.now) (parts over.now from) top.now a) [] [] [] []) }
-{
-    let mut to = Text::over(out, at);
-    fill1(&mut to, t, job, files, area, over, from, top, a);
-    to.end()
-}
-
-// Writes the template t with three arguments in its places into out behind `at`.
-fn put3(
-    out: &mut [u8],
-    at: usize,
-    t: &[u8],
-    job: &[u8],
-    files: &[u8],
-    area: &[u8],
-    over: &[u8],
-    from: usize,
-    top: &[u8],
-    a: Arg,
-    b: Arg,
-    c: Arg,
-) -> usize
-    requires { is_template 3 t.now ≡ true }
-    ensures { out.new ▸ result ≡ emit (out.old ▸ at) (fill t.now (arg_of job.now (files.now ++ area.now) (parts over.now from) top.now a) (arg_of job.now (files.now ++ area.now) (parts over.now from) top.now b) (arg_of job.now (files.now ++ area.now) (parts over.now from) top.now c) [] []) }
-{
-    let mut to = Text::over(out, at);
-    fill3(&mut to, t, job, files, area, over, from, top, a, b, c);
-    to.end()
-}
-
-// The warning about a word of k bytes, where there is one.
+// Writes the warning about a word of k bytes, where there is one, behind `count` others: how many there are then.
 fn word_warning<'a>(
-    out: &mut [u8],
-    at: Warned,
-    job: &[u8],
-    files: &'a [u8],
-    area: &'a [u8],
-    over: &[u8],
-    from: usize,
-    top: &[u8],
-    controls: &[u32],
+    to: &mut Text,
     count: usize,
+    src: &Source<'a>,
+    controls: &Rows,
     x: Name,
     k: usize,
-) -> Warned
-    requires { (count ≤ 65536) × (at.count ≤ 2 ^ 62) }
-    ensures { Told (1) (out.old ▸ at.at) at.count (unless_known (signal_of (scope_setting (parts over.now from)) (controls_of (table_names (files.now ++ area.now) controls.now count)) (take k (name_of (files.now ++ area.now) x)) None) (take k (name_of (files.now ++ area.now) x))) (out.new ▸ result.at) result.count }
+) -> usize
+    requires { (controls.now.n ≤ 65536) × (count ≤ 2 ^ 62) }
+    ensures { Tells 1 to.old count (unless_known (signal_of (scope_setting (path_of src.now.scope)) (controls_of (names_in (memory src.now.mem) controls.now)) (take k (name_of (memory src.now.mem) x)) None) (take k (name_of (memory src.now.mem) x))) to.new result }
 {
     let w = front(x, k);
-    let r = control(job, files, area, controls, count, w);
+    let r = control(src.design.index.job, &src.mem, controls, w);
     if r != 0 {
-        return at;
+        return count;
     }
-    if is_number(files, area, x, k) {
-        return at;
+    if is_number(&src.mem, x, k) {
+        return count;
     }
-    let p = put1(
-        out,
-        at.at,
+    fill1(
+        to,
         b"warning: power switch state uses unknown control port '{0}'\n",
-        job,
-        files,
-        area,
-        over,
-        from,
-        top,
-        wrapped(0, w),
+        src,
+        wrapped(Wrap::Plain, w),
     );
-    Warned {
-        at: p,
-        count: at.count + 1,
-    }
+    count + 1
 }
 
-// The warnings about a condition.
+// Writes the warnings about a condition.
 fn condition_warnings<'a>(
-    out: &mut [u8],
-    at: Warned,
-    job: &[u8],
-    files: &'a [u8],
-    area: &'a [u8],
-    over: &[u8],
-    from: usize,
-    top: &[u8],
-    controls: &[u32],
+    to: &mut Text,
     count: usize,
+    src: &Source<'a>,
+    controls: &Rows,
     e: Name,
-) -> Warned
-    requires { (length (files.now ++ area.now) < 2 ^ 32) × ((count ≤ 65536) × (at.count ≤ 2 ^ 61)) }
-    ensures { Told (2 ^ 34) (out.old ▸ at.at) at.count (unknowns (scope_setting (parts over.now from)) (controls_of (table_names (files.now ++ area.now) controls.now count)) 0 (name_of (files.now ++ area.now) e)) (out.new ▸ result.at) result.count }
+) -> usize
+    requires { (length (memory src.now.mem) < 2 ^ 32) × ((controls.now.n ≤ 65536) × (count ≤ 2 ^ 61)) }
+    ensures { Tells (2 ^ 34) to.old count (unknowns (scope_setting (path_of src.now.scope)) (controls_of (names_in (memory src.now.mem) controls.now)) 0 (name_of (memory src.now.mem) e)) to.new result }
 {
-    let mut o = at;
+    let mut told = count;
     let mut x = e;
-    while let Some((b, u)) = next(files, area, x) {
+    while let Some((b, u)) = next(&src.mem, x) {
         if is_variable(b) {
-            let k = word_size(files, area, x);
-            o = word_warning(
-                out, o, job, files, area, over, from, top, controls, count, x, k,
-            );
-            x = behind(files, area, x, k);
+            let k = word_size(&src.mem, x);
+            told = word_warning(to, told, src, controls, x, k);
+            x = behind(&src.mem, x, k);
             continue;
         }
         x = u;
     }
-    o
+    told
 }
 
-// The warning about another port than the input's.
+// Writes the warning about another port than the input's.
 fn port_warning(
-    out: &mut [u8],
-    at: Warned,
-    job: &[u8],
-    files: &[u8],
-    area: &[u8],
-    over: &[u8],
-    from: usize,
-    top: &[u8],
+    to: &mut Text,
+    count: usize,
+    src: &Source,
     named: Stored,
     port: Name,
     expected: Name,
-) -> Warned
-    requires { at.count ≤ 2 ^ 62 }
-    ensures { Told (1) (out.old ▸ at.at) at.count (format3 "power switch '{0}': on_state uses input port '{1}' (expected '{2}')" (string (files.now ++ area.now) named) (name_of (files.now ++ area.now) port) (name_of (files.now ++ area.now) expected) ∷ []) (out.new ▸ result.at) result.count }
+) -> usize
+    requires { count ≤ 2 ^ 62 }
+    ensures { Tells 1 to.old count (format3 "power switch '{0}': on_state uses input port '{1}' (expected '{2}')" (string (memory src.now.mem) named) (name_of (memory src.now.mem) port) (name_of (memory src.now.mem) expected) ∷ []) to.new result }
 {
-    let p = put3(
-        out,
-        at.at,
+    fill3(
+        to,
         b"warning: power switch '{0}': on_state uses input port '{1}' (expected '{2}')\n",
-        job,
-        files,
-        area,
-        over,
-        from,
-        top,
+        src,
         name(stored(named)),
         name(port),
         name(expected),
     );
-    Warned {
-        at: p,
-        count: at.count + 1,
-    }
+    count + 1
 }
 
-// The warnings about an on-state of a switch.
+// Writes the warnings about an on-state of a switch.
 fn state_warnings<'a>(
-    out: &mut [u8],
-    at: Warned,
-    job: &[u8],
-    files: &'a [u8],
-    area: &'a [u8],
-    over: &[u8],
-    from: usize,
-    top: &[u8],
-    controls: &[u32],
+    to: &mut Text,
     count: usize,
+    src: &Source<'a>,
+    controls: &Rows,
     w: Switch,
     v: Span,
-) -> Warned
-    requires { Reads files.now area.now count w v at.count }
-    ensures { Told (2 ^ 35) (out.old ▸ at.at) at.count (on_remarks (scope_setting (parts over.now from)) (string (files.now ++ area.now) w.name) (Commands·nth 0 (list (string (files.now ++ area.now) w.input))) (controls_of (table_names (files.now ++ area.now) controls.now count)) (on_of (bytes (files.now ++ area.now) v))) (out.new ▸ result.at) result.count }
+) -> usize
+    requires { Reads src.now.mem.files.now src.now.mem.area.now controls.now.n w v count }
+    ensures { Tells (2 ^ 35) to.old count (on_remarks (scope_setting (path_of src.now.scope)) (string (memory src.now.mem) w.name) (Commands·nth 0 (list (string (memory src.now.mem) w.input))) (controls_of (names_in (memory src.now.mem) controls.now)) (on_of (bytes (memory src.now.mem) v))) to.new result }
 {
     let input = w.input;
     let named = w.name;
-    let port = nth(files, area, v, 1);
-    let expected = nth(files, area, span(input), 0);
-    let e = nth(files, area, v, 2);
-    if same_names(files, area, port, expected) {
-        return condition_warnings(
-            out, at, job, files, area, over, from, top, controls, count, e,
-        );
+    let port = nth(&src.mem, v, 1);
+    let expected = nth(&src.mem, Span::from(input), 0);
+    let e = nth(&src.mem, v, 2);
+    if same_names(&src.mem, port, expected) {
+        return condition_warnings(to, count, src, controls, e);
     }
-    let o = port_warning(
-        out, at, job, files, area, over, from, top, named, port, expected,
-    );
-    condition_warnings(
-        out, o, job, files, area, over, from, top, controls, count, e,
-    )
+    let told = port_warning(to, count, src, named, port, expected);
+    condition_warnings(to, told, src, controls, e)
 }
 
-// The warnings about all on-states of a switch whose control ports are in a table.
+// Writes the warnings about all on-states of a switch whose control ports are in a table.
 fn ons_warnings<'a>(
-    out: &mut [u8],
-    at: Warned,
-    job: &[u8],
-    files: &'a [u8],
-    area: &'a [u8],
-    nums: &[u32],
-    over: &[u8],
-    from: usize,
-    top: &[u8],
-    controls: &[u32],
+    to: &mut Text,
     count: usize,
+    src: &Source<'a>,
+    controls: &Rows,
     w: Switch,
-) -> Warned
-    requires { OfSwitch files.now area.now nums.now w × (Controlled (files.now ++ area.now) w controls.now count × (at.count ≤ 2 ^ 59)) }
-    ensures { Told (2 ^ 48) (out.old ▸ at.at) at.count (flat_map (on_remarks (scope_setting (parts over.now from)) (string (files.now ++ area.now) w.name) (Commands·nth 0 (list (string (files.now ++ area.now) w.input))) (controls_of (table_names (files.now ++ area.now) controls.now count))) (ons_from (files.now ++ area.now) nums.now w.first w.ons)) (out.new ▸ result.at) result.count }
+) -> usize
+    requires { OfSwitch src.now.mem.files.now src.now.mem.area.now src.now.design.index.rows.now w × (Controlled (memory src.now.mem) w controls.now.rows.now controls.now.n × (count ≤ 2 ^ 59)) }
+    ensures { Tells (2 ^ 48) to.old count (flat_map (on_remarks (scope_setting (path_of src.now.scope)) (string (memory src.now.mem) w.name) (Commands·nth 0 (list (string (memory src.now.mem) w.input))) (controls_of (names_in (memory src.now.mem) controls.now))) (ons_from (memory src.now.mem) src.now.design.index.rows.now w.first w.ons)) to.new result }
 {
     let first = wide(w.first);
     let n = wide(w.ons);
-    let mut o = at;
+    let mut told = count;
     for k in 0..n {
-        let v = word_at(nums, first + k);
-        o = state_warnings(
-            out,
-            o,
-            job,
-            files,
-            area,
-            over,
-            from,
-            top,
-            controls,
-            count,
-            w,
-            span(v),
-        );
+        let v = word_at(src.design.index.rows, first + k);
+        told = state_warnings(to, told, src, controls, w, Span::from(v));
     }
-    o
+    told
 }
 
-// The warnings about a switch.
-fn of_switch<'a>(
-    out: &mut [u8],
-    at: Warned,
-    job: &[u8],
-    files: &'a [u8],
-    area: &'a [u8],
-    nums: &[u32],
-    over: &[u8],
-    from: usize,
-    top: &[u8],
-    w: Switch,
-) -> Warned
-    requires { OfSwitch files.now area.now nums.now w × (at.count ≤ 2 ^ 59) }
-    ensures { Told (2 ^ 48) (out.old ▸ at.at) at.count (flat_map (on_warnings (scope_setting (parts over.now from)) (switch_in (files.now ++ area.now) nums.now w)) (switch_in (files.now ++ area.now) nums.now w).on_states) (out.new ▸ result.at) result.count }
+// Writes the warnings about a switch.
+fn of_switch<'a>(to: &mut Text, count: usize, src: &Source<'a>, w: Switch) -> usize
+    requires { OfSwitch src.now.mem.files.now src.now.mem.area.now src.now.design.index.rows.now w × (count ≤ 2 ^ 59) }
+    ensures { Tells (2 ^ 48) to.old count (flat_map (on_warnings (scope_setting (path_of src.now.scope)) (switch_in (memory src.now.mem) src.now.design.index.rows.now w)) (switch_in (memory src.now.mem) src.now.design.index.rows.now w).on_states) to.new result }
 {
     let mut controls: [u32; 325] = [0; 325];
     let value = w.controls;
-    let count = entries(files, area, span(value), &mut controls, 0);
-    ons_warnings(
-        out, at, job, files, area, nums, over, from, top, &controls, count, w,
-    )
+    let n = entries(&src.mem, Span::from(value), &mut controls, 0);
+    ons_warnings(to, count, src, &Rows { rows: &controls, n }, w)
 }
 
-// The warnings about all switches.
-pub fn switch_warnings<'a>(
-    out: &mut [u8],
-    at: Warned,
-    job: &[u8],
-    files: &'a [u8],
-    area: &'a [u8],
-    nums: &[u32],
-    over: &[u8],
-    from: usize,
-    top: &[u8],
-    t: Few<Switch>,
-) -> Warned
-    requires { OfSwitches files.now area.now nums.now t × (at.count ≤ 2 ^ 58) }
-    ensures { Told (2 ^ 54) (out.old ▸ at.at) at.count (remarks (scope_setting (parts over.now from)) (map (switch_in (files.now ++ area.now) nums.now) (take t.n t.all))) (out.new ▸ result.at) result.count }
+// Writes the warnings about all switches behind `count` others: how many there are then.
+pub fn switch_warnings<'a>(to: &mut Text, count: usize, src: &Source<'a>, t: Few<Switch>) -> usize
+    requires { OfSwitches src.now.mem.files.now src.now.mem.area.now src.now.design.index.rows.now t × (count ≤ 2 ^ 58) }
+    ensures { Tells (2 ^ 54) to.old count (remarks (scope_setting (path_of src.now.scope)) (map (switch_in (memory src.now.mem) src.now.design.index.rows.now) (take t.n t.all))) to.new result }
 {
-    let mut o = at;
+    let mut told = count;
     for i in 0..t.n {
-        o = of_switch(out, o, job, files, area, nums, over, from, top, t.all[i]);
+        told = of_switch(to, told, src, t.all[i]);
     }
-    o
+    told
 }

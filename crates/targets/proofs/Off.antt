@@ -1,5 +1,5 @@
 -- Whether the first part of a text surely is not a name: laws as the needs ask them. Assumes nothing.
-use Rattle.std.specs.Prelude.{Option, Some}
+use Rattle.std.specs.Prelude.{Some}
 use Prim.Native.Nat.{ℕ, ◌+◌, ◌<◌, ◌^◌}
 use native.Mathlib.Omega.{arith}
 use mathlib.Core.Path.{◌≡◌, refl, sym, ap, ◌∙◌}
@@ -20,6 +20,8 @@ use Rattle.tcl.specs.Rewrite.{rewrite}
 use Rattle.tcl.specs.Join.{joint_by, joined_by, join}
 use Rattle.tcl.specs.Substitution.{escape, unescape}
 use Rattle.names.specs.Name.{entry_of, slash, name_of}
+use Rattle.names.specs.declared.name.Form.{Form}
+use Rattle.names.specs.declared.name.Form.TheVariants.{Word, Entry, Quoted}
 use Rattle.names.specs.Parts.{parts, behind, onto_first_lem, onto_others, parts_on}
 use Rattle.refs.specs.Text.{text_of}
 use Rattle.refs.specs.declared.Ref.{Ref}
@@ -36,13 +38,10 @@ unfolding rewrite escape
 unescape_plain b [] e = refl
 unescape_plain b (x ∷ l) e = rw e
 
-entry_plain : (f b : ℕ) (l : Bytes) → eqb b (byte "\\") ≡ false → entry_of f (b ∷ l) ≡ b ∷ entry_of f l
-entry_plain f b l e = go (eqb f 0) (eqb f 2)
-  where
-    go : (p q : Bool) → cond p (b ∷ l) (cond q (unescape (join (b ∷ l))) (join (b ∷ l))) ≡ b ∷ cond p l (cond q (unescape (join l)) (join l))
-    go true q = refl
-    go false true = ap (λ (m : Bytes). unescape m) (join_plain b l e) ∙ unescape_plain b (join l) e
-    go false false = join_plain b l e
+entry_plain : (f : Form) (b : ℕ) (l : Bytes) → eqb b (byte "\\") ≡ false → entry_of f (b ∷ l) ≡ b ∷ entry_of f l
+entry_plain Word b l e = refl
+entry_plain Entry b l e = join_plain b l e
+entry_plain Quoted b l e = ap (λ (m : Bytes). unescape m) (join_plain b l e) ∙ unescape_plain b (join l) e
 
 neither : (a b : Bool) → a || b ≡ false → (a ≡ false) × (b ≡ false)
 neither true b e = absurd (no_true (sym e))
@@ -52,7 +51,7 @@ neither false false e = (refl, refl)
 -- ---- what is left of the word is compared with what is left of w
 
 pub record Goes (mem : Bytes) (s : Span) (w : Bytes) (x : Span) (i : ℕ) : Type 0 where
-  pub keeps : (f : ℕ) (q : Bytes) → behind w (parts (entry_of f (bytes mem s) ++ q)) ≡ behind (drop i w) (parts (entry_of f (bytes mem x) ++ q))
+  pub keeps : (f : Form) (q : Bytes) → behind w (parts (entry_of f (bytes mem s) ++ q)) ≡ behind (drop i w) (parts (entry_of f (bytes mem x) ++ q))
   pub short : length w < 2 ^ 64
 
 pub goes_start : (mem : Bytes) (s : Span) (w : Bytes) → length w < 2 ^ 64 → Goes mem s w s 0
@@ -66,7 +65,7 @@ module _ (mem : Bytes) (s : Span) (w : Bytes) (x : Span) (i : ℕ) (inv : Goes m
   goes_fits = omega (arith, inv.short)
 
   module _ (b : ℕ) (u : Span) (e : bytes mem x ≡ got_of mem (Some (b, u))) (plain : eqb b (byte "\\") || eqb b (byte "/") ≡ false) where
-    left_is : (f : ℕ) → entry_of f (bytes mem x) ≡ b ∷ entry_of f (bytes mem u)
+    left_is : (f : Form) → entry_of f (bytes mem x) ≡ b ∷ entry_of f (bytes mem u)
     left_is f = ap (λ (l : Bytes). entry_of f l) e ∙ entry_plain f b (bytes mem u) (neither (eqb b (byte "\\")) (eqb b (byte "/")) plain).0
 
     no_slash : b ≡ byte "/" → ⊥

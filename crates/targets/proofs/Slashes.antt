@@ -1,5 +1,5 @@
 -- The last slash of a name, byte by byte: laws as the needs ask them. Assumes nothing.
-use Rattle.std.specs.Prelude.{Option, Some, None}
+use Rattle.std.specs.Prelude.{Option, Some, None, is_some}
 use Prim.Native.Nat.{ℕ, suc, ◌+◌, ◌≤◌, ◌<◌, ◌^◌}
 use native.Mathlib.Omega.{arith}
 use mathlib.Core.Path.{◌≡◌, refl, sym, ap, ◌∙◌}
@@ -74,18 +74,27 @@ clean_push (x ∷ m) b h g = go (eqb x (byte "/")) h (λ k. clean_push m b k g)
     go false k r = r k
 
 -- ---- the loop: n bytes are read, `mid` since the last slash
-pub record Scans (files area : Bytes) (e : Name) (s : Slash) (x : Name) (n : ℕ) : Type 0 where
+
+-- how many bytes stand up to it, and what is behind it
+abbrev upto_of : Option Slash → ℕ
+upto_of None = 0
+upto_of (Some s) = s.upto
+
+abbrev rest_of : Name → Option Slash → Name
+rest_of e None = e
+rest_of e (Some s) = s.rest
+
+pub record Scans (files area : Bytes) (e : Name) (s : Option Slash) (x : Name) (n : ℕ) : Type 0 where
   pub small : length files + length area < 2 ^ 32
   pub mid : Bytes
   pub clean : slash_in mid ≡ false
-  pub rest_is : name_of (files ++ area) s.rest ≡ mid ++ name_of (files ++ area) x
-  pub whole : take s.upto (name_of (files ++ area) e) ++ name_of (files ++ area) s.rest ≡ name_of (files ++ area) e
-  pub inside : s.upto ≤ length (name_of (files ++ area) e)
-  pub counted : n ≡ s.upto + length mid
-  pub slash : s.found ≡ true → (front : Bytes) × (take s.upto (name_of (files ++ area) e) ≡ front ++ ascii "/")
-  pub none : s.found ≡ false → s.upto ≡ 0
+  pub rest_is : name_of (files ++ area) (rest_of e s) ≡ mid ++ name_of (files ++ area) x
+  pub whole : take (upto_of s) (name_of (files ++ area) e) ++ name_of (files ++ area) (rest_of e s) ≡ name_of (files ++ area) e
+  pub inside : upto_of s ≤ length (name_of (files ++ area) e)
+  pub counted : n ≡ upto_of s + length mid
+  pub slash : is_some s ≡ true → (front : Bytes) × (take (upto_of s) (name_of (files ++ area) e) ≡ front ++ ascii "/")
 
-pub scan_start : (files area : Bytes) (e : Name) → length files + length area < 2 ^ 32 → Scans files area e (record { found = false; upto = 0; rest = e }) e 0
+pub scan_start : (files area : Bytes) (e : Name) → length files + length area < 2 ^ 32 → Scans files area e None e 0
 unfolding any
 scan_start files area e h =
     record {
@@ -97,34 +106,29 @@ scan_start files area e h =
       inside = omega arith;
       counted = refl;
       slash = λ z. absurd (no_true z);
-      none = λ z. refl;
     }
 
-module _ (files area : Bytes) (e : Name) (s : Slash) (x : Name) (n : ℕ) (inv : Scans files area e s x n) where
+module _ (files area : Bytes) (e : Name) (x : Name) (n : ℕ) where
+  pub scan_end : (s : Option Slash) → Scans files area e s x n → name_of (files ++ area) x ≡ step_of (files ++ area) None → SlashSeen (files ++ area) e s
+  scan_end None inv q =
+      let w : name_of (files ++ area) e ≡ inv.mid = inv.rest_is ∙ rw (q, append-nil) in
+      rw w inv.clean
+  scan_end (Some s) inv q =
+      let left : name_of (files ++ area) s.rest ≡ inv.mid = inv.rest_is ∙ rw (q, append-nil) in
+      let f = inv.slash refl in
+      let w : name_of (files ++ area) e ≡ f.0 ++ byte "/" ∷ inv.mid = sym inv.whole ∙ rw (f.1, left, append_assoc) in
+      record { there = rw w (any_behind f.0 inv.mid); whole = inv.whole; inside = inv.inside; last = left ∙ sym (rw w (last_behind f.0 inv.mid inv.clean)); slash = f }
+
+module _ (files area : Bytes) (e : Name) (s : Option Slash) (x : Name) (n : ℕ) (inv : Scans files area e s x n) where
   abbrev whole_name : Bytes
   whole_name = name_of (files ++ area) e
 
-  up_long : length (take s.upto whole_name) ≡ s.upto
-  up_long = length-take-le s.upto whole_name inv.inside
+  up_long : length (take (upto_of s) whole_name) ≡ upto_of s
+  up_long = length-take-le (upto_of s) whole_name inv.inside
 
   -- all of it: up to the last slash, since then, what is left
-  all_is : take s.upto whole_name ++ (inv.mid ++ name_of (files ++ area) x) ≡ whole_name
+  all_is : take (upto_of s) whole_name ++ (inv.mid ++ name_of (files ++ area) x) ≡ whole_name
   all_is = rw (← inv.rest_is) inv.whole
-
-  pub scan_end : name_of (files ++ area) x ≡ step_of (files ++ area) None → SlashSeen (files ++ area) e s
-  scan_end q = by s.found refl
-    where
-      left : name_of (files ++ area) s.rest ≡ inv.mid
-      left = inv.rest_is ∙ rw (q, append-nil)
-
-      by : (b : Bool) → s.found ≡ b → SlashSeen (files ++ area) e s
-      by true g =
-          let f = inv.slash g in
-          let w : whole_name ≡ f.0 ++ byte "/" ∷ inv.mid = sym inv.whole ∙ rw (f.1, left, append_assoc) in
-          record { found_is = g ∙ sym (rw w (any_behind f.0 inv.mid)); whole = inv.whole; inside = inv.inside; last = left ∙ sym (rw w (last_behind f.0 inv.mid inv.clean)); slash = inv.slash }
-      by false g =
-          let w : whole_name ≡ inv.mid = sym inv.whole ∙ rw (inv.none g, left) in
-          record { found_is = g ∙ sym (rw w inv.clean); whole = inv.whole; inside = inv.inside; last = left ∙ sym (rw (w, no_slash inv.mid inv.clean)); slash = inv.slash }
 
   module _ (b : ℕ) (u : Name) (q : name_of (files ++ area) x ≡ step_of (files ++ area) (Some (b, u))) where
     next_is : name_of (files ++ area) x ≡ b ∷ name_of (files ++ area) u
@@ -132,8 +136,8 @@ module _ (files area : Bytes) (e : Name) (s : Slash) (x : Name) (n : ℕ) (inv :
 
     size : length whole_name ≡ n + suc (length (name_of (files ++ area) u))
     size =
-        let a : length (take s.upto whole_name ++ (inv.mid ++ name_of (files ++ area) x)) ≡ length whole_name = ap length all_is in
-        let c : length (take s.upto whole_name ++ (inv.mid ++ name_of (files ++ area) x)) ≡ s.upto + (length inv.mid + suc (length (name_of (files ++ area) u))) = rw (length-append, length-append, up_long, next_is) in
+        let a : length (take (upto_of s) whole_name ++ (inv.mid ++ name_of (files ++ area) x)) ≡ length whole_name = ap length all_is in
+        let c : length (take (upto_of s) whole_name ++ (inv.mid ++ name_of (files ++ area) x)) ≡ upto_of s + (length inv.mid + suc (length (name_of (files ++ area) u))) = rw (length-append, length-append, up_long, next_is) in
         omega (arith, inv.counted)
 
     pub scan_fits : n + 1 < 2 ^ 64
@@ -142,10 +146,10 @@ module _ (files area : Bytes) (e : Name) (s : Slash) (x : Name) (n : ℕ) (inv :
     pub scan_less : length (name_of (files ++ area) u) < length (name_of (files ++ area) x)
     scan_less = rw next_is (omega arith)
 
-    pub scan_slash : b ≡ byte "/" → Scans files area e (record { found = true; upto = n + 1; rest = u }) u (n + 1)
+    pub scan_slash : b ≡ byte "/" → Scans files area e (Some (record { upto = n + 1; rest = u })) u (n + 1)
     unfolding any
     scan_slash g =
-        let f : Bytes = take s.upto whole_name ++ inv.mid in
+        let f : Bytes = take (upto_of s) whole_name ++ inv.mid in
         let l : length (f ++ ascii "/") ≡ n + 1 = rw (length-append, length-append, up_long) (omega (arith, inv.counted)) in
         let w : whole_name ≡ (f ++ ascii "/") ++ name_of (files ++ area) u = sym all_is ∙ rw (next_is, g, append_assoc, append_assoc) in
         let t : take (n + 1) whole_name ≡ f ++ ascii "/" = ap (take (n + 1)) w ∙ take_at (f ++ ascii "/") (name_of (files ++ area) u) (n + 1) l in
@@ -158,7 +162,6 @@ module _ (files area : Bytes) (e : Name) (s : Slash) (x : Name) (n : ℕ) (inv :
           inside = omega (arith, size);
           counted = omega arith;
           slash = λ z. (f, t);
-          none = λ z. absurd (no_true (sym z));
         }
 
     pub scan_step : (b ≡ byte "/" → ⊥) → Scans files area e s u (n + 1)
@@ -172,7 +175,6 @@ module _ (files area : Bytes) (e : Name) (s : Slash) (x : Name) (n : ℕ) (inv :
           inside = inv.inside;
           counted = rw length-append (omega (arith, inv.counted));
           slash = inv.slash;
-          none = inv.none;
         }
 
 pub ruleset slashes = (rules, scan_start, scan_end, scan_fits, scan_less, scan_slash, scan_step)

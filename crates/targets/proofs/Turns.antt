@@ -1,6 +1,6 @@
 -- An instance by the parts of a text, turn by turn: the answer is that of what is left. Assumes nothing.
 use Rattle.std.specs.Prelude.{Option}
-use Prim.Native.Nat.{ℕ, zero, suc, ◌+◌, ◌-◌, ◌*◌, ◌≤◌, ◌<◌, ◌^◌}
+use Prim.Native.Nat.{ℕ, suc, ◌+◌, ◌-◌, ◌*◌, ◌≤◌, ◌<◌, ◌^◌}
 use native.Mathlib.Omega.{arith}
 use mathlib.Core.Path.{◌≡◌, refl, sym, ap, ◌∙◌}
 use mathlib.Core.Bool.{Bool, true, false, cond}
@@ -12,32 +12,30 @@ use lib.Seq.{take_at, length-take-le}
 use borrow.Author.Rules.{rules}
 use Rattle.text.specs.Ascii.{Bytes, ascii, byte}
 use Rattle.text.specs.Compare.{same}
-use Rattle.text.specs.Sames.{no_true, same_of, same_turned}
+use Rattle.text.specs.Sames.{same_of, same_turned}
 use Rattle.text.specs.Scan.{onto, split_at}
 use Rattle.out.specs.Items.{joined, behind as Items·behind}
-use Rattle.fields.specs.declared.Dims.{Dims}
 use Rattle.joblines.specs.Job.{Inst, Module}
 use Rattle.joblines.specs.Sections.{conns_in}
-use Rattle.jobindex.specs.Index.{num, section, module_row}
+use Rattle.jobindex.specs.Index.{section, module_row}
 use Rattle.jobindex.specs.declared.Span.{Span}
 use Rattle.design.specs.Lists.{first, on_some}
 use Rattle.design.specs.Lookup.{module_named, instance_named}
-use Rattle.lines.specs.Cursors.{spanned, inst_is, InstSeen, Stepped}
+use Rattle.lines.specs.Cursors.{spanned, inst_is, InstSeen}
 use Rattle.lines.specs.declared.InstAt.{InstAt}
 use Rattle.lookup.specs.Rows.{modules, row_is, ModuleSeen, insts_from, insts_end}
-use Rattle.memo.specs.Known.{slots, Begins, Leads, Known, Recalls, Asked, asked_row, asked_slot, asked_fits, recalls_row, recalls_asks, recalls_room, begins_row, begins_first, begins_here, leads_here, known_put}
+use Rattle.memo.specs.Known.{slots, Begins, Leads, Known, Recalls, Asked, asked_row, asked_slot, asked_leads, place_in, recalls_row, recalls_asks, recalls_room, begins_row, begins_first, begins_here, leads_here, known_put}
 use Rattle.names.specs.Parts.{parts, first_part, others, behind, part_same, part_other, parts_some}
 use Rattle.refs.specs.Text.{text_of, step_of}
 use Rattle.refs.specs.declared.Ref.{Ref}
 use Rattle.texts.specs.Isolation.{front_parts, below_parent}
 use Rattle.targets.specs.Instance.{instance_at}
 use Rattle.targets.specs.Textual.{textual, textual_is}
-use Rattle.targets.specs.Seen.{part_is, DownIs, DownSeen, StepSeen, Sought, nowhere_place, PlaceSeen}
+use Rattle.targets.specs.Seen.{part_is, DownIs, DownSeen, StepSeen, Sought, PlaceSeen}
 use Rattle.targets.specs.declared.Part.{Part}
 use Rattle.targets.specs.declared.Part.TheVariants as part
 use Rattle.targets.specs.declared.Down.{Down}
 use Rattle.targets.specs.declared.Down.TheVariants as down
-use Rattle.targets.specs.declared.Place.{Place}
 
 -- ---- the slot of the first part
 
@@ -55,12 +53,11 @@ begin_first job index memo k h a t p e = begins_first job index k (first_part (p
 first_same : (t w : Bytes) (qs : List Bytes) → Some qs ≡ behind w (parts t) → w ≡ first_part (parts t)
 first_same t w qs e = sym (ap first_part (part_same t w qs e))
 
-module _ (job : Bytes) (index memo : List ℕ) (k h : ℕ) (asked : Asked job index memo k h) (a : ℕ) (ea : a ≡ num memo (2 * h)) (row : a ≡ k + 1) (p : ℕ) (ep : p ≡ num memo (2 * h + 1))
+module _ (job : Bytes) (index memo : List ℕ) (k h : ℕ) (asked : Asked job index memo k h) (p : ℕ) (ep : Some p ≡ place_in memo h k)
     (end : ℕ) (ee : end ≡ insts_end index k) (i : InstAt) (seen : InstSeen job p end (Some i)) (w : Bytes) (ew : w ≡ spanned job i.name) (mem t : Bytes) (q : Part) (eq : part_is job mem q ≡ behind w (parts t)) where
   begin_by : (qs : List Bytes) → Some qs ≡ behind w (parts t) → Begins job index k (first_part (parts t)) p
   begin_by qs e =
-      let l : Leads job index k p = rw (← ep) at (asked.known.leads h k asked.slot (sym ea ∙ row)) in
-      begins_here job index k p (Some i) (rw ee at seen) i.dims i.name i.kind i.next refl (first_part (parts t)) (sym ew ∙ first_same t w qs e) asked.row l
+      begins_here job index k p (Some i) (rw ee at seen) i.dims i.name i.kind i.next refl (first_part (parts t)) (sym ew ∙ first_same t w qs e) asked.row (asked_leads job index memo k h asked p ep)
 
   pub begin_last : q ≡ part.Last → Begins job index k (first_part (parts t)) p
   begin_last f = begin_by [] (rw f at eq)
@@ -68,7 +65,7 @@ module _ (job : Bytes) (index memo : List ℕ) (k h : ℕ) (asked : Asked job in
   pub begin_more : (x : Ref) → q ≡ part.More x → Begins job index k (first_part (parts t)) p
   begin_more x f = begin_by (parts (text_of job mem x)) (rw f at eq)
 
-pub ruleset lookups = (rules, asked_row, asked_slot, asked_fits, begin_first, begin_last, begin_more)
+pub ruleset lookups = (rules, asked_row, asked_slot, begin_first, begin_last, begin_more)
 
 -- ---- one instance down by the first part of t
 
@@ -178,11 +175,6 @@ front_more w u n = go (parts u) (parts_some (byte "/") u)
     go [] e = absurd (let z : ◌≡◌ {A = ℕ} 0 1 = ap (λ (l : List Bytes). length l) e in omega arith)
     go (p ∷ qs) e = two p qs
 
-row_is_lem : (job : Bytes) (index : List ℕ) (row : ℕ) → (row ≡ 0 → ⊥) → row_is job index row ≡ Some (module_row job index (row - 1))
-unfolding row_is
-row_is_lem job index zero h = absurd (h refl)
-row_is_lem job index (suc k) h = let z : suc k - 1 ≡ k = omega arith in rw z
-
 -- ---- the way down, part by part: T is the whole text, of which X is left, from module m on
 pub record Seeks (job : Bytes) (index : List ℕ) (count k : ℕ) (whole : Bytes) (m : ℕ) (left : Bytes) (upto : ℕ) (memo : List ℕ) : Type 0 where
   pub few : count ≤ 128
@@ -205,8 +197,8 @@ module _ (job : Bytes) (index : List ℕ) (count k : ℕ) (whole : Bytes) (m : �
   d = modules job index count
 
   -- nothing is found
-  unseen : instance_at (modules job index count) (module_row job index m) (parts left) ≡ None → PlaceSeen job index count k whole nowhere_place
-  unseen e = record { is = sym (sym inv.keeps ∙ e); parent_row = omega (arith, inv.row); sub_row = omega (arith, inv.row); inside = omega arith; front = λ z. absurd (no_true z) }
+  unseen : instance_at (modules job index count) (module_row job index m) (parts left) ≡ None → PlaceSeen job index count k whole None
+  unseen e = record { is = sym (sym inv.keeps ∙ e); place = tt }
 
   -- one instance down
   last_is : (w : Bytes) → instance_at (modules job index count) (module_row job index m) (w ∷ []) ≡ on_some (instance_named (module_row job index m) w) None λ i. on_some (module_named (modules job index count) i.type) None λ s. Some (record { parent = module_row job index m; conns = i.conns; sub = s })
@@ -225,44 +217,45 @@ module _ (job : Bytes) (index : List ℕ) (count k : ℕ) (whole : Bytes) (m : �
       go [] = rw e
       go (p ∷ ps) = rw e
 
-  pub seek_none : (mem : Bytes) (memo' : List ℕ) → StepSeen job index m mem left None memo' → (z : Place) → z ≡ nowhere_place → PlaceSeen job index count k whole z
-  seek_none mem memo' step z q = rw q (unseen (first_none step.down.is))
+  pub seek_none : (mem : Bytes) (memo' : List ℕ) → StepSeen job index m mem left None memo' → PlaceSeen job index count k whole None
+  seek_none mem memo' step = unseen (first_none step.down.is)
 
   module _ (mem : Bytes) (d : Down) (memo' : List ℕ) (step : StepSeen job index m mem left (Some d) memo') where
     seen : DownSeen job index m mem left (Some d)
     seen = step.down
 
-    module _ (at : ℕ) (kind : Span) (conns : ℕ) (g : d ≡ down.Last at kind conns) (p : Bytes) (ep : p ≡ spanned job kind) (row : ℕ) (rs : ModuleSeen job index count (module_named (modules job index count) p) row) where
+    module _ (at : ℕ) (kind : Span) (conns : ℕ) (g : d ≡ down.Last at kind conns) (p : Bytes) (ep : p ≡ spanned job kind) where
       abbrev at_last : DownIs job index m mem left (Some (down.Last at kind conns))
       at_last = rw g at seen.is
 
-      whole_last : instance_at (modules job index count) (module_row job index m) (parts left) ≡ on_some (row_is job index row) None λ s. Some (record { parent = module_row job index m; conns = conns_in (section job conns (insts_end index m)); sub = s })
-      whole_last =
+      whole_last : (q : Option ℕ) → ModuleSeen job index count (module_named (modules job index count) p) q → instance_at (modules job index count) (module_row job index m) (parts left) ≡ on_some (row_is job index q) None λ s. Some (record { parent = module_row job index m; conns = conns_in (section job conns (insts_end index m)); sub = s })
+      whole_last q rs =
           let l = at_last in
           let i : Inst = l.1.0 in
           ap (λ (x : List Bytes). instance_at (modules job index count) (module_row job index m) x) l.0
           ∙ last_is (first_part (parts left)) ∙ rw (l.1.1.0, l.1.1.1.0, l.1.1.1.1, ← ep, ← rs.says)
 
-      pub seek_lost : (z : Place) → z ≡ nowhere_place → row ≡ 0 → PlaceSeen job index count k whole z
-      unfolding row_is
-      seek_lost z q h = rw q (unseen (whole_last ∙ rw h))
+      pub seek_lost : ModuleSeen job index count (module_named (modules job index count) p) None → PlaceSeen job index count k whole None
+      seek_lost rs = unseen (whole_last None rs)
 
-      pub seek_found : (row ≡ 0 → ⊥) → PlaceSeen job index count k whole (record { found = true; parent = m; conns = conns; sub = row - 1; upto = upto })
-      seek_found h =
+      pub seek_found : (row : ℕ) → ModuleSeen job index count (module_named (modules job index count) p) (Some row) → PlaceSeen job index count k whole (Some (record { parent = m; conns = conns; sub = row; upto = upto }))
+      seek_found row rs =
           record {
-            is = sym (sym inv.keeps ∙ whole_last ∙ rw (row_is_lem job index row h));
-            parent_row = inv.row;
-            sub_row = omega (arith, rs.within);
-            inside = inv.inside;
-            front = λ e n. inv.front n ∙ ap (λ (l : List Bytes). take upto whole ++ below_parent (front_parts l) n) at_last.0;
+            is = sym (sym inv.keeps ∙ whole_last (Some row) rs);
+            place = record {
+              parent_row = inv.row;
+              sub_row = rs.within;
+              inside = inv.inside;
+              front = λ n. inv.front n ∙ ap (λ (l : List Bytes). take upto whole ++ below_parent (front_parts l) n) at_last.0;
+            };
           }
 
-    module _ (at : ℕ) (kind : Span) (size : ℕ) (x : Ref) (g : d ≡ down.More at kind size x) (p : Bytes) (ep : p ≡ spanned job kind) (row : ℕ) (rs : ModuleSeen job index count (module_named (modules job index count) p) row) where
+    module _ (at : ℕ) (kind : Span) (size : ℕ) (x : Ref) (g : d ≡ down.More at kind size x) (p : Bytes) (ep : p ≡ spanned job kind) where
       abbrev at_more : DownIs job index m mem left (Some (down.More at kind size x))
       at_more = rw g at seen.is
 
-      whole_more : instance_at (modules job index count) (module_row job index m) (parts left) ≡ on_some (row_is job index row) None λ m'. instance_at (modules job index count) m' (parts (text_of job mem x))
-      whole_more =
+      whole_more : (q : Option ℕ) → ModuleSeen job index count (module_named (modules job index count) p) q → instance_at (modules job index count) (module_row job index m) (parts left) ≡ on_some (row_is job index q) None λ m'. instance_at (modules job index count) m' (parts (text_of job mem x))
+      whole_more q rs =
           let l = at_more in
           ap (λ (y : List Bytes). instance_at (modules job index count) (module_row job index m) y) l.0
           ∙ more_is (first_part (parts left)) (text_of job mem x) ∙ rw (l.1.1.1.0, l.1.1.1.1, ← ep, ← rs.says)
@@ -294,17 +287,16 @@ module _ (job : Bytes) (index : List ℕ) (count k : ℕ) (whole : Bytes) (m : �
       pub seek_fits_on : upto + size + 1 < 2 ^ 64
       seek_fits_on = omega (arith, fits_in, inv.small)
 
-      pub seek_stop : (z : Place) → z ≡ nowhere_place → row ≡ 0 → PlaceSeen job index count k whole z
-      unfolding row_is
-      seek_stop z q h = rw q (unseen (whole_more ∙ rw h))
+      pub seek_stop : ModuleSeen job index count (module_named (modules job index count) p) None → PlaceSeen job index count k whole None
+      seek_stop rs = unseen (whole_more None rs)
 
-      pub seek_on : (row ≡ 0 → ⊥) → Seeks job index count k whole (row - 1) (text_of job mem x) (upto + size + 1) memo'
-      seek_on h =
+      pub seek_on : (row : ℕ) → ModuleSeen job index count (module_named (modules job index count) p) (Some row) → Seeks job index count k whole row (text_of job mem x) (upto + size + 1) memo'
+      seek_on row rs =
           record {
             few = inv.few;
-            row = omega (arith, rs.within);
+            row = rs.within;
             small = inv.small;
-            keeps = sym (whole_more ∙ rw (row_is_lem job index row h)) ∙ inv.keeps;
+            keeps = sym (whole_more (Some row) rs) ∙ inv.keeps;
             text = rw next_take (sym parted);
             inside = fits_in;
             front = λ n. inv.front n ∙ (ap (λ (l : List Bytes). take upto whole ++ below_parent (front_parts l) n) at_more.0 ∙ (ap (λ (l : Bytes). take upto whole ++ l) (front_more (first_part (parts left)) (text_of job mem x) n) ∙ rw (next_take, append_assoc, append_assoc)));

@@ -4,13 +4,14 @@ use Rattle.text.specs.Ascii.{Bytes}
 use Rattle.spans.specs.Span.{bytes}
 use Rattle.spans.specs.declared.span.Span.{Span}
 use Rattle.names.specs.Name.{entry_of}
+use Rattle.names.specs.declared.name.Form.{Form}
 use Rattle.names.specs.Parts.{parts, behind}
 use Rattle.refs.specs.Text.{text_of}
 use Rattle.refs.specs.declared.Ref.{Ref}
 
 -- of a word, in whatever form it is read and whatever stands behind it
 pub record WordOff (mem : Bytes) (s : Span) (w : Bytes) (r : Bool) : Type 0 where
-  pub is : r ≡ true → (f : ℕ) (q : Bytes) → None ≡ behind w (parts (entry_of f (bytes mem s) ++ q))
+  pub is : r ≡ true → (f : Form) (q : Bytes) → None ≡ behind w (parts (entry_of f (bytes mem s) ++ q))
 
 -- the text begins with a word
 abbrev pub begins_plain : Ref → Bool

@@ -1,5 +1,5 @@
 -- What the answers about instances say. Assumes nothing.
-use Rattle.std.specs.Prelude.{ℕ, ◌+◌, ◌≤◌, ◌<◌, ◌^◌, ◌≡◌, true, false, cond, List, [], ◌∷◌, ◌++◌, length, take, Option, None, Some}
+use Rattle.std.specs.Prelude.{ℕ, ◌≤◌, ◌<◌, ◌^◌, ◌≡◌, true, false, List, [], ◌∷◌, ◌++◌, length, take, Option, None, Some}
 use Rattle.text.specs.Ascii.{Bytes, ascii, byte}
 use Rattle.text.specs.Scan.{any, is}
 use Rattle.joblines.specs.Job.{Inst}
@@ -23,12 +23,16 @@ use Rattle.targets.specs.declared.Down.TheVariants as down
 use Rattle.targets.specs.declared.Place.{Place}
 
 -- ---- the last slash of a name: what stands up to it and what is behind it make up the name
-pub record SlashSeen (mem : Bytes) (e : Name) (r : Slash) : Type 0 where
-  pub found_is : r.found ≡ any (is (byte "/")) (name_of mem e)
+pub record SlashAt (mem : Bytes) (e : Name) (r : Slash) : Type 0 where
+  pub there : any (is (byte "/")) (name_of mem e) ≡ true
   pub whole : take r.upto (name_of mem e) ++ name_of mem r.rest ≡ name_of mem e
   pub inside : r.upto ≤ length (name_of mem e)
   pub last : name_of mem r.rest ≡ last_part (parts (name_of mem e))
-  pub slash : r.found ≡ true → (front : Bytes) × (take r.upto (name_of mem e) ≡ front ++ ascii "/")
+  pub slash : (front : Bytes) × (take r.upto (name_of mem e) ≡ front ++ ascii "/")
+
+abbrev pub SlashSeen : Bytes → Name → Option Slash → Type 0
+SlashSeen mem e None = any (is (byte "/")) (name_of mem e) ≡ false
+SlashSeen mem e (Some s) = SlashAt mem e s
 
 -- ---- whether the first part is the one looked for: the others then
 abbrev pub part_is : Bytes → Bytes → Part → Option (List Bytes)
@@ -71,16 +75,21 @@ pub record Sought (job : Bytes) (index : List ℕ) (count k : ℕ) (t : Bytes) (
   pub small : length t < 2 ^ 63
   pub known : Known job index memo
 
-abbrev pub nowhere_place : Place
-nowhere_place = record { found = false; parent = 0; conns = 0; sub = 0; upto = 0 }
+abbrev pub place_is : Bytes → List ℕ → Option Place → Option Instance
+place_is job index None = None
+place_is job index (Some p) = Some (record { parent = module_row job index p.parent; conns = conns_in (section job p.conns (insts_end index p.parent)); sub = module_row job index p.sub })
 
-abbrev pub place_is : Bytes → List ℕ → Place → Option Instance
-place_is job index r =
-    cond r.found (Some (record { parent = module_row job index r.parent; conns = conns_in (section job r.conns (insts_end index r.parent)); sub = module_row job index r.sub })) None
+-- a place that was found by the parts of t, among so many modules
+pub record PlaceAt (count : ℕ) (t : Bytes) (p : Place) : Type 0 where
+  pub parent_row : p.parent < count
+  pub sub_row : p.sub < count
+  pub inside : p.upto ≤ length t
+  pub front : (n : Bytes) → below_parent (front_parts (parts t)) n ≡ take p.upto t ++ n
 
-pub record PlaceSeen (job : Bytes) (index : List ℕ) (count k : ℕ) (t : Bytes) (r : Place) : Type 0 where
+abbrev pub PlaceIn : ℕ → Bytes → Option Place → Type 0
+PlaceIn count t None = Unit {0}
+PlaceIn count t (Some p) = PlaceAt count t p
+
+pub record PlaceSeen (job : Bytes) (index : List ℕ) (count k : ℕ) (t : Bytes) (r : Option Place) : Type 0 where
   pub is : place_is job index r ≡ instance_at (modules job index count) (module_row job index k) (parts t)
-  pub parent_row : r.parent < count
-  pub sub_row : r.sub < count
-  pub inside : r.upto ≤ length t
-  pub front : r.found ≡ true → (n : Bytes) → below_parent (front_parts (parts t)) n ≡ take r.upto t ++ n
+  pub place : PlaceIn count t r

@@ -6,23 +6,24 @@ ghost use Rattle.names.specs.Parts.{parts, first_part, behind};
 ghost use Rattle.memo.specs.Known.{slots, Recalls, Asked, Begins};
 ghost use Rattle.refs.specs.Text.{text_of};
 ghost use Rattle.targets.specs.Off.{WordOff, begins_plain, TextOff};
-ghost use Rattle.targets.specs.Seen.{SlashSeen, part_is, DownSeen, StepSeen, Sought, nowhere_place, PlaceSeen};
+ghost use Rattle.targets.specs.Seen.{SlashSeen, part_is, DownSeen, StepSeen, Sought, PlaceSeen};
+ghost use Rattle.spans.specs.Memory.{memory};
 
-use jobindex::Span;
+use jobindex::{Design, Index, Span};
 use names::name::Name;
 use names::part::next_part;
 use refs::{Ref, is_name, next, whole};
-use spans::span::{Span as Word, first, minus};
+use spans::span::{Memory, Span as Word, first};
 
-// The last slash of a name: whether there is one, how many bytes stand up to it and with it, and what is left behind it.
+// A slash of a name: how many bytes stand up to it and with it, and what is left behind it.
 #[derive(Clone, Copy)]
 pub struct Slash {
-    pub found: bool,
     pub upto: usize,
     pub rest: Name,
 }
 
 // Whether the first part of a text is the one looked for: then it is the last, or there is more behind its slash.
+// An option of an option is no plainer: its two `None` would have to be told apart by where they stand.
 #[derive(Clone, Copy)]
 pub enum Part {
     Other,
@@ -49,7 +50,6 @@ pub enum Down {
 // An instance: its parent's row, where its connections begin, its module's row, and how many bytes of the text stand before its name.
 #[derive(Clone, Copy)]
 pub struct Place {
-    pub found: bool,
     pub parent: usize,
     pub conns: usize,
     pub sub: usize,
@@ -58,26 +58,18 @@ pub struct Place {
 
 // The last slash of a name.
 #[tactic(auto, using(crate::proofs::Slashes::slashes))]
-pub fn last_slash(files: &[u8], area: &[u8], e: Name) -> Slash
-    requires { length files.now + length area.now < 2 ^ 32 }
-    ensures { SlashSeen (files.now ++ area.now) e result }
+pub fn last_slash(mem: &Memory, e: Name) -> Option<Slash>
+    requires { length mem.now.files.now + length mem.now.area.now < 2 ^ 32 }
+    ensures { SlashSeen (memory mem.now) e result }
 {
-    let mut s = Slash {
-        found: false,
-        upto: 0,
-        rest: e,
-    };
+    let mut s = None;
     let mut x = e;
     let mut n = 0;
-    while let Some((b, u)) = names::name::next(files, area, x) {
+    while let Some((b, u)) = names::name::next(mem, x) {
         n += 1;
         x = u;
         if b == b'/' {
-            s = Slash {
-                found: true,
-                upto: n,
-                rest: u,
-            };
+            s = Some(Slash { upto: n, rest: u });
             continue;
         }
     }
@@ -86,12 +78,12 @@ pub fn last_slash(files: &[u8], area: &[u8], e: Name) -> Slash
 
 // Whether the first part of a text is w, byte by byte.
 #[tactic(auto, using(crate::proofs::Parted::takes))]
-fn stepped_part(job: &[u8], files: &[u8], area: &[u8], r: Ref, w: &[u8]) -> Part
-    ensures { part_is job.now (files.now ++ area.now) result ≡ behind w.now (parts (text_of job.now (files.now ++ area.now) r)) }
+fn stepped_part(job: &[u8], mem: &Memory, r: Ref, w: &[u8]) -> Part
+    ensures { part_is job.now (memory mem.now) result ≡ behind w.now (parts (text_of job.now (memory mem.now) r)) }
 {
     let mut x = r;
     for own in w {
-        let Some((b, u)) = next(job, files, area, x) else {
+        let Some((b, u)) = next(job, mem, x) else {
             return Part::Other;
         };
         if b == b'/' {
@@ -102,7 +94,7 @@ fn stepped_part(job: &[u8], files: &[u8], area: &[u8], r: Ref, w: &[u8]) -> Part
         }
         x = u;
     }
-    let Some((b, u)) = next(job, files, area, x) else {
+    let Some((b, u)) = next(job, mem, x) else {
         return Part::Last;
     };
     if b == b'/' {
@@ -113,12 +105,12 @@ fn stepped_part(job: &[u8], files: &[u8], area: &[u8], r: Ref, w: &[u8]) -> Part
 
 // Whether a word, read in any form, surely is not w up to a slash: by a byte before which no backslash stands.
 #[tactic(auto, using(crate::proofs::Off::goes))]
-fn word_off(files: &[u8], area: &[u8], s: Word, w: &[u8]) -> bool
-    ensures { WordOff (files.now ++ area.now) s w.now result }
+fn word_off(mem: &Memory, s: Word, w: &[u8]) -> bool
+    ensures { WordOff (memory mem.now) s w.now result }
 {
     let mut x = s;
     for own in w {
-        let Some((b, u)) = first(files, area, x) else {
+        let Some((b, u)) = first(mem, x) else {
             return false;
         };
         if (b == b'\\') | (b == b'/') {
@@ -141,27 +133,27 @@ fn begins_plain(r: Ref) -> bool
 
 // Whether the first part of a text surely is not w.
 #[tactic(auto, using(crate::proofs::Off::texts))]
-fn text_off(files: &[u8], area: &[u8], r: Ref, w: &[u8]) -> bool
-    ensures { TextOff (files.now ++ area.now) r w.now result }
+fn text_off(mem: &Memory, r: Ref, w: &[u8]) -> bool
+    ensures { TextOff (memory mem.now) r w.now result }
 {
     if !begins_plain(r) {
         return false;
     }
-    word_off(files, area, r.name.word, w)
+    word_off(mem, r.name.word, w)
 }
 
 // Whether the first part of a text is w.
 #[tactic(auto, using(crate::proofs::Parted::names, crate::proofs::Off::offs))]
-fn first_part(job: &[u8], files: &[u8], area: &[u8], r: Ref, w: &[u8]) -> Part
-    ensures { part_is job.now (files.now ++ area.now) result ≡ behind w.now (parts (text_of job.now (files.now ++ area.now) r)) }
+fn first_part(job: &[u8], mem: &Memory, r: Ref, w: &[u8]) -> Part
+    ensures { part_is job.now (memory mem.now) result ≡ behind w.now (parts (text_of job.now (memory mem.now) r)) }
 {
     if !is_name(r) {
-        if text_off(files, area, r, w) {
+        if text_off(mem, r, w) {
             return Part::Other;
         }
-        return stepped_part(job, files, area, r, w);
+        return stepped_part(job, mem, r, w);
     }
-    match next_part(files, area, r.name, w) {
+    match next_part(mem, r.name, w) {
         names::part::Part::Same(x) => Part::More(whole(x)),
         names::part::Part::Last => Part::Last,
         names::part::Part::Other => Part::Other,
@@ -170,12 +162,12 @@ fn first_part(job: &[u8], files: &[u8], area: &[u8], r: Ref, w: &[u8]) -> Part
 
 // The slot of the memo for the first part of a text in module k.
 #[tactic(auto, using(crate::proofs::Turns::slotted))]
-fn slot(job: &[u8], files: &[u8], area: &[u8], k: usize, r: Ref) -> usize
+fn slot(job: &[u8], mem: &Memory, k: usize, r: Ref) -> usize
     ensures { result < slots }
 {
     let mut x = r;
     let mut h = k;
-    while let Some((b, u)) = next(job, files, area, x) {
+    while let Some((b, u)) = next(job, mem, x) {
         if b == b'/' {
             break;
         }
@@ -187,28 +179,18 @@ fn slot(job: &[u8], files: &[u8], area: &[u8], k: usize, r: Ref) -> usize
 
 // Where to begin to look for the first part of a text in module k: at an instance of that name, where the memo has it.
 #[tactic(auto, using(crate::proofs::Turns::lookups))]
-fn begin(
-    job: &[u8],
-    index: &[u32],
-    k: usize,
-    files: &[u8],
-    area: &[u8],
-    r: Ref,
-    memo: &[usize],
-    h: usize,
-) -> usize
-    requires { Asked job.now index.now memo.now k h }
-    ensures { Begins job.now index.now k (first_part (parts (text_of job.now (files.now ++ area.now) r))) result }
+fn begin(index: &Index, k: usize, mem: &Memory, r: Ref, memo: &[usize], h: usize) -> usize
+    requires { Asked index.now.job.now index.now.rows.now memo.now k h }
+    ensures { Begins index.now.job.now index.now.rows.now k (first_part (parts (text_of index.now.job.now (memory mem.now) r))) result }
 {
-    let from = lookup::insts_from(index, k);
-    if memo::row_in(memo, h) != k + 1 {
-        return from;
-    }
-    let at = memo::place_in(memo, h);
-    let Some(inst) = lines::next_inst(job, at, lookup::insts_end(index, k)) else {
+    let from = lookup::insts_from(index.rows, k);
+    let Some(at) = memo::place_in(memo, h, k) else {
         return from;
     };
-    match first_part(job, files, area, r, lines::part_of(job, inst.name)) {
+    let Some(inst) = lines::next_inst(index.job, at, lookup::insts_end(index.rows, k)) else {
+        return from;
+    };
+    match first_part(index.job, mem, r, lines::part_of(index.job, inst.name)) {
         Part::Last => at,
         Part::More(_) => at,
         Part::Other => from,
@@ -217,24 +199,16 @@ fn begin(
 
 // The first instance of module k whose name is the first part of a text, dimensions not looked at; none of that name is before `from`.
 #[tactic(auto, using(crate::proofs::Turns::downs))]
-fn instance_at(
-    job: &[u8],
-    index: &[u32],
-    k: usize,
-    files: &[u8],
-    area: &[u8],
-    r: Ref,
-    from: usize,
-) -> Option<Down>
-    requires { Begins job.now index.now k (first_part (parts (text_of job.now (files.now ++ area.now) r))) from }
-    ensures { DownSeen job.now index.now k (files.now ++ area.now) (text_of job.now (files.now ++ area.now) r) result }
+fn instance_at(index: &Index, k: usize, mem: &Memory, r: Ref, from: usize) -> Option<Down>
+    requires { Begins index.now.job.now index.now.rows.now k (first_part (parts (text_of index.now.job.now (memory mem.now) r))) from }
+    ensures { DownSeen index.now.job.now index.now.rows.now k (memory mem.now) (text_of index.now.job.now (memory mem.now) r) result }
 {
-    let end = lookup::insts_end(index, k);
+    let end = lookup::insts_end(index.rows, k);
     let mut at = from;
-    while let Some(inst) = lines::next_inst(job, at, end) {
+    while let Some(inst) = lines::next_inst(index.job, at, end) {
         let kind = inst.kind;
-        let w = lines::part_of(job, inst.name);
-        match first_part(job, files, area, r, w) {
+        let w = lines::part_of(index.job, inst.name);
+        match first_part(index.job, mem, r, w) {
             Part::Last => {
                 return Some(Down::Last {
                     at,
@@ -258,25 +232,17 @@ fn instance_at(
 
 // The same with a memo, which then has the instance, where more parts stand behind its name. A module of few lines is looked through without it.
 #[tactic(auto, using(crate::proofs::Turns::steps))]
-fn step_down(
-    job: &[u8],
-    index: &[u32],
-    k: usize,
-    files: &[u8],
-    area: &[u8],
-    r: Ref,
-    memo: &mut [usize],
-) -> Option<Down>
-    requires { Recalls job.now index.now memo.old k }
-    ensures { StepSeen job.now index.now k (files.now ++ area.now) (text_of job.now (files.now ++ area.now) r) result memo.new }
+fn step_down(index: &Index, k: usize, mem: &Memory, r: Ref, memo: &mut [usize]) -> Option<Down>
+    requires { Recalls index.now.job.now index.now.rows.now memo.old k }
+    ensures { StepSeen index.now.job.now index.now.rows.now k (memory mem.now) (text_of index.now.job.now (memory mem.now) r) result memo.new }
 {
-    let first = lookup::insts_from(index, k);
-    if minus(lookup::insts_end(index, k), first) < 512 {
-        return instance_at(job, index, k, files, area, r, first);
+    let first = lookup::insts_from(index.rows, k);
+    if lookup::insts_end(index.rows, k).saturating_sub(first) < 512 {
+        return instance_at(index, k, mem, r, first);
     }
-    let h = slot(job, files, area, k, r);
-    let from = begin(job, index, k, files, area, r, memo, h);
-    let d = instance_at(job, index, k, files, area, r, from)?;
+    let h = slot(index.job, mem, k, r);
+    let from = begin(index, k, mem, r, memo, h);
+    let d = instance_at(index, k, mem, r, from)?;
     let Down::More { at, .. } = d else {
         return Some(d);
     };
@@ -284,51 +250,26 @@ fn step_down(
     Some(d)
 }
 
-// Nothing found.
-fn nowhere() -> Place
-    ensures { result ≡ nowhere_place }
-{
-    Place {
-        found: false,
-        parent: 0,
-        conns: 0,
-        sub: 0,
-        upto: 0,
-    }
-}
-
 // The instance that the parts of a text lead to from module k, with a memo.
 #[tactic(auto, using(crate::proofs::Turns::seeks))]
-fn find_by(
-    job: &[u8],
-    index: &[u32],
-    count: usize,
-    k: usize,
-    files: &[u8],
-    area: &[u8],
-    r: Ref,
-    memo: &mut [usize],
-) -> Place
-    requires { Sought job.now index.now count k (text_of job.now (files.now ++ area.now) r) memo.old }
-    ensures { PlaceSeen job.now index.now count k (text_of job.now (files.now ++ area.now) r) result }
+fn find_by(design: &Design, k: usize, mem: &Memory, r: Ref, memo: &mut [usize]) -> Option<Place>
+    requires { Sought design.now.index.job.now design.now.index.rows.now design.now.count k (text_of design.now.index.job.now (memory mem.now) r) memo.old }
+    ensures { PlaceSeen design.now.index.job.now design.now.index.rows.now design.now.count k (text_of design.now.index.job.now (memory mem.now) r) result }
 {
     let mut m = k;
     let mut x = r;
     let mut upto = 0;
-    while let Some(d) = step_down(job, index, m, files, area, x, memo) {
+    while let Some(d) = step_down(&design.index, m, mem, x, memo) {
         match d {
             Down::Last { kind, conns, .. } => {
-                let row = lookup::module_named(job, index, count, lines::part_of(job, kind));
-                if row == 0 {
-                    return nowhere();
-                }
-                return Place {
-                    found: true,
+                let part = lines::part_of(design.index.job, kind);
+                let row = lookup::module_named(design, part)?;
+                return Some(Place {
                     parent: m,
                     conns,
-                    sub: row - 1,
+                    sub: row,
                     upto,
-                };
+                });
             }
             Down::More {
                 kind,
@@ -336,32 +277,21 @@ fn find_by(
                 rest,
                 ..
             } => {
-                let row = lookup::module_named(job, index, count, lines::part_of(job, kind));
-                if row == 0 {
-                    return nowhere();
-                }
-                m = row - 1;
+                let part = lines::part_of(design.index.job, kind);
+                m = lookup::module_named(design, part)?;
                 x = rest;
                 upto = upto + size + 1;
             }
         }
     }
-    nowhere()
+    None
 }
 
 // The instance that the parts of a text lead to from module k.
-pub fn find_instance(
-    job: &[u8],
-    index: &[u32],
-    count: usize,
-    k: usize,
-    files: &[u8],
-    area: &[u8],
-    r: Ref,
-) -> Place
-    requires { (count ≤ 128) × ((k < count) × (length (text_of job.now (files.now ++ area.now) r) < 2 ^ 63)) }
-    ensures { PlaceSeen job.now index.now count k (text_of job.now (files.now ++ area.now) r) result }
+pub fn find_instance(design: &Design, k: usize, mem: &Memory, r: Ref) -> Option<Place>
+    requires { (design.now.count ≤ 128) × ((k < design.now.count) × (length (text_of design.now.index.job.now (memory mem.now) r) < 2 ^ 63)) }
+    ensures { PlaceSeen design.now.index.job.now design.now.index.rows.now design.now.count k (text_of design.now.index.job.now (memory mem.now) r) result }
 {
     let mut memo = [0usize; 256];
-    find_by(job, index, count, k, files, area, r, &mut memo)
+    find_by(design, k, mem, r, &mut memo)
 }

@@ -69,6 +69,7 @@ fn quote_end(s: &[u8], at: usize) -> usize
 }
 
 // Where the plain word from `at` on ends.
+// As `run_end_each` of `out::template` with another test: one function for both takes the test as a closure, which is no plainer.
 fn plain_end(s: &[u8], at: usize) -> usize
     requires { at ≤ length s.now }
     ensures { Ends (at + before ends_plain (drop at s.now)) (length s.now) result }

@@ -13,7 +13,9 @@ ghost use Rattle.entries.specs.View.{Finds as Item-as-Finds, next_of};
 ghost use Rattle.args.specs.View.{words_from, pick, Finds};
 ghost use Rattle.tclc.specs.Numbers.{next_by, item_by, found_by, read_by};
 
+use spans::span::Memory;
 use substitution::put::Full;
+use text::part::Rows;
 
 pub fn tclc_join(body: &[u8], area: &mut [u8]) -> usize
     requires { 0 + length body.now ≤ length area.old }
@@ -41,7 +43,17 @@ pub fn tclc_next(
     requires { (length files.now + length area.old < 2 ^ 32) × ((256 ≤ length words.old) × ((o ≤ limit) × (limit ≤ length area.old))) }
     ensures { NextOf files.now (take len (drop base files.now)) at (variables (files.now ++ take o area.old) vars.now nv) area.old area.new o limit words.old words.new (next_by result count.new next.new end.new) }
 {
-    let r = commands::next::next_command(files, base, len, at, vars, nv, area, o, limit, words);
+    let r = commands::next::next_command(
+        files,
+        base,
+        len,
+        at,
+        &Rows { rows: vars, n: nv },
+        area,
+        o,
+        limit,
+        words,
+    );
     match r {
         Err(Full) => 1,
         Ok(None) => 0,
@@ -95,7 +107,8 @@ pub fn tclc_positional(
 ) -> u32
     ensures { Finds (files.now ++ area.now) words.now n (pick k (positionals (words_from (files.now ++ area.now) words.now n 1))) (found_by result at.new len.new) }
 {
-    let Some(s) = args::argument::positional(files, area, words, n, k) else {
+    let Some(s) = args::argument::positional(&Memory { files, area }, &Rows { rows: words, n }, k)
+    else {
         return 0;
     };
     *at = s.at;
@@ -115,7 +128,8 @@ pub fn tclc_option<'a>(
 ) -> u32
     ensures { Finds (files.now ++ area.now) words.now n (option_of key.now (words_from (files.now ++ area.now) words.now n 1)) (found_by result at.new len.new) }
 {
-    let Some(s) = args::argument::option(files, area, words, n, key) else {
+    let Some(s) = args::argument::option(&Memory { files, area }, &Rows { rows: words, n }, key)
+    else {
         return 0;
     };
     *at = s.at;
@@ -126,7 +140,7 @@ pub fn tclc_option<'a>(
 pub fn tclc_flag<'a>(files: &'a [u8], area: &'a [u8], words: &[u32], n: usize, key: &[u8]) -> bool
     ensures { result ≡ has_flag key.now (words_from (files.now ++ area.now) words.now n 1) }
 {
-    args::argument::flag(files, area, words, n, key)
+    args::argument::flag(&Memory { files, area }, &Rows { rows: words, n }, key)
 }
 
 // The next byte of an entry from i on.

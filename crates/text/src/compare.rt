@@ -4,7 +4,7 @@
 ghost use Rattle.std.specs.Prelude.{◌≡◌};
 ghost use Rattle.text.specs.Compare.{same as Compare·same, starts_with, less as Compare·less};
 
-// Whether two strings have the same bytes.
+// Whether two strings have the same bytes. It gives `==` a promise that speaks of lists of bytes; so does `less`.
 pub fn same(a: &[u8], b: &[u8]) -> bool
     ensures { result ≡ Compare·same a.now b.now }
 {

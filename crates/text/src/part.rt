@@ -1,6 +1,13 @@
 // Parts of byte strings, and single elements: nothing, or 0, where there is none.
 ghost use Rattle.std.specs.Prelude.{◌≡◌, take, drop, get_or};
 
+// A table of n rows in lent numbers.
+#[derive(Clone, Copy)]
+pub struct Rows<'a> {
+    pub rows: &'a [u32],
+    pub n: usize,
+}
+
 // The bytes of s from at on: len of them, or all that are there.
 pub fn part(s: &[u8], at: usize, len: usize) -> &[u8]
     ensures { result.now ≡ take len (drop at s.now) }

@@ -1,5 +1,6 @@
 -- Definitions, in document 01's words.
 pub mod Limits
+pub mod Literals
 pub mod Scope
 pub mod Setting
 pub mod Supplies

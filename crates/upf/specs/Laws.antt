@@ -1,8 +1,8 @@
 -- Laws: from the parts to the answer. Assumes nothing.
-use Rattle.std.specs.Prelude.{ℕ, zero, suc, ◌+◌, ◌≤◌, ◌<◌, ◌≡◌, Bool, true, false, cond, not, ◌||◌, List, [], ◌∷◌, ◌++◌, map, length, take, drop, replicate, Option, Some}
+use Rattle.std.specs.Prelude.{ℕ, zero, suc, ◌+◌, ◌≤◌, ◌<◌, ◌≡◌, Bool, true, false, cond, not, ◌||◌, List, [], ◌∷◌, ◌++◌, map, length, take, drop, replicate, Option, Some, Ok, Err}
 use Rattle.std.proofs.Common.{arith, sym, ap, ◌∙◌, length-take, length-drop, length-append, take-append-drop}
 use Rattle.std.proofs.Math.Path.{refl}
-use borrow.Author.Tests.{ne_eqb, le-leb, lt-leb}
+use borrow.Author.Tests.{le-leb, lt-leb}
 use Rattle.text.specs.Ascii.{Bytes}
 use Rattle.text.specs.Compare.{same}
 use Rattle.text.specs.Scan.{any}
@@ -33,12 +33,14 @@ use Rattle.texts.specs.Scope.{Scope, scope_of}
 use Rattle.texts.specs.Setting.{setting_of}
 use Rattle.texts.specs.Texts.{glue_of, package_of, report_of, fits}
 use Rattle.scope.specs.Parts.{parts}
-use Rattle.findscope.specs.Scopes.{path_text, Tells, Taken, Whole}
+use Rattle.findscope.specs.Scopes.{path_text, number_of, Tells, Taken, Whole}
+use Rattle.findscope.specs.declared.NoScope.{NoScope}
 use Rattle.findscope.specs.declared.ScopeAt.{ScopeAt}
 use Rattle.setting.specs.Orders.{Orders}
 use Rattle.setting.specs.Stands.{setting_at, stands_at}
 use Rattle.intent.specs.Intent.{Intent, reads, stops, intent_of, log_of, RecordsRead, after_parse as intent_after, after_reading as intent_read}
 use Rattle.intent.specs.declared.Records.{Records}
+use Rattle.intent.specs.declared.Stopped.{Stopped}
 use Rattle.answers.specs.Answer.{Lent, Answer, answer, refused, fitted, after_parse, after_reading, below_top, in_scope, roomy, held}
 use Rattle.answers.specs.Answers.{refused_by, stopped_by, fitted_by}
 use Rattle.answers.specs.Stage.{Stage, set, stop, stage_in}
@@ -49,19 +51,24 @@ use Rattle.generate.specs.Generates.{Asks, Generated}
 use Rattle.upf.specs.Runs.{lent_of, Ran, Answered, Checked, StagedAt}
 
 -- ---- checks 7 to 9
-module _ (job : Bytes) (nums : List ℕ) (files area : Bytes) (head : Header) (s : State) (way₀ way : Bytes) (r : ScopeAt)
-    (told : Tells job nums head way₀ way (scope_of (job_of job nums head) (module_row job nums head.topmodule) (maybe_of (files ++ area) s.head.top)) r) where
+some_number : (e : NoScope) → number_of e ≡ 0 → ⊥
+some_number NoScope.NoInstance h = omega arith
+some_number NoScope.NoModule h = omega arith
+some_number NoScope.TooMany h = omega arith
+
+module _ (job : Bytes) (nums : List ℕ) (files area : Bytes) (head : Header) (s : State) (way₀ way : Bytes) where
   abbrev found : Scope
   found = scope_of (job_of job nums head) (module_row job nums head.topmodule) (maybe_of (files ++ area) s.head.top)
 
-  pub staged_stop : (glue pkg report : Bytes) → (r.number ≡ 0 → ⊥) → (x : Texts) → x ≡ stopped_by r.number → StagedAt job nums files area head s glue glue pkg pkg report report x
-  staged_stop glue pkg report h x e log =
-      let z : Scope.no_scope r.number ≡ found = rw (ne_eqb r.number 0 h) at told.says in
-      rw (← z) (e, h)
+  pub staged_stop : (e : NoScope) → Tells job nums head way₀ way found (Err e) → (glue pkg report : Bytes) (k : ℕ) → k ≡ number_of e → (x : Texts) → x ≡ stopped_by k → StagedAt job nums files area head s glue glue pkg pkg report report x
+  staged_stop e told glue pkg report k ek x ex log =
+      let z : Scope.no_scope k ≡ found = rw ek told.says in
+      let h : k ≡ 0 → ⊥ = rw ek (some_number e) in
+      rw (← z) (ex, h)
 
-  module _ (h : r.number ≡ 0) where
+  module _ (r : ScopeAt) (told : Tells job nums head way₀ way found (Ok r)) where
     found_is : Scope.at (parts (path_text job head way r) r.from) (module_row job nums r.row) ≡ found
-    found_is = rw h at told.says
+    found_is = told.says
 
     pub asks : Taken job nums head → Orders files area nums s → length files ≡ 65536 → length area ≡ 65536 → length way₀ ≤ 65536 → (path : Bytes) → path ≡ path_text job head way r → Asks job nums head.modules r.row files area path s
     asks ok o lf la l path e =
@@ -96,10 +103,6 @@ names ms = map (λ (m : Module). m.name) ms
 not_true : (b : Bool) → not b ≡ true → b ≡ false
 not_true true h = sym h
 not_true false h = refl
-
-not_false : (b : Bool) → not b ≡ false → b ≡ true
-not_false true h = refl
-not_false false h = sym h
 
 other_name : (ms : List Module) (k : ℕ) (m : Module) (r : List Module) (p : Bytes) → drop k ms ≡ m ∷ r → any (λ y. same y p) (names ms) ≡ false → same m.name p ≡ false
 unfolding any
@@ -170,18 +173,15 @@ in_scope_lem l j m (Scope.at path base) = go (fits (setting_of j path base m))
     go false = refl
 in_scope_lem l j m (Scope.no_scope n) = refl
 
-module _ (job files area : Bytes) (nums : List ℕ) (log₀ log : Bytes) (q : Records) (read : RecordsRead job files area nums log₀ log q) where
-  pub checked_stop : not q.taken ≡ true → (r : Code) → r ≡ refused_by q.number q.place → (glue pkg report : Bytes) → Checked job glue glue pkg pkg report report log₀ log r
-  checked_stop h r e glue pkg report f a n =
-      let z : stops q.number q.place ≡ intent_of job = rw (not_true q.taken h) at read.says in
+module _ (job files area : Bytes) (nums : List ℕ) (log₀ log : Bytes) where
+  pub checked_stop : (q : Stopped) → RecordsRead job files area nums log₀ log (Err q) → (r : Code) → r ≡ refused_by q.number q.place → (glue pkg report : Bytes) → Checked job glue glue pkg pkg report report log₀ log r
+  checked_stop q read r e glue pkg report f a n =
+      let z : stops q.number q.place ≡ intent_of job = read.says in
       rw (by_intent (lent_of f a n glue pkg report log₀) job, ← z) (refused_told q.number q.place glue pkg report log r e)
 
-  module _ (h : not q.taken ≡ false) where
-    taken_so : q.taken ≡ true
-    taken_so = not_false q.taken h
-
+  module _ (q : Records) (read : RecordsRead job files area nums log₀ log (Ok q)) where
     pub checked_asks : length files ≡ 65536 → length area ≡ 65536 → Taken job nums q.head × (Orders files area nums q.state × (Whole (length files) q.state.head.top × ((length files ≡ 65536) × (length area ≡ 65536))))
-    checked_asks f a = (read.taken taken_so, (read.orders taken_so, (read.top taken_so, (f, a))))
+    checked_asks f a = (read.hands.taken, (read.hands.orders, (read.hands.top, (f, a))))
 
     abbrev text : Bytes
     text = log_of (intent_of job)
@@ -190,7 +190,7 @@ module _ (job files area : Bytes) (nums : List ℕ) (log₀ log : Bytes) (q : Re
     record_of = model_of (files ++ area) (store_of nums q.state) q.state text
 
     intent_reads : reads (job_of job nums q.head) record_of ≡ intent_of job
-    intent_reads = rw taken_so at read.says
+    intent_reads = read.says
 
     log_kept : record_of.log ≡ text
     unfolding model_of
@@ -207,7 +207,7 @@ module _ (job files area : Bytes) (nums : List ℕ) (log₀ log : Bytes) (q : Re
     answer_here l =
         by_intent l job
         ∙ (ap (on_intent l) (sym intent_reads)
-        ∙ (ap (below_top l (job_of job nums q.head) record_of) (top_named job nums q.head (read.taken taken_so))
+        ∙ (ap (below_top l (job_of job nums q.head) record_of) (top_named job nums q.head read.hands.taken)
         ∙ (ap (λ (o : Option Bytes). in_scope l (job_of job nums q.head) record_of (scope_of (job_of job nums q.head) (module_row job nums q.head.topmodule) o)) top_kept
         ∙ (in_scope_lem l (job_of job nums q.head) record_of (scope_of (job_of job nums q.head) (module_row job nums q.head.topmodule) (maybe_of (files ++ area) q.state.head.top))
         ∙ ap (roomed l staged_here) log_kept))))
@@ -217,7 +217,7 @@ module _ (job files area : Bytes) (nums : List ℕ) (log₀ log : Bytes) (q : Re
         → Checked job glue₀ glue pkg₀ pkg report₀ report log₀ log r
     checked_texts glue₀ glue pkg₀ pkg report₀ report t g k r e f a n =
         rw (answer_here (lent_of f a n glue₀ pkg₀ report₀ log₀))
-        (stage_told (lent_of f a n glue₀ pkg₀ report₀ log₀) glue₀ glue pkg₀ pkg report₀ report log₀ log text q.state.fill.log (read.logged taken_so) (record { glue = length glue₀; pkg = length pkg₀; report = length report₀; log = length log }) r refl refl refl k refl refl refl refl t e staged_here (g text))
+        (stage_told (lent_of f a n glue₀ pkg₀ report₀ log₀) glue₀ glue pkg₀ pkg report₀ report log₀ log text q.state.fill.log read.hands.logged (record { glue = length glue₀; pkg = length pkg₀; report = length report₀; log = length log }) r refl refl refl k refl refl refl refl t e staged_here (g text))
 
 -- ---- check 1
 module _ (job : Bytes) (files area nums : ℕ) (glue₀ glue pkg₀ pkg report₀ report log₀ log : Bytes) (r : Code) where

@@ -4,6 +4,7 @@ ghost use Rattle.upf.specs.Told.{told};
 
 // The number of document 01, 0 for a job that is accepted; place and the lengths of the four texts stand behind the references. Nothing is asked of the
 // lent lengths: work areas that are too short are refused by 1, texts that do not fit by 14.
+// The C interface has each length beside its pointer.
 pub fn upf_run(
     job: &[u8],
     files: &mut [u8],

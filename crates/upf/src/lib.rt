@@ -7,54 +7,61 @@ ghost use Rattle.setting.specs.Orders.{Orders};
 ghost use Rattle.upf.specs.Runs.{StagedAt, Checked, Answered, Ran};
 
 use answers::{Answer, Rooms, Texts};
-use jobindex::Header;
+use format::source::Source;
+use jobindex::{Design, Header, Index};
 use out::clear::{clear, clear_nums};
+use scope::ScopePath;
+use spans::span::Memory;
 use store::state::State;
 
 pub mod c;
 
 // Checks 7 to 9, of records that were read.
 fn texts<'a>(
-    job: &[u8],
-    nums: &[u32],
-    files: &'a [u8],
-    area: &'a [u8],
+    index: &Index<'a>,
+    mem: &Memory<'a>,
     head: Header,
     s: State,
     glue: &mut [u8],
     pkg: &mut [u8],
     report: &mut [u8],
 ) -> Texts
-    requires { Taken job.now nums.now head × (Orders files.now area.now nums.now s × (Whole (length files.now) s.head.top × ((length files.now ≡ 65536) × (length area.now ≡ 65536)))) }
-    ensures { StagedAt job.now nums.now files.now area.now head s glue.old glue.new pkg.old pkg.new report.old report.new result }
+    requires { Taken index.now.job.now index.now.rows.now head × (Orders mem.now.files.now mem.now.area.now index.now.rows.now s × (Whole (length mem.now.files.now) s.head.top × ((length mem.now.files.now ≡ 65536) × (length mem.now.area.now ≡ 65536)))) }
+    ensures { StagedAt index.now.job.now index.now.rows.now mem.now.files.now mem.now.area.now head s glue.old glue.new pkg.old pkg.new report.old report.new result }
 {
     let mut way = [0u8; 2144];
     let h = s.head;
     let t = h.top;
-    let p = findscope::find_scope(job, nums, head, files, area, t, &mut way);
-    if p.number != 0 {
-        return answers::stopped(p.number);
+    match findscope::find_scope(index, head, mem, t, &mut way) {
+        Err(e) => answers::stopped(e.number()),
+        Ok(p) => {
+            let path = findscope::path_text(&index.job[..], head, &way[..], p);
+            let top = lines::part_of(index.job, head.top);
+            generate::generate(
+                &Source {
+                    design: Design {
+                        index: *index,
+                        count: head.modules,
+                    },
+                    mem: *mem,
+                    scope: ScopePath {
+                        over: path,
+                        from: p.from,
+                    },
+                    top,
+                },
+                p.row,
+                s,
+                glue,
+                pkg,
+                report,
+            )
+        }
     }
-    let path = findscope::path_text(&job[..], head, &way[..], p);
-    let top = lines::part_of(job, head.top);
-    generate::generate(
-        job,
-        nums,
-        head.modules,
-        p.row,
-        files,
-        area,
-        path,
-        p.from,
-        top,
-        s,
-        glue,
-        pkg,
-        report,
-    )
 }
 
 // Checks 2 to 10, the work areas being of their least size.
+// The files and the area are written here, so they stay apart.
 fn checked(
     job: &[u8],
     files: &mut [u8],
@@ -68,41 +75,43 @@ fn checked(
     requires { (length files.old ≡ 65536) × ((length area.old ≡ 65536) × (16384 ≤ length nums.old)) }
     ensures { Checked job.now glue.old glue.new pkg.old pkg.new report.old report.new log.old log.new result }
 {
-    let r = intent::read_intent(
+    match intent::read_intent(
         job,
         &mut files[..],
         &mut area[..],
         &mut nums[..],
         &mut log[..],
-    );
-    let taken = r.taken;
-    if !taken {
-        return answers::refused(r.number, r.place);
+    ) {
+        Err(e) => answers::refused(e.number, e.place),
+        Ok(r) => {
+            let rooms = Rooms {
+                glue: glue.len(),
+                pkg: pkg.len(),
+                report: report.len(),
+                log: log.len(),
+            };
+            let t = texts(
+                &Index {
+                    job,
+                    rows: &nums[..],
+                },
+                &Memory {
+                    files: &files[..],
+                    area: &area[..],
+                },
+                r.head,
+                r.state,
+                glue,
+                pkg,
+                report,
+            );
+            answers::fitted(t, r.state.fill.log, rooms)
+        }
     }
-    let head = r.head;
-    let s = r.state;
-    let rooms = Rooms {
-        glue: glue.len(),
-        pkg: pkg.len(),
-        report: report.len(),
-        log: log.len(),
-    };
-    let end = s.fill.log;
-    let t = texts(
-        job,
-        &nums[..],
-        &files[..],
-        &area[..],
-        head,
-        s,
-        glue,
-        pkg,
-        report,
-    );
-    answers::fitted(t, end, rooms)
 }
 
 // The same with the front of the second work area.
+// The files and the area are written here, so they stay apart.
 fn in_area(
     job: &[u8],
     files: &mut [u8],
@@ -120,6 +129,7 @@ fn in_area(
 }
 
 // Check 1, and the others.
+// The files and the area are written here, so they stay apart.
 fn answered(
     job: &[u8],
     files: &mut [u8],
@@ -145,6 +155,7 @@ fn answered(
 }
 
 // A job, answered. Outputs past their length, and the work areas, are zero afterwards.
+// The files and the area are written here, so they stay apart.
 pub fn run(
     job: &[u8],
     files: &mut [u8],

@@ -11,9 +11,9 @@ use Rattle.jobindex.specs.declared.Header.{Header}
 use Rattle.std.specs.Prelude.{Result, Ok, Err}
 use Rattle.job.specs.declared.Refused.{Refused}
 use Rattle.job.specs.Reader.{JobRead}
-use Rattle.listing.specs.Listing.{Answer as Listing-as-Answer}
+use Rattle.listing.specs.Listing.{Listed}
 use Rattle.listing.specs.declared.Walk.{Walk}
-use Rattle.walkc.specs.Counted.{module_count, Walked}
+use Rattle.walkc.specs.Counted.{module_count, Told}
 
 module _ (job index index' : List ℕ) (r : Result Header Refused) (s : JobRead job index index' r) where
   pub tell_refused : (x : Refused) → r ≡ Err x → 0 ≡ module_count (parse job)
@@ -24,7 +24,7 @@ module _ (job index index' : List ℕ) (r : Result Header Refused) (s : JobRead 
 
 pub ruleset tells = (rules, tell_refused, tell_taken)
 
-pub walked : (prefix v : ℕ) (ps : List Bytes) (w : Walk) (text : Bytes) (ends : List ℕ) → Listing-as-Answer prefix v ps w text ends → Walked prefix v ps w.over w.entered w.count w.end w.used text ends
-walked prefix v ps w text ends a = record { stamp = w.stamp; answer = a }
+pub walked : (prefix v : ℕ) (ps : List Bytes) (w : Walk) (text : Bytes) (ends : List ℕ) → Listed prefix v ps w text ends → Told prefix v ps w.entered w.count w.end w.used text ends
+walked prefix v ps w text ends a = record { stamp = w.stamp; listed = a }
 
 pub ruleset walks = (rules, walked)

@@ -13,10 +13,12 @@ ghost use Rattle.nametable.specs.Table.{row_put, Stores, table_names};
 ghost use Rattle.walk.specs.Walk.{domain_list, domain_entered};
 ghost use Rattle.paths.specs.Pieces.{entries_below};
 ghost use Rattle.corrupt.specs.Corrupt.{DomainGiven};
-ghost use Rattle.walkc.specs.Counted.{module_count, Walked};
+ghost use Rattle.walkc.specs.Counted.{module_count, form_of, Walked};
 
-use names::name::Name;
-use spans::span::Span;
+use jobindex::{Design, Index};
+use names::name::{Form, Name};
+use spans::span::{Memory, Span};
+use text::part::Rows;
 
 // The number of modules of a job, 0 for one that is refused; `index` gets the index of a job that is accepted.
 #[tactic(auto, using(crate::proofs::Telling::tells))]
@@ -35,10 +37,29 @@ pub fn walkc_table(job: &[u8], index: &[u32], count: usize, inputs: &mut [u32], 
     requires { MakeGiven job.now index.now count inputs.old table.old }
     ensures { Tabled job.now index.now count table.new }
 {
-    modtable::make::make(job, index, count, inputs, table)
+    modtable::make::make(
+        &Design {
+            index: Index { job, rows: index },
+            count,
+        },
+        inputs,
+        table,
+    )
 }
 
-// Puts a name into row k of a table.
+// The form that a number stands for.
+#[tactic(auto, using(text::specs::Cases::cases))]
+fn form_of(form: u8) -> Form
+    ensures { result ≡ form_of form }
+{
+    match form {
+        0 => Form::Word,
+        2 => Form::Quoted,
+        _ => Form::Entry,
+    }
+}
+
+// Puts a name into row k of a table. C has the form as a number.
 pub fn walkc_put(
     table: &mut [u32],
     k: usize,
@@ -49,8 +70,8 @@ pub fn walkc_put(
     len: usize,
     form: u8,
 )
-    requires { (k ≤ 65536) × ((5 * k + 5 ≤ length table.old) × Stores (named (from ⋯ size) sep (at ⋯ len) form)) }
-    ensures { table.new ≡ row_put table.old k (named (from ⋯ size) sep (at ⋯ len) form) }
+    requires { (k ≤ 65536) × ((5 * k + 5 ≤ length table.old) × Stores (named (from ⋯ size) sep (at ⋯ len) (form_of form))) }
+    ensures { table.new ≡ row_put table.old k (named (from ⋯ size) sep (at ⋯ len) (form_of form)) }
 {
     let n = Name {
         scope: Span {
@@ -59,7 +80,7 @@ pub fn walkc_put(
         },
         sep,
         word: Span { at, len },
-        form,
+        form: form_of(form),
     };
     nametable::put_row(table, k, n)
 }
@@ -91,13 +112,35 @@ pub fn walkc_paths(
     requires { DomainGiven job.now index.now count k modules.now files.now area.now n m prefix tail.old text.old ends.old }
     ensures { Walked prefix (domain_entered (Rows·modules job.now index.now count) (module_row job.now index.now k) [] (entries_below below (table_names (files.now ++ area.now) retained.now n)) (table_names (files.now ++ area.now) elements.now m)) (domain_list (Rows·modules job.now index.now count) (module_row job.now index.now k) [] (entries_below below (table_names (files.now ++ area.now) retained.now n)) (table_names (files.now ++ area.now) elements.now m)) result entered.new paths.new end.new used.new text.new ends.new }
 {
-    let w = corrupt::domain_paths(
-        job, index, count, k, modules, files, area, retained, n, below, elements, m, prefix, tail,
-        text, ends, 1,
-    );
+    let Ok(w) = corrupt::domain_paths(
+        &Design {
+            index: Index { job, rows: index },
+            count,
+        },
+        k,
+        modules,
+        &Memory { files, area },
+        &Rows { rows: retained, n },
+        below,
+        &Rows {
+            rows: elements,
+            n: m,
+        },
+        prefix,
+        tail,
+        text,
+        ends,
+        1,
+    ) else {
+        *entered = 0;
+        *paths = 0;
+        *end = 0;
+        *used = 0;
+        return true;
+    };
     *entered = w.entered;
     *paths = w.count;
     *end = w.end;
     *used = w.used;
-    w.over
+    false
 }

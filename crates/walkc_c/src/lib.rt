@@ -13,7 +13,7 @@ ghost use Rattle.nametable.specs.Table.{row_put, Stores, table_names};
 ghost use Rattle.walk.specs.Walk.{domain_list, domain_entered};
 ghost use Rattle.paths.specs.Pieces.{entries_below};
 ghost use Rattle.corrupt.specs.Corrupt.{DomainGiven};
-ghost use Rattle.walkc.specs.Counted.{module_count, Walked};
+ghost use Rattle.walkc.specs.Counted.{module_count, form_of, Walked};
 
 // The number of modules of a job, 0 for one that is refused; `index` gets the index of a job that is accepted.
 #[unsafe(no_mangle)]
@@ -51,8 +51,8 @@ pub extern "C" fn walkc_put(
     len: usize,
     form: u8,
 )
-    requires { (k ≤ 65536) × ((5 * k + 5 ≤ length table.old) × Stores (named (from ⋯ size) sep (at ⋯ len) form)) }
-    ensures { table.new ≡ row_put table.old k (named (from ⋯ size) sep (at ⋯ len) form) }
+    requires { (k ≤ 65536) × ((5 * k + 5 ≤ length table.old) × Stores (named (from ⋯ size) sep (at ⋯ len) (form_of form))) }
+    ensures { table.new ≡ row_put table.old k (named (from ⋯ size) sep (at ⋯ len) (form_of form)) }
 {
     walkc::walkc_put(table, k, from, size, sep, at, len, form)
 }

@@ -11,8 +11,8 @@ use Rattle.alike.proofs.same_words.Goals as goal
 
 pub returns : goal.returns
 returns c =
-    let p = bytes (c.args.files.now ++ c.args.area.now) c.args.a in
-    let q = bytes (c.args.files.now ++ c.args.area.now) c.args.b in
+    let p = bytes (c.args.mem.now.files.now ++ c.args.mem.now.area.now) c.args.a in
+    let q = bytes (c.args.mem.now.files.now ++ c.args.mem.now.area.now) c.args.b in
     dotted_same c.map-y.result c.eq.result p q
     (YieldsList-from_map _ dot_of (YieldsList-at c.map-x.ensures.source (YieldsList-from_first (λ x. x) left_of p refl)) c.map-x.ensures.closure (λ x r q k. search rules))
     (YieldsList-from_map _ dot_of (YieldsList-at c.map-y.ensures.source (YieldsList-from_first (λ x. x) left_of q refl)) c.map-y.ensures.closure (λ x r q k. search rules))

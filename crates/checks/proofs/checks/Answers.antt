@@ -27,7 +27,7 @@ pub loop-k-preserved-in-None : goal.loop-k-preserved-in-None
 loop-k-preserved-in-None c = (c.loop-k.invariant.0, gather_other _ _ _ _ _ _ c.requires _ _ _ _ c.loop-k.invariant.1 c.loop-k-test.true _ c.strategy_at-i.ensures _ (told_none _ _ _ _ c.loop-k.invariant.0 _ c.in-None.is) refl)
 
 pub loop-k-preserved-then-not-same_spans : goal.loop-k-preserved-then-not-same_spans
-loop-k-preserved-then-not-same_spans c = (seen_as _ _ _ _ c.loop-k.invariant.0 _ c.in-One.is, gather_other _ _ _ _ _ _ c.requires _ _ _ _ c.loop-k.invariant.1 c.loop-k-test.true _ c.strategy_at-i.ensures _ (told_one _ _ _ _ c.loop-k.invariant.0 _ _ c.in-One.is _ _ c.span.ensures c.span-in-One.ensures _ c.same_spans.ensures) c.if-not-same_spans.true-raw)
+loop-k-preserved-then-not-same_spans c = (seen_as _ _ _ _ c.loop-k.invariant.0 _ c.in-One.is, gather_other _ _ _ _ _ _ c.requires _ _ _ _ c.loop-k.invariant.1 c.loop-k-test.true _ c.strategy_at-i.ensures _ (told_one _ _ _ _ c.loop-k.invariant.0 _ _ c.in-One.is _ _ c.from.ensures c.from-in-One.ensures _ c.same_spans.ensures) c.if-not-same_spans.true-raw)
 
 pub has_own-requires : goal.has_own-requires
 has_own-requires c = c.requires.sized
@@ -42,6 +42,6 @@ add-m-requires c = gather_adds _ _ _ _ _ _ c.requires _ _ _ _ c.loop-k.invariant
 pub loop-k-preserved : goal.loop-k-preserved
 loop-k-preserved c =
     elim c.match-own.branch [
-      | in-One+else-not-same_spans w ↦ (seen_as _ _ _ _ c.loop-k.invariant.0 _ (w.in-One.is ∙ sym w.own-is), gather_one _ _ _ _ _ _ c.requires _ _ _ _ c.loop-k.invariant.1 c.loop-k-test.true _ c.strategy_at-i.ensures _ (told_one _ _ _ _ c.loop-k.invariant.0 _ _ w.in-One.is _ _ w.span.ensures w.span-in-One.ensures _ w.same_spans.ensures) w.if-not-same_spans.false-raw _ _ c.add-m.ensures)
+      | in-One+else-not-same_spans w ↦ (seen_as _ _ _ _ c.loop-k.invariant.0 _ (w.in-One.is ∙ sym w.own-is), gather_one _ _ _ _ _ _ c.requires _ _ _ _ c.loop-k.invariant.1 c.loop-k-test.true _ c.strategy_at-i.ensures _ (told_one _ _ _ _ c.loop-k.invariant.0 _ _ w.in-One.is _ _ w.from.ensures w.from-in-One.ensures _ w.same_spans.ensures) w.if-not-same_spans.false-raw _ _ c.add-m.ensures)
       | in-More+else-not-has_own w ↦ (seen_as _ _ _ _ c.loop-k.invariant.0 _ (sym w.own-is), gather_one _ _ _ _ _ _ c.requires _ _ _ _ c.loop-k.invariant.1 c.loop-k-test.true _ c.strategy_at-i.ensures _ w.has_own.ensures w.if-not-has_own.false-raw _ _ c.add-m.ensures)
     ]

@@ -5,7 +5,7 @@ use Rattle.checks.proofs.Loops.{Gathers}
 use Rattle.checks.proofs.checks.Given as goal
 
 abbrev pub invariant-loop-k : goal.invariant-loop-k
-invariant-loop-k l = SoleSeen (l.files ++ l.area) l.t l.domain l.own × Gathers (l.files ++ l.area) l.t l.domain l.ports l.n l.initial.found l.found l.m l.k l.s
+invariant-loop-k l = SoleSeen (l.mem.files.now ++ l.mem.area.now) l.t l.domain l.own × Gathers (l.mem.files.now ++ l.mem.area.now) l.t l.domain l.ports.rows.now l.ports.n l.initial.found l.found l.m l.k l.s
 
 abbrev pub decreases-loop-k : goal.decreases-loop-k
 decreases-loop-k l = l.k

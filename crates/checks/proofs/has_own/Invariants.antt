@@ -5,4 +5,4 @@ use Rattle.checks.proofs.Owns.{Seeks}
 use Rattle.checks.proofs.has_own.Given as goal
 
 abbrev pub invariant-loop-j : goal.invariant-loop-j
-invariant-loop-j l = Seeks (l.files ++ l.area) l.t l.name l.domain l.j
+invariant-loop-j l = Seeks (l.mem.files.now ++ l.mem.area.now) l.t l.name l.domain l.j

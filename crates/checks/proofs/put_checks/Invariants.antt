@@ -14,4 +14,4 @@ use Rattle.checks.proofs.Loops.{Writes}
 use Rattle.checks.proofs.put_checks.Given as goal
 
 abbrev pub invariant-loop-k : goal.invariant-loop-k
-invariant-loop-k l = SameRoom l.initial.to l.to × Writes (check_text (parts l.over l.from) (strategy_at (l.files ++ l.area) l.t) (name_of (l.files ++ l.area) l.domain)) l.found l.n (emit (shown l.initial.to) (each (check_text (parts l.over l.from) (strategy_at (l.files ++ l.area) l.t) (name_of (l.files ++ l.area) l.domain)) (take l.n l.found))) (shown l.to) l.k
+invariant-loop-k l = SameRoom l.initial.to l.to × Writes (check_text (parts l.src.scope.over.now l.src.scope.from) (strategy_at (l.src.mem.files.now ++ l.src.mem.area.now) l.t) (name_of (l.src.mem.files.now ++ l.src.mem.area.now) l.domain)) l.found l.n (emit (shown l.initial.to) (each (check_text (parts l.src.scope.over.now l.src.scope.from) (strategy_at (l.src.mem.files.now ++ l.src.mem.area.now) l.t) (name_of (l.src.mem.files.now ++ l.src.mem.area.now) l.domain)) (take l.n l.found))) (shown l.to) l.k

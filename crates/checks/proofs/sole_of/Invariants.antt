@@ -5,4 +5,4 @@ use Rattle.checks.proofs.Soles.{Passes}
 use Rattle.checks.proofs.sole_of.Given as goal
 
 abbrev pub invariant-loop-j : goal.invariant-loop-j
-invariant-loop-j l = Passes (l.files ++ l.area) l.t l.domain l.one l.j
+invariant-loop-j l = Passes (l.mem.files.now ++ l.mem.area.now) l.t l.domain l.one l.j

@@ -6,4 +6,4 @@ use Rattle.checks.proofs.Inserts.{Spots}
 use Rattle.checks.proofs.spot.Given as goal
 
 abbrev pub invariant-loop-k : goal.invariant-loop-k
-invariant-loop-k l = Spots (strategy_at (l.files ++ l.area) l.t) l.i l.found l.n l.k
+invariant-loop-k l = Spots (strategy_at (l.mem.files.now ++ l.mem.area.now) l.t) l.i l.found l.n l.k

@@ -7,4 +7,4 @@ use Rattle.clamps.proofs.Streams.{Lows}
 use Rattle.clamps.proofs.is_lowered.Given as goal
 
 abbrev pub invariant-loop-c : goal.invariant-loop-c
-invariant-loop-c l = Lows (l.files ++ l.area) l.w (same (lowered (bytes (l.files ++ l.area) l.initial.x)) l.w) l.x l.c-index
+invariant-loop-c l = Lows (l.mem.files.now ++ l.mem.area.now) l.w (same (lowered (bytes (l.mem.files.now ++ l.mem.area.now) l.initial.x)) l.w) l.x l.c-index

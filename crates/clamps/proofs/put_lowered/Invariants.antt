@@ -10,7 +10,7 @@ use Rattle.clamps.proofs.Streams.{Puts}
 use Rattle.clamps.proofs.put_lowered.Given as goal
 
 abbrev pub invariant-loop-b : goal.invariant-loop-b
-invariant-loop-b l = SameRoom l.initial.to l.to × Puts (l.files ++ l.area) (emit (shown l.initial.to) (lowered (name_of (l.files ++ l.area) l.initial.x))) (shown l.to) l.x
+invariant-loop-b l = SameRoom l.initial.to l.to × Puts (l.mem.files.now ++ l.mem.area.now) (emit (shown l.initial.to) (lowered (name_of (l.mem.files.now ++ l.mem.area.now) l.initial.x))) (shown l.to) l.x
 
 abbrev pub decreases-loop-b : goal.decreases-loop-b
-decreases-loop-b l = length (name_of (l.files ++ l.area) l.x)
+decreases-loop-b l = length (name_of (l.mem.files.now ++ l.mem.area.now) l.x)

@@ -7,4 +7,4 @@ use Rattle.conditions.proofs.Words.{Drops}
 use Rattle.conditions.proofs.behind.Given as goal
 
 abbrev pub invariant-loop-k : goal.invariant-loop-k
-invariant-loop-k l = Drops (l.files ++ l.area) (drop l.n (name_of (l.files ++ l.area) l.initial.x)) l.n l.x l._k
+invariant-loop-k l = Drops (l.mem.files.now ++ l.mem.area.now) (drop l.n (name_of (l.mem.files.now ++ l.mem.area.now) l.initial.x)) l.n l.x l._k

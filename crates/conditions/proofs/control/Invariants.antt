@@ -6,7 +6,7 @@ use Rattle.conditions.proofs.Words.{Controls, controls}
 use Rattle.conditions.proofs.control.Given as goal
 
 abbrev pub invariant-loop-i : goal.invariant-loop-i
-invariant-loop-i l = Controls (l.files ++ l.area) l.controls l.n (text_of l.job (l.files ++ l.area) l.w) l.found l.i
+invariant-loop-i l = Controls (l.mem.files.now ++ l.mem.area.now) l.controls.rows.now l.controls.n (text_of l.job (l.mem.files.now ++ l.mem.area.now) l.w) l.found l.i
 
 abbrev pub decreases-loop-i : goal.decreases-loop-i
-decreases-loop-i l = l.n - l.i
+decreases-loop-i l = l.controls.n - l.i

@@ -9,4 +9,4 @@ use Rattle.conditions.proofs.Words.{Digits}
 use Rattle.conditions.proofs.is_number.Given as goal
 
 abbrev pub invariant-loop-k : goal.invariant-loop-k
-invariant-loop-k l = Digits (l.files ++ l.area) (all is_digit (take l.n (name_of (l.files ++ l.area) l.initial.x))) l.n l.x l._k
+invariant-loop-k l = Digits (l.mem.files.now ++ l.mem.area.now) (all is_digit (take l.n (name_of (l.mem.files.now ++ l.mem.area.now) l.initial.x))) l.n l.x l._k

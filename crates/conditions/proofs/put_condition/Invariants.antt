@@ -14,7 +14,7 @@ use Rattle.conditions.proofs.Written.{Conditions}
 use Rattle.conditions.proofs.put_condition.Given as goal
 
 abbrev pub invariant-loop-b : goal.invariant-loop-b
-invariant-loop-b l = SameRoom l.initial.to l.to × Conditions (scope_setting (parts l.over l.from)) (controls_of (table_names (l.files ++ l.area) l.controls l.count)) (l.files ++ l.area) (emit (shown l.initial.to) (condition (scope_setting (parts l.over l.from)) (controls_of (table_names (l.files ++ l.area) l.controls l.count)) (name_of (l.files ++ l.area) l.initial.x))) (shown l.to) l.x
+invariant-loop-b l = SameRoom l.initial.to l.to × Conditions (scope_setting (parts l.src.scope.over.now l.src.scope.from)) (controls_of (table_names (l.src.mem.files.now ++ l.src.mem.area.now) l.controls.rows.now l.controls.n)) (l.src.mem.files.now ++ l.src.mem.area.now) (emit (shown l.initial.to) (condition (scope_setting (parts l.src.scope.over.now l.src.scope.from)) (controls_of (table_names (l.src.mem.files.now ++ l.src.mem.area.now) l.controls.rows.now l.controls.n)) (name_of (l.src.mem.files.now ++ l.src.mem.area.now) l.initial.x))) (shown l.to) l.x
 
 abbrev pub decreases-loop-b : goal.decreases-loop-b
-decreases-loop-b l = length (name_of (l.files ++ l.area) l.x)
+decreases-loop-b l = length (name_of (l.src.mem.files.now ++ l.src.mem.area.now) l.x)

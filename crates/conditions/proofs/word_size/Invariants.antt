@@ -8,7 +8,7 @@ use Rattle.conditions.proofs.Words.{Sizes}
 use Rattle.conditions.proofs.word_size.Given as goal
 
 abbrev pub invariant-loop-b : goal.invariant-loop-b
-invariant-loop-b l = Sizes (l.files ++ l.area) (before no_variable (name_of (l.files ++ l.area) l.initial.x)) l.x l.n
+invariant-loop-b l = Sizes (l.mem.files.now ++ l.mem.area.now) (before no_variable (name_of (l.mem.files.now ++ l.mem.area.now) l.initial.x)) l.x l.n
 
 abbrev pub decreases-loop-b : goal.decreases-loop-b
-decreases-loop-b l = length (name_of (l.files ++ l.area) l.x)
+decreases-loop-b l = length (name_of (l.mem.files.now ++ l.mem.area.now) l.x)

@@ -12,4 +12,4 @@ abbrev pub decreases-corruptible : goal.decreases-corruptible
 decreases-corruptible l = l.left
 
 abbrev pub invariant-loop-j : goal.invariant-loop-j
-invariant-loop-j l = Round l.job l.table l.k l.left (l.files ++ l.area) l.n (entries_below l.below (table_names (l.files ++ l.area) l.retained l.n)) l.e l.elen l.h l.t l.u l.prefix l.initial.tail (l.initial.w.entered + row_visits l.job l.table l.k l.left (l.files ++ l.area) l.n (entries_below l.below (table_names (l.files ++ l.area) l.retained l.n)) l.e l.elen l.h l.t l.u l.prefix l.initial.tail) (add_all (paths_of l.initial.text l.initial.ends l.initial.w.count) (row_lists l.job l.table l.k l.left (l.files ++ l.area) l.n (entries_below l.below (table_names (l.files ++ l.area) l.retained l.n)) l.e l.elen l.h l.t l.u l.prefix l.initial.tail)) l.tail l.text l.ends l.w l.j
+invariant-loop-j l = Round l.job l.table l.k l.left (l.mem.files.now ++ l.mem.area.now) l.retained.n (entries_below l.below (table_names (l.mem.files.now ++ l.mem.area.now) l.retained.rows.now l.retained.n)) l.e l.elen l.h l.t l.u l.prefix l.initial.tail (l.initial.w.entered + row_visits l.job l.table l.k l.left (l.mem.files.now ++ l.mem.area.now) l.retained.n (entries_below l.below (table_names (l.mem.files.now ++ l.mem.area.now) l.retained.rows.now l.retained.n)) l.e l.elen l.h l.t l.u l.prefix l.initial.tail) (add_all (paths_of l.initial.text l.initial.ends l.initial.w.count) (row_lists l.job l.table l.k l.left (l.mem.files.now ++ l.mem.area.now) l.retained.n (entries_below l.below (table_names (l.mem.files.now ++ l.mem.area.now) l.retained.rows.now l.retained.n)) l.e l.elen l.h l.t l.u l.prefix l.initial.tail)) l.tail l.text l.ends l.w l.j

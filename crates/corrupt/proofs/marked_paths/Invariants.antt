@@ -9,4 +9,4 @@ use Rattle.corrupt.proofs.Domain.{Elements}
 use Rattle.corrupt.proofs.marked_paths.Given as goal
 
 abbrev pub invariant-loop-i : goal.invariant-loop-i
-invariant-loop-i l = Elements l.job l.index l.count l.k l.table l.files l.area l.n (entries_below l.below (table_names (l.files ++ l.area) l.retained l.n)) l.elements l.m l.prefix l.initial.tail l.initial.text l.initial.ends (domain_entered (modules l.job l.index l.count) (module_row l.job l.index l.k) [] (entries_below l.below (table_names (l.files ++ l.area) l.retained l.n)) (table_names (l.files ++ l.area) l.elements l.m)) (domain_list (modules l.job l.index l.count) (module_row l.job l.index l.k) [] (entries_below l.below (table_names (l.files ++ l.area) l.retained l.n)) (table_names (l.files ++ l.area) l.elements l.m)) l.text l.ends l.w l.i
+invariant-loop-i l = Elements l.design.index.job.now l.design.index.rows.now l.design.count l.k l.table l.mem.files.now l.mem.area.now l.retained.n (entries_below l.below (table_names (l.mem.files.now ++ l.mem.area.now) l.retained.rows.now l.retained.n)) l.elements.rows.now l.elements.n l.prefix l.initial.tail l.initial.text l.initial.ends (domain_entered (modules l.design.index.job.now l.design.index.rows.now l.design.count) (module_row l.design.index.job.now l.design.index.rows.now l.k) [] (entries_below l.below (table_names (l.mem.files.now ++ l.mem.area.now) l.retained.rows.now l.retained.n)) (table_names (l.mem.files.now ++ l.mem.area.now) l.elements.rows.now l.elements.n)) (domain_list (modules l.design.index.job.now l.design.index.rows.now l.design.count) (module_row l.design.index.job.now l.design.index.rows.now l.k) [] (entries_below l.below (table_names (l.mem.files.now ++ l.mem.area.now) l.retained.rows.now l.retained.n)) (table_names (l.mem.files.now ++ l.mem.area.now) l.elements.rows.now l.elements.n)) l.text l.ends l.w l.i

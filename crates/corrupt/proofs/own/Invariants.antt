@@ -9,4 +9,4 @@ use Rattle.corrupt.proofs.OwnNames.{Names}
 use Rattle.corrupt.proofs.own.Given as goal
 
 abbrev pub invariant-loop-i : goal.invariant-loop-i
-invariant-loop-i l = Names l.job l.table l.k (l.files ++ l.area) l.e l.elen l.h l.tail l.number l.prefix l.initial.w.entered (add_all (paths_of l.initial.text l.initial.ends l.initial.w.count) (map (λ n. dotted (name_of (l.files ++ l.area) l.e) ++ (l.tail ++ n)) (names_of l.job l.table l.k))) l.w l.text l.ends l.i
+invariant-loop-i l = Names l.job l.table l.k (l.mem.files.now ++ l.mem.area.now) l.e l.elen l.h l.tail l.number l.prefix l.initial.w.entered (add_all (paths_of l.initial.text l.initial.ends l.initial.w.count) (map (λ n. dotted (name_of (l.mem.files.now ++ l.mem.area.now) l.e) ++ (l.tail ++ n)) (names_of l.job l.table l.k))) l.w l.text l.ends l.i

@@ -2,17 +2,17 @@
 use Rattle.cover.proofs.Ports.{elements}
 use Rattle.cover.proofs.cover_element.Goals as goal
 
-pub last_slash-l-requires : goal.last_slash-l-requires
-last_slash-l-requires c = search elements
+pub last_slash-requires : goal.last_slash-requires
+last_slash-requires c = search elements
 
 pub cover_port-requires : goal.cover_port-requires
 cover_port-requires c = search elements
 
-pub returns-then-l : goal.returns-then-l
-returns-then-l c = search elements
+pub returns-in-Some : goal.returns-in-Some
+returns-in-Some c = search elements
 
 pub cover_outputs-requires : goal.cover_outputs-requires
 cover_outputs-requires c = search elements
 
-pub returns : goal.returns
-returns c = search elements
+pub returns-in-None : goal.returns-in-None
+returns-in-None c = search elements

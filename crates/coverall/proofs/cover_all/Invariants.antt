@@ -13,4 +13,4 @@ use Rattle.coverall.proofs.cover_all.Given as goal
 abbrev pub invariant-loop-i : goal.invariant-loop-i
 invariant-loop-i l = (length l.out ≡ length l.initial.out)
     × ((length l.ports ≡ length l.initial.ports)
-    × Alls l.job (l.files ++ l.area) l.warn l.initial.x l.initial.out l.initial.ports l.s.number (name_of (l.files ++ l.area) l.s.name) (aims_for l.outputs (modules l.job l.index l.count) (module_row l.job l.index l.k)) l.table l.n l.x l.out l.ports l.i)
+    × Alls l.design.index.job.now (l.mem.files.now ++ l.mem.area.now) l.warn l.initial.x l.initial.out l.initial.ports l.s.number (name_of (l.mem.files.now ++ l.mem.area.now) l.s.name) (aims_for l.outputs (modules l.design.index.job.now l.design.index.rows.now l.design.count) (module_row l.design.index.job.now l.design.index.rows.now l.k)) l.table.rows.now l.table.n l.x l.out l.ports l.i)

@@ -14,4 +14,4 @@ use Rattle.domainline.proofs.put_entries.Given as goal
 
 abbrev pub invariant-loop-k : goal.invariant-loop-k
 invariant-loop-k l = SameRoom l.initial.to l.to
-    × Joins l.sep (l.files ++ l.area) (parts l.over l.from) l.table l.n (emit (shown l.initial.to) (joined l.sep (map (retained_path (parts l.over l.from)) (table_names (l.files ++ l.area) l.table l.n)))) (shown l.to) l.k
+    × Joins l.sep (l.mem.files.now ++ l.mem.area.now) (parts l.scope.over.now l.scope.from) l.table.rows.now l.table.n (emit (shown l.initial.to) (joined l.sep (map (retained_path (parts l.scope.over.now l.scope.from)) (table_names (l.mem.files.now ++ l.mem.area.now) l.table.rows.now l.table.n)))) (shown l.to) l.k

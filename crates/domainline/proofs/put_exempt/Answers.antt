@@ -1,9 +1,6 @@
 -- `domainline::put_exempt` meets its contract. Assumes nothing.
-use Rattle.domainline.proofs.Written.{exempts}
+use Rattle.domainline.proofs.Written.{exempt_all}
 use Rattle.domainline.proofs.put_exempt.Goals as goal
 
-pub returns-then-n-eq0 : goal.returns-then-n-eq0
-returns-then-n-eq0 c = search exempts
-
 pub returns : goal.returns
-returns c = search exempts
+returns c = (cc, exempt_all _ _ _ _ _ _ _ c.put_entries.ensures.1 c.put.ensures.1 c.if-table-eq0.false)

@@ -6,4 +6,4 @@ use Rattle.domainlists.proofs.Tables.{All}
 use Rattle.domainlists.proofs.retained.Given as goal
 
 abbrev pub invariant-loop-i : goal.invariant-loop-i
-invariant-loop-i l = (length l.table ≡ length l.initial.table) × All (l.files ++ l.area) l.t l.initial.table l.table l.n l.i
+invariant-loop-i l = (length l.table ≡ length l.initial.table) × All (l.mem.files.now ++ l.mem.area.now) l.t l.initial.table l.table l.n l.i

@@ -6,4 +6,4 @@ use Rattle.domainlists.proofs.Tables.{Own}
 use Rattle.domainlists.proofs.retained_of.Given as goal
 
 abbrev pub invariant-loop-i : goal.invariant-loop-i
-invariant-loop-i l = (length l.table ≡ length l.initial.table) × Own (l.files ++ l.area) l.t l.domain l.initial.table l.table l.n l.i
+invariant-loop-i l = (length l.table ≡ length l.initial.table) × Own (l.mem.files.now ++ l.mem.area.now) l.t l.domain l.initial.table l.table l.n l.i

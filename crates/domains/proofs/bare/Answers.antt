@@ -1,6 +1,7 @@
 -- `domains::bare` meets its contract. Assumes nothing.
 use borrow.Author.Rules.{rules}
-use Rattle.domains.proofs.OneDomain.{over_written, bare_line}
+use Rattle.out.specs.Emit.{over_written}
+use Rattle.domains.proofs.OneDomain.{bare_line}
 use Rattle.domains.proofs.bare.Goals as goal
 
 pub returns : goal.returns

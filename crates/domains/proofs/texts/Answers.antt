@@ -1,5 +1,6 @@
 -- `domains::texts` meets its contract. Assumes nothing.
-use Rattle.domains.proofs.OneDomain.{over_written, texts_glue, texts_report, texts_are}
+use Rattle.out.specs.Emit.{over_written}
+use Rattle.domains.proofs.OneDomain.{texts_glue, texts_report, texts_are}
 use borrow.Author.Rules.{rules}
 use Rattle.domains.proofs.texts.Goals as goal
 

@@ -1,9 +1,9 @@
 -- `domainwarnings::missing_among` meets its contract: the warnings about the elements left are told behind what was. Assumes nothing.
-use Prim.Native.Nat.{◌+◌, ◌≤◌, ◌-◌}
-use mathlib.Core.Path.{◌≡◌}
+use Prim.Native.Nat.{◌+◌, ◌≤◌}
 use mathlib.Core.List.{◌++◌}
 use lib.ListN.{length}
-use Rattle.out.specs.Emit.{emit, ◌▸◌}
+use Rattle.out.specs.Emit.{emit}
+use Rattle.out.specs.Text.{shown, SameRoom}
 use Rattle.out.specs.Items.{each}
 use Rattle.jobindex.specs.Index.{module_row}
 use Rattle.lookup.specs.Rows.{modules}
@@ -15,10 +15,10 @@ use Rattle.domainwarnings.proofs.Tells.{Among}
 use Rattle.domainwarnings.proofs.missing_among.Given as goal
 
 abbrev pub invariant-loop-i : goal.invariant-loop-i
-invariant-loop-i l = (length l.out ≡ length l.initial.out)
-    × ((l.i ≤ l.n)
-    × ((l.o.count ≤ l.initial.o.count + l.i)
-    × Among (modules l.job l.nums l.count) (module_row l.job l.nums l.k) (l.files ++ l.area) (string (l.files ++ l.area) l.domain) l.elements l.n
-    (emit (l.initial.out ▸ l.initial.o.at) (each warning_line (missing (modules l.job l.nums l.count) (module_row l.job l.nums l.k) (string (l.files ++ l.area) l.domain) (table_names (l.files ++ l.area) l.elements l.n))))
-    (l.initial.o.count + length (missing (modules l.job l.nums l.count) (module_row l.job l.nums l.k) (string (l.files ++ l.area) l.domain) (table_names (l.files ++ l.area) l.elements l.n)))
-    (l.out ▸ l.o.at) l.o.count l.i))
+invariant-loop-i l = SameRoom l.initial.to l.to
+    × ((l.i ≤ l.elements.n)
+    × ((l.told ≤ l.initial.told + l.i)
+    × Among (modules l.design.index.job.now l.design.index.rows.now l.design.count) (module_row l.design.index.job.now l.design.index.rows.now l.k) (l.mem.files.now ++ l.mem.area.now) (string (l.mem.files.now ++ l.mem.area.now) l.domain) l.elements.rows.now l.elements.n
+    (emit (shown l.initial.to) (each warning_line (missing (modules l.design.index.job.now l.design.index.rows.now l.design.count) (module_row l.design.index.job.now l.design.index.rows.now l.k) (string (l.mem.files.now ++ l.mem.area.now) l.domain) (table_names (l.mem.files.now ++ l.mem.area.now) l.elements.rows.now l.elements.n))))
+    (l.initial.told + length (missing (modules l.design.index.job.now l.design.index.rows.now l.design.count) (module_row l.design.index.job.now l.design.index.rows.now l.k) (string (l.mem.files.now ++ l.mem.area.now) l.domain) (table_names (l.mem.files.now ++ l.mem.area.now) l.elements.rows.now l.elements.n)))
+    (shown l.to) l.told l.i))

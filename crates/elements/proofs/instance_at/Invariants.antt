@@ -7,7 +7,7 @@ use Rattle.memo.specs.Known.{Begins}
 use Rattle.elements.proofs.instance_at.Given as goal
 
 abbrev pub invariant-loop-inst : goal.invariant-loop-inst
-invariant-loop-inst l = Begins l.job l.index l.k (first_part (parts (name_of (l.files ++ l.area) l.e))) l.at
+invariant-loop-inst l = Begins l.index.job.now l.index.rows.now l.k (first_part (parts (name_of (l.mem.files.now ++ l.mem.area.now) l.e))) l.at
 
 abbrev pub decreases-loop-inst : goal.decreases-loop-inst
 decreases-loop-inst l = l.end - l.at

@@ -10,7 +10,7 @@ use Rattle.elements.proofs.Turns.{Going}
 use Rattle.elements.proofs.module_by.Given as goal
 
 abbrev pub invariant-loop-memo : goal.invariant-loop-memo
-invariant-loop-memo l = Going l.job l.index l.count (module_at (modules l.job l.index l.count) (module_row l.job l.index l.initial.m) (filled_parts (name_of (l.files ++ l.area) l.initial.x))) l.m (name_of (l.files ++ l.area) l.x) l.memo
+invariant-loop-memo l = Going l.design.index.job.now l.design.index.rows.now l.design.count (module_at (modules l.design.index.job.now l.design.index.rows.now l.design.count) (module_row l.design.index.job.now l.design.index.rows.now l.k) (filled_parts (name_of (l.mem.files.now ++ l.mem.area.now) l.fn.e))) l.m (name_of (l.mem.files.now ++ l.mem.area.now) l.x) l.memo
 
 abbrev pub decreases-loop-memo : goal.decreases-loop-memo
-decreases-loop-memo l = length (name_of (l.files ++ l.area) l.x)
+decreases-loop-memo l = length (name_of (l.mem.files.now ++ l.mem.area.now) l.x)

@@ -2,75 +2,77 @@
 use mathlib.Core.Path.{ap}
 use Rattle.model.specs.Names.{Command, Named}
 use Rattle.model.specs.Numbers.{named_by}
+use Rattle.cmdnames.specs.Table.{number_of}
+use Rattle.std.proofs.Common.{arith, rules}
+use Rattle.std.specs.Prelude.{◌≡◌}
 use Rattle.made.specs.First.{line_first}
 use Rattle.enter.specs.Entered.{Told, done_by_lem, nothing_done, unknown_done, parsed_done, left_over}
 use Rattle.enter.proofs.enter.Goals as goal
 
-pub returns-in-0 : goal.returns-in-0
-returns-in-0 c =
-    done_by_lem c.args.files.now c.args.area.now c.args.words.now c.args.n c.args.c (Told c.args.b c.args.domains c.args.nets c.args.isolations c.args.tables) c.set.result (Named.other Command.set) _ (ap named_by c.in-0.is) (λ s t. t.brief) c.set.ensures
+pub returns-in-Set : goal.returns-in-Set
+returns-in-Set c =
+    done_by_lem c.args.mem.now.files.now c.args.mem.now.area.now c.args.command.now.rows.now c.args.command.now.n (number_of c.args.c) (Told c.args.b c.args.domains c.args.nets c.args.isolations c.args.tables) c.set.result (Named.other Command.set) _ (ap (λ x. named_by (number_of x)) c.in-Set.is) (λ s t. t.brief) c.set.ensures
 
-pub returns-in-3 : goal.returns-in-3
-returns-in-3 c =
-    done_by_lem c.args.files.now c.args.area.now c.args.words.now c.args.n c.args.c (Told c.args.b c.args.domains c.args.nets c.args.isolations c.args.tables) c.set_design_top.result (Named.other Command.set_design_top) _ (ap named_by c.in-3.is) (λ s t. t.brief) c.set_design_top.ensures
+pub returns-in-SetDesignTop : goal.returns-in-SetDesignTop
+returns-in-SetDesignTop c =
+    done_by_lem c.args.mem.now.files.now c.args.mem.now.area.now c.args.command.now.rows.now c.args.command.now.n (number_of c.args.c) (Told c.args.b c.args.domains c.args.nets c.args.isolations c.args.tables) c.set_design_top.result (Named.other Command.set_design_top) _ (ap (λ x. named_by (number_of x)) c.in-SetDesignTop.is) (λ s t. t.brief) c.set_design_top.ensures
 
-pub returns-in-5 : goal.returns-in-5
-returns-in-5 c =
-    done_by_lem c.args.files.now c.args.area.now c.args.words.now c.args.n c.args.c (Told c.args.b c.args.domains c.args.nets c.args.isolations c.args.tables) c.create_power_domain.result (Named.other Command.create_power_domain) _ (ap named_by c.in-5.is) (λ s t. t.brief) c.create_power_domain.ensures
+pub returns-in-CreatePowerDomain : goal.returns-in-CreatePowerDomain
+returns-in-CreatePowerDomain c =
+    done_by_lem c.args.mem.now.files.now c.args.mem.now.area.now c.args.command.now.rows.now c.args.command.now.n (number_of c.args.c) (Told c.args.b c.args.domains c.args.nets c.args.isolations c.args.tables) c.create_power_domain.result (Named.other Command.create_power_domain) _ (ap (λ x. named_by (number_of x)) c.in-CreatePowerDomain.is) (λ s t. t.brief) c.create_power_domain.ensures
 
-pub returns-in-6 : goal.returns-in-6
-returns-in-6 c =
-    done_by_lem c.args.files.now c.args.area.now c.args.words.now c.args.n c.args.c (Told c.args.b c.args.domains c.args.nets c.args.isolations c.args.tables) c.create_supply_net.result (Named.other Command.create_supply_net) _ (ap named_by c.in-6.is) (λ s t. (t.brief, t.nets)) c.create_supply_net.ensures
+pub returns-in-CreateSupplyNet : goal.returns-in-CreateSupplyNet
+returns-in-CreateSupplyNet c =
+    done_by_lem c.args.mem.now.files.now c.args.mem.now.area.now c.args.command.now.rows.now c.args.command.now.n (number_of c.args.c) (Told c.args.b c.args.domains c.args.nets c.args.isolations c.args.tables) c.create_supply_net.result (Named.other Command.create_supply_net) _ (ap (λ x. named_by (number_of x)) c.in-CreateSupplyNet.is) (λ s t. (t.brief, t.nets)) c.create_supply_net.ensures
 
-pub returns-in-7 : goal.returns-in-7
-returns-in-7 c =
-    done_by_lem c.args.files.now c.args.area.now c.args.words.now c.args.n c.args.c (Told c.args.b c.args.domains c.args.nets c.args.isolations c.args.tables) c.create_supply_port.result (Named.other Command.create_supply_port) _ (ap named_by c.in-7.is) (λ s t. t.brief) c.create_supply_port.ensures
+pub returns-in-CreateSupplyPort : goal.returns-in-CreateSupplyPort
+returns-in-CreateSupplyPort c =
+    done_by_lem c.args.mem.now.files.now c.args.mem.now.area.now c.args.command.now.rows.now c.args.command.now.n (number_of c.args.c) (Told c.args.b c.args.domains c.args.nets c.args.isolations c.args.tables) c.create_supply_port.result (Named.other Command.create_supply_port) _ (ap (λ x. named_by (number_of x)) c.in-CreateSupplyPort.is) (λ s t. t.brief) c.create_supply_port.ensures
 
-pub returns-in-8 : goal.returns-in-8
-returns-in-8 c =
-    done_by_lem c.args.files.now c.args.area.now c.args.words.now c.args.n c.args.c (Told c.args.b c.args.domains c.args.nets c.args.isolations c.args.tables) c.connect_supply_net.result (Named.other Command.connect_supply_net) _ (ap named_by c.in-8.is) (λ s t. t.brief) c.connect_supply_net.ensures
+pub returns-in-ConnectSupplyNet : goal.returns-in-ConnectSupplyNet
+returns-in-ConnectSupplyNet c =
+    done_by_lem c.args.mem.now.files.now c.args.mem.now.area.now c.args.command.now.rows.now c.args.command.now.n (number_of c.args.c) (Told c.args.b c.args.domains c.args.nets c.args.isolations c.args.tables) c.connect_supply_net.result (Named.other Command.connect_supply_net) _ (ap (λ x. named_by (number_of x)) c.in-ConnectSupplyNet.is) (λ s t. t.brief) c.connect_supply_net.ensures
 
-pub returns-in-9 : goal.returns-in-9
-returns-in-9 c =
-    done_by_lem c.args.files.now c.args.area.now c.args.words.now c.args.n c.args.c (Told c.args.b c.args.domains c.args.nets c.args.isolations c.args.tables) c.set_domain_supply_net.result (Named.other Command.set_domain_supply_net) _ (ap named_by c.in-9.is) (λ s t. (t.brief, t.domains)) c.set_domain_supply_net.ensures
+pub returns-in-SetDomainSupplyNet : goal.returns-in-SetDomainSupplyNet
+returns-in-SetDomainSupplyNet c =
+    done_by_lem c.args.mem.now.files.now c.args.mem.now.area.now c.args.command.now.rows.now c.args.command.now.n (number_of c.args.c) (Told c.args.b c.args.domains c.args.nets c.args.isolations c.args.tables) c.set_domain_supply_net.result (Named.other Command.set_domain_supply_net) _ (ap (λ x. named_by (number_of x)) c.in-SetDomainSupplyNet.is) (λ s t. (t.brief, t.domains)) c.set_domain_supply_net.ensures
 
-pub returns-in-22 : goal.returns-in-22
-returns-in-22 c =
-    done_by_lem c.args.files.now c.args.area.now c.args.words.now c.args.n c.args.c (Told c.args.b c.args.domains c.args.nets c.args.isolations c.args.tables) c.set_isolation.result (Named.other Command.set_isolation) _ (ap named_by c.in-22.is) (λ s t. (t.brief, t.isolations)) c.set_isolation.ensures
+pub returns-in-SetIsolation : goal.returns-in-SetIsolation
+returns-in-SetIsolation c =
+    done_by_lem c.args.mem.now.files.now c.args.mem.now.area.now c.args.command.now.rows.now c.args.command.now.n (number_of c.args.c) (Told c.args.b c.args.domains c.args.nets c.args.isolations c.args.tables) c.set_isolation.result (Named.other Command.set_isolation) _ (ap (λ x. named_by (number_of x)) c.in-SetIsolation.is) (λ s t. (t.brief, t.isolations)) c.set_isolation.ensures
 
-pub returns-in-23 : goal.returns-in-23
-returns-in-23 c =
-    done_by_lem c.args.files.now c.args.area.now c.args.words.now c.args.n c.args.c (Told c.args.b c.args.domains c.args.nets c.args.isolations c.args.tables) c.set_isolation_control.result (Named.other Command.set_isolation_control) _ (ap named_by c.in-23.is) (λ s t. (t.brief, t.isolations)) c.set_isolation_control.ensures
+pub returns-in-SetIsolationControl : goal.returns-in-SetIsolationControl
+returns-in-SetIsolationControl c =
+    done_by_lem c.args.mem.now.files.now c.args.mem.now.area.now c.args.command.now.rows.now c.args.command.now.n (number_of c.args.c) (Told c.args.b c.args.domains c.args.nets c.args.isolations c.args.tables) c.set_isolation_control.result (Named.other Command.set_isolation_control) _ (ap (λ x. named_by (number_of x)) c.in-SetIsolationControl.is) (λ s t. (t.brief, t.isolations)) c.set_isolation_control.ensures
 
-pub returns-in-24 : goal.returns-in-24
-returns-in-24 c =
-    done_by_lem c.args.files.now c.args.area.now c.args.words.now c.args.n c.args.c (Told c.args.b c.args.domains c.args.nets c.args.isolations c.args.tables) c.set_retention.result (Named.other Command.set_retention) _ (ap named_by c.in-24.is) (λ s t. t.brief) c.set_retention.ensures
+pub returns-in-SetRetention : goal.returns-in-SetRetention
+returns-in-SetRetention c =
+    done_by_lem c.args.mem.now.files.now c.args.mem.now.area.now c.args.command.now.rows.now c.args.command.now.n (number_of c.args.c) (Told c.args.b c.args.domains c.args.nets c.args.isolations c.args.tables) c.set_retention.result (Named.other Command.set_retention) _ (ap (λ x. named_by (number_of x)) c.in-SetRetention.is) (λ s t. t.brief) c.set_retention.ensures
 
-pub returns-in-25 : goal.returns-in-25
-returns-in-25 c =
-    nothing_done c.args.files.now c.args.area.now c.args.words.now c.args.n c.args.c (Told c.args.b c.args.domains c.args.nets c.args.isolations c.args.tables) c.in-25.is
+pub returns-in-SetRetentionControl : goal.returns-in-SetRetentionControl
+returns-in-SetRetentionControl c =
+    nothing_done c.args.mem.now.files.now c.args.mem.now.area.now c.args.command.now.rows.now c.args.command.now.n (number_of c.args.c) (Told c.args.b c.args.domains c.args.nets c.args.isolations c.args.tables) (ap number_of c.in-SetRetentionControl.is)
 
-pub returns-in-26 : goal.returns-in-26
-returns-in-26 c =
-    done_by_lem c.args.files.now c.args.area.now c.args.words.now c.args.n c.args.c (Told c.args.b c.args.domains c.args.nets c.args.isolations c.args.tables) c.set_level_shifter.result (Named.other Command.set_level_shifter) _ (ap named_by c.in-26.is) (λ s t. t.brief) c.set_level_shifter.ensures
+pub returns-in-SetLevelShifter : goal.returns-in-SetLevelShifter
+returns-in-SetLevelShifter c =
+    done_by_lem c.args.mem.now.files.now c.args.mem.now.area.now c.args.command.now.rows.now c.args.command.now.n (number_of c.args.c) (Told c.args.b c.args.domains c.args.nets c.args.isolations c.args.tables) c.set_level_shifter.result (Named.other Command.set_level_shifter) _ (ap (λ x. named_by (number_of x)) c.in-SetLevelShifter.is) (λ s t. t.brief) c.set_level_shifter.ensures
 
-pub returns-in-28 : goal.returns-in-28
-returns-in-28 c =
-    done_by_lem c.args.files.now c.args.area.now c.args.words.now c.args.n c.args.c (Told c.args.b c.args.domains c.args.nets c.args.isolations c.args.tables) c.create_pst.result (Named.other Command.create_pst) _ (ap named_by c.in-28.is) (λ s t. t.brief) c.create_pst.ensures
+pub returns-in-CreatePst : goal.returns-in-CreatePst
+returns-in-CreatePst c =
+    done_by_lem c.args.mem.now.files.now c.args.mem.now.area.now c.args.command.now.rows.now c.args.command.now.n (number_of c.args.c) (Told c.args.b c.args.domains c.args.nets c.args.isolations c.args.tables) c.create_pst.result (Named.other Command.create_pst) _ (ap (λ x. named_by (number_of x)) c.in-CreatePst.is) (λ s t. t.brief) c.create_pst.ensures
 
-pub returns-in-29 : goal.returns-in-29
-returns-in-29 c =
-    done_by_lem c.args.files.now c.args.area.now c.args.words.now c.args.n c.args.c (Told c.args.b c.args.domains c.args.nets c.args.isolations c.args.tables) c.add_pst_state.result (Named.other Command.add_pst_state) _ (ap named_by c.in-29.is) (λ s t. (t.brief, t.tables)) c.add_pst_state.ensures
+pub returns-in-AddPstState : goal.returns-in-AddPstState
+returns-in-AddPstState c =
+    done_by_lem c.args.mem.now.files.now c.args.mem.now.area.now c.args.command.now.rows.now c.args.command.now.n (number_of c.args.c) (Told c.args.b c.args.domains c.args.nets c.args.isolations c.args.tables) c.add_pst_state.result (Named.other Command.add_pst_state) _ (ap (λ x. named_by (number_of x)) c.in-AddPstState.is) (λ s t. (t.brief, t.tables)) c.add_pst_state.ensures
 
-pub returns-in-30 : goal.returns-in-30
-returns-in-30 c =
-    unknown_done c.args.files.now c.args.area.now c.args.words.now c.args.n c.args.c (Told c.args.b c.args.domains c.args.nets c.args.isolations c.args.tables) c.unsupported.result (ap named_by c.in-30.is) c.requires.enters.words c.unsupported.ensures
+pub returns-in-Unknown : goal.returns-in-Unknown
+returns-in-Unknown c =
+    unknown_done c.args.mem.now.files.now c.args.mem.now.area.now c.args.command.now.rows.now c.args.command.now.n (number_of c.args.c) (Told c.args.b c.args.domains c.args.nets c.args.isolations c.args.tables) c.unsupported.result (ap (λ x. named_by (number_of x)) c.in-Unknown.is) c.requires.enters.words c.unsupported.ensures
 
-pub returns-in_default : goal.returns-in_default
-returns-in_default c =
-    let t = c.in_default.in_default-own.rest in
-    let k = left_over c.args.n c.args.c c.requires.enters t.0.0.0.0.0.0.0.0.0.0.0.0.0.0.1 t.0.0.0.0.0.0.0.0.0.0.0.0.0.1 t.0.0.0.0.0.0.0.0.0.0.0.0.1 t.0.0.0.0.0.0.0.0.0.0.0.1 t.0.0.0.0.0.0.0.0.0.0.1 t.0.0.0.0.0.0.0.0.0.1 t.0.0.0.0.0.0.0.0.1 t.0.0.0.0.0.0.0.1 t.0.0.0.0.0.0.1 t.0.0.0.0.0.1 t.0.0.0.0.1 t.0.0.0.1 t.0.0.1 t.0.1 t.1 in
-    parsed_done c.args.files.now c.args.area.now c.args.words.now c.args.n c.args.c (Told c.args.b c.args.domains c.args.nets c.args.isolations c.args.tables) c.not_simulated.result k.0 k.1 c.requires.enters.words (c.not_simulated.ensures c.args.files.now c.args.area.now)
+pub returns-in-NotSimulated : goal.returns-in-NotSimulated
+returns-in-NotSimulated c =
+    let k : number_of c.args.c ≡ 10 = ap number_of c.in-NotSimulated.is in
+    parsed_done c.args.mem.now.files.now c.args.mem.now.area.now c.args.command.now.rows.now c.args.command.now.n (number_of c.args.c) (Told c.args.b c.args.domains c.args.nets c.args.isolations c.args.tables) c.not_simulated.result (omega (arith, k)) (omega (arith, k)) c.requires.enters.words (c.not_simulated.ensures c.args.mem.now.files.now c.args.mem.now.area.now)
 
 pub set-requires : goal.set-requires
 set-requires c = c.requires.line

@@ -1,6 +1,6 @@
 -- `fields::is_name` meets its contract. The loop's invariant: w is a NAME when the bytes from i on are bytes of a NAME.
 -- Assumes nothing.
-use Prim.Native.Nat.{◌≤◌, ◌-◌}
+use Prim.Native.Nat.{◌≤◌}
 use mathlib.Core.Path.{◌≡◌}
 use lib.ListN.{length, drop}
 use Rattle.text.specs.Classes.{in_name}

@@ -7,4 +7,4 @@ use Rattle.filepaths.proofs.Finds.{Left}
 use Rattle.filepaths.proofs.find_file.Given as goal
 
 abbrev pub invariant-loop-k : goal.invariant-loop-k
-invariant-loop-k l = Left l.job l.nums l.n (joined_path (path_at l.job l.nums l.loader) (bytes (l.files ++ l.area) l.name)) l.k
+invariant-loop-k l = Left l.job l.nums l.n (joined_path (path_at l.job l.nums l.loader) (bytes (l.mem.files.now ++ l.mem.area.now) l.name)) l.k

@@ -6,7 +6,7 @@ use Rattle.isolated.proofs.Apart.{Reads}
 use Rattle.isolated.proofs.words_apart.Given as goal
 
 abbrev pub invariant-loop-p : goal.invariant-loop-p
-invariant-loop-p l = Reads (l.files ++ l.area) l.initial.x l.initial.y l.x l.y
+invariant-loop-p l = Reads (l.mem.files.now ++ l.mem.area.now) l.initial.x l.initial.y l.x l.y
 
 abbrev pub decreases-loop-p : goal.decreases-loop-p
-decreases-loop-p l = length (bytes (l.files ++ l.area) l.x)
+decreases-loop-p l = length (bytes (l.mem.files.now ++ l.mem.area.now) l.x)

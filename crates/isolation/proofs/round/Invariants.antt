@@ -12,4 +12,4 @@ use Rattle.isolation.proofs.round.Given as goal
 abbrev pub invariant-loop-i : goal.invariant-loop-i
 invariant-loop-i l = (length l.out ≡ length l.initial.out)
     × ((length l.ports ≡ length l.initial.ports)
-    × Rounds l.job (l.files ++ l.area) l.warn l.initial.a l.initial.out l.initial.ports (modules l.job l.index l.count) (module_row l.job l.index l.k) (map (domain_of (l.files ++ l.area)) (take l.domains.n l.domains.all)) l.having l.t l.a l.out l.ports l.i)
+    × Rounds l.design.index.job.now (l.mem.files.now ++ l.mem.area.now) l.warn l.initial.a l.initial.out l.initial.ports (modules l.design.index.job.now l.design.index.rows.now l.design.count) (module_row l.design.index.job.now l.design.index.rows.now l.k) (map (domain_of (l.mem.files.now ++ l.mem.area.now)) (take l.domains.n l.domains.all)) l.having l.t l.a l.out l.ports l.i)

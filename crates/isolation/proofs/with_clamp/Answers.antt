@@ -5,14 +5,14 @@ use Rattle.isolation.proofs.with_clamp.Goals as goal
 
 pub returns-then-domains-i : goal.returns-then-domains-i
 returns-then-domains-i c =
-    domain_unknown _ _ _ _ c.requires.1.1 _ c.find_domain-i.ensures _ _ _ _ _ _ _ _ _ _ _ c.if-domains-i.true _ c.stored-name.ensures _ c.stored-written.ensures c.requires.0 c.unknown_domain.ensures
+    domain_unknown _ _ _ _ c.requires.1.1 _ c.first_named-i.ensures _ _ _ _ _ _ _ _ _ _ _ c.if-domains-i.true _ c.stored-name.ensures _ c.stored-written.ensures c.requires.0 c.unknown_domain.ensures
 
 pub returns : goal.returns
 returns c =
-    domain_known _ _ _ _ c.requires.1.1 _ c.find_domain-i.ensures _ _ _ _ _ _ _ _ _ _ _ _ _ c.if-domains-i.false c.in_domain.ensures
+    domain_known _ _ _ _ c.requires.1.1 _ c.first_named-i.ensures _ _ _ _ _ _ _ _ _ _ _ _ _ c.if-domains-i.false c.in_domain.ensures
 
-pub find_domain-i-requires : goal.find_domain-i-requires
-find_domain-i-requires c = domains_few _ _ _ _ c.requires.1.1
+pub first_named-i-requires : goal.first_named-i-requires
+first_named-i-requires c = (omega arith, domains_few _ _ _ _ c.requires.1.1)
 
 pub bounds-domains-i : goal.bounds-domains-i
 bounds-domains-i c = omega (arith, c.if-domains-i.false, domains_few _ _ _ _ c.requires.1.1)

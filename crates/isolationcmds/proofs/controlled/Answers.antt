@@ -6,7 +6,7 @@ use Rattle.isolationcmds.proofs.controlled.Goals as goal
 
 pub returns : goal.returns
 returns c =
-    controlled_made (c.args.files.now ++ c.args.area.now) c.args.words.now c.args.n c.args.x c.option-signal.result c.option-sense.result c.option-signal.ensures c.option-sense.ensures c.given.result c.given-2.result c.given.ensures c.given-2.ensures
+    controlled_made (c.args.mem.now.files.now ++ c.args.mem.now.area.now) c.args.command.now.rows.now c.args.command.now.n c.args.x c.option-signal.result c.option-sense.result c.option-signal.ensures c.option-sense.ensures c.given.result c.given-2.result c.given.ensures c.given-2.ensures
 
 pub given-requires : goal.given-requires
 given-requires c = found_fits _ _ _ _ _ c.option-signal.ensures c.requires

@@ -6,7 +6,7 @@ use Rattle.isolationcmds.proofs.isolation.Goals as goal
 
 pub returns : goal.returns
 returns c =
-    isolation_made (c.args.files.now ++ c.args.area.now) c.args.words.now c.args.n c.args.scope c.name-named.result c.option-domain.result c.option-applies.result c.option-elements.result c.option-clamp.result c.option-signal.result c.option-sense.result c.option-power.result c.option-ground_net.result c.name-named.ensures c.option-domain.ensures c.option-applies.ensures c.option-elements.ensures c.option-clamp.ensures c.option-signal.ensures c.option-sense.ensures c.option-power.ensures c.option-ground_net.ensures c.narrow.result c.or_empty.result c.or_empty-2.result c.as_maybe.result c.as_maybe-2.result c.as_maybe-3.result c.as_maybe-4.result c.as_maybe-5.result c.as_maybe-6.result c.narrow.ensures c.or_empty.ensures c.as_maybe.ensures c.or_empty-2.ensures c.as_maybe-2.ensures c.as_maybe-3.ensures c.as_maybe-4.ensures c.as_maybe-5.ensures c.as_maybe-6.ensures
+    isolation_made (c.args.mem.now.files.now ++ c.args.mem.now.area.now) c.args.command.now.rows.now c.args.command.now.n c.args.scope c.name-named.result c.option-domain.result c.option-applies.result c.option-elements.result c.option-clamp.result c.option-signal.result c.option-sense.result c.option-power.result c.option-ground_net.result c.name-named.ensures c.option-domain.ensures c.option-applies.ensures c.option-elements.ensures c.option-clamp.ensures c.option-signal.ensures c.option-sense.ensures c.option-power.ensures c.option-ground_net.ensures c.narrow.result c.or_empty.result c.or_empty-2.result c.as_maybe.result c.as_maybe-2.result c.as_maybe-3.result c.as_maybe-4.result c.as_maybe-5.result c.as_maybe-6.result c.narrow.ensures c.or_empty.ensures c.as_maybe.ensures c.or_empty-2.ensures c.as_maybe-2.ensures c.as_maybe-3.ensures c.as_maybe-4.ensures c.as_maybe-5.ensures c.as_maybe-6.ensures
 
 pub narrow-requires : goal.narrow-requires
 narrow-requires c = read_fits _ _ _ _ _ c.name-named.ensures c.requires

@@ -9,14 +9,14 @@ narrow-named-requires c = read_fits _ _ _ _ _ c.name.ensures c.requires.0
 
 pub returns-then-flag : goal.returns-then-flag
 returns-then-flag c =
-    told_not c.args.files.now c.args.area.now c.args.words.now c.args.n c.args.b c.args.t c.name.result c.narrow-named.result c.name.ensures c.narrow-named.ensures c.flag.result c.flag.ensures c.if-flag.true
+    told_not c.args.mem.now.files.now c.args.mem.now.area.now c.args.command.now.rows.now c.args.command.now.n c.args.b c.args.t c.name.result c.narrow-named.result c.name.ensures c.narrow-named.ensures c.flag.result c.flag.ensures c.if-flag.true
 
 pub enter-requires : goal.enter-requires
 enter-requires c = c.requires.0
 
 pub returns-then-not-flag : goal.returns-then-not-flag
 returns-then-not-flag c =
-    told_new c.args.files.now c.args.area.now c.args.words.now c.args.n c.args.b c.args.t c.flag.result c.flag-2.result c.enter.result c.flag.ensures c.if-flag.false c.flag-2.ensures c.if-not-flag.true c.enter.ensures
+    told_new c.args.mem.now.files.now c.args.mem.now.area.now c.args.command.now.rows.now c.args.command.now.n c.args.b c.args.t c.flag.result c.flag-2.result c.enter.result c.flag.ensures c.if-flag.false c.flag-2.ensures c.if-not-flag.true c.enter.ensures
 
 pub or_empty-domain-requires : goal.or_empty-domain-requires
 or_empty-domain-requires c = found_fits _ _ _ _ _ c.option.ensures c.requires.0
@@ -29,7 +29,7 @@ enter-requires-then-t-i c = c.requires.0
 
 pub returns-then-t-i : goal.returns-then-t-i
 returns-then-t-i c =
-    told_missing c.args.files.now c.args.area.now c.args.words.now c.args.n c.args.b c.args.t c.name.result c.narrow-named.result c.name.ensures c.narrow-named.ensures c.option.result c.or_empty-domain.result c.option.ensures c.or_empty-domain.ensures c.find_strategy-i.result c.find_strategy-i.ensures c.flag.result c.flag-2.result c.enter-then-t-i.result c.flag.ensures c.if-flag.false c.flag-2.ensures c.if-not-flag.false c.if-t-i.true c.enter-then-t-i.ensures
+    told_missing c.args.mem.now.files.now c.args.mem.now.area.now c.args.command.now.rows.now c.args.command.now.n c.args.b c.args.t c.name.result c.narrow-named.result c.name.ensures c.narrow-named.ensures c.option.result c.or_empty-domain.result c.option.ensures c.or_empty-domain.ensures c.find_strategy-i.result c.find_strategy-i.ensures c.flag.result c.flag-2.result c.enter-then-t-i.result c.flag.ensures c.if-flag.false c.flag-2.ensures c.if-not-flag.false c.if-t-i.true c.enter-then-t-i.ensures
 
 pub offset_bounds-t-i : goal.offset_bounds-t-i
 offset_bounds-t-i c = record { fits = omega (arith, c.if-t-i.false, c.requires.1) }
@@ -42,4 +42,4 @@ update-x-requires c = c.requires.0
 
 pub returns : goal.returns
 returns c =
-    told_update c.args.files.now c.args.area.now c.args.words.now c.args.n c.args.b c.args.t c.name.result c.narrow-named.result c.name.ensures c.narrow-named.ensures c.option.result c.or_empty-domain.result c.option.ensures c.or_empty-domain.ensures c.find_strategy-i.result c.find_strategy-i.ensures _ c.requires.1 c.if-t-i.false c.update-x.result c.flag.result c.flag-2.result c.flag.ensures c.if-flag.false c.flag-2.ensures c.if-not-flag.false c.update-x.ensures
+    told_update c.args.mem.now.files.now c.args.mem.now.area.now c.args.command.now.rows.now c.args.command.now.n c.args.b c.args.t c.name.result c.narrow-named.result c.name.ensures c.narrow-named.ensures c.option.result c.or_empty-domain.result c.option.ensures c.or_empty-domain.ensures c.find_strategy-i.result c.find_strategy-i.ensures _ c.requires.1 c.if-t-i.false c.update-x.result c.flag.result c.flag-2.result c.flag.ensures c.if-flag.false c.flag-2.ensures c.if-not-flag.false c.update-x.ensures

@@ -15,7 +15,7 @@ find_strategy-i-requires c = c.requires.1
 
 pub returns-then-t-i : goal.returns-then-t-i
 returns-then-t-i c =
-    told_unknown c.args.files.now c.args.area.now c.args.words.now c.args.n c.args.b c.args.t c.name.result c.narrow-named.result c.name.ensures c.narrow-named.ensures c.option.result c.or_empty-domain.result c.option.ensures c.or_empty-domain.ensures c.find_strategy-i.result c.find_strategy-i.ensures c.if-t-i.true
+    told_unknown c.args.mem.now.files.now c.args.mem.now.area.now c.args.command.now.rows.now c.args.command.now.n c.args.b c.args.t c.name.result c.narrow-named.result c.name.ensures c.narrow-named.ensures c.option.result c.or_empty-domain.result c.option.ensures c.or_empty-domain.ensures c.find_strategy-i.result c.find_strategy-i.ensures c.if-t-i.true
 
 pub offset_bounds-t-i : goal.offset_bounds-t-i
 offset_bounds-t-i c = record { fits = omega (arith, c.if-t-i.false, c.requires.1) }
@@ -28,4 +28,4 @@ controlled-x-requires c = c.requires.0
 
 pub returns : goal.returns
 returns c =
-    told_control c.args.files.now c.args.area.now c.args.words.now c.args.n c.args.b c.args.t c.name.result c.narrow-named.result c.name.ensures c.narrow-named.ensures c.option.result c.or_empty-domain.result c.option.ensures c.or_empty-domain.ensures c.find_strategy-i.result c.find_strategy-i.ensures _ c.requires.1 c.if-t-i.false c.controlled-x.result c.controlled-x.ensures
+    told_control c.args.mem.now.files.now c.args.mem.now.area.now c.args.command.now.rows.now c.args.command.now.n c.args.b c.args.t c.name.result c.narrow-named.result c.name.ensures c.narrow-named.ensures c.option.result c.or_empty-domain.result c.option.ensures c.or_empty-domain.ensures c.find_strategy-i.result c.find_strategy-i.ensures _ c.requires.1 c.if-t-i.false c.controlled-x.result c.controlled-x.ensures

@@ -6,7 +6,7 @@ use Rattle.isolationcmds.proofs.updated.Goals as goal
 
 pub returns : goal.returns
 returns c =
-    renewed_made (c.args.files.now ++ c.args.area.now) c.args.words.now c.args.n c.args.x c.args.scope c.args.elements c.option-applies.result c.option-clamp.result c.option-signal.result c.option-sense.result c.option-power.result c.option-ground_net.result c.option-applies.ensures c.option-clamp.ensures c.option-signal.ensures c.option-sense.ensures c.option-power.ensures c.option-ground_net.ensures c.given.result c.given-2.result c.given-3.result c.given-4.result c.given-5.result c.given-6.result c.given.ensures c.given-2.ensures c.given-3.ensures c.given-4.ensures c.given-5.ensures c.given-6.ensures
+    renewed_made (c.args.mem.now.files.now ++ c.args.mem.now.area.now) c.args.command.now.rows.now c.args.command.now.n c.args.x c.args.scope c.args.elements c.option-applies.result c.option-clamp.result c.option-signal.result c.option-sense.result c.option-power.result c.option-ground_net.result c.option-applies.ensures c.option-clamp.ensures c.option-signal.ensures c.option-sense.ensures c.option-power.ensures c.option-ground_net.ensures c.given.result c.given-2.result c.given-3.result c.given-4.result c.given-5.result c.given-6.result c.given.ensures c.given-2.ensures c.given-3.ensures c.given-4.ensures c.given-5.ensures c.given-6.ensures
 
 pub given-requires : goal.given-requires
 given-requires c = found_fits _ _ _ _ _ c.option-applies.ensures c.requires

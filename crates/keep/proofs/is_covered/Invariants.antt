@@ -6,4 +6,4 @@ use Prim.Native.Nat.{◌-◌}
 use Rattle.keep.proofs.is_covered.Given as goal
 
 abbrev pub invariant-loop-k : goal.invariant-loop-k
-invariant-loop-k l = Seeks l.job (l.files ++ l.area) l.ports l.n (text_of l.job (l.files ++ l.area) l.p) l.k
+invariant-loop-k l = Seeks l.job (l.mem.files.now ++ l.mem.area.now) l.ports.rows.now l.ports.n (text_of l.job (l.mem.files.now ++ l.mem.area.now) l.p) l.k

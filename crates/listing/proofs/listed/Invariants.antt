@@ -8,4 +8,4 @@ use Rattle.listing.proofs.Adds.{Left}
 use Rattle.listing.proofs.listed.Given as goal
 
 abbrev pub invariant-loop-k : goal.invariant-loop-k
-invariant-loop-k l = Left (dotted (name_of (l.files ++ l.area) l.e) ++ (l.tail ++ l.name)) l.text l.ends l.count (is_in (dotted (name_of (l.files ++ l.area) l.e) ++ (l.tail ++ l.name)) (paths_of l.text l.ends l.count)) l.k l.at
+invariant-loop-k l = Left (dotted (name_of (l.mem.files.now ++ l.mem.area.now) l.e) ++ (l.tail ++ l.name)) l.text l.ends l.count (is_in (dotted (name_of (l.mem.files.now ++ l.mem.area.now) l.e) ++ (l.tail ++ l.name)) (paths_of l.text l.ends l.count)) l.k l.at

@@ -3,7 +3,7 @@ use Rattle.listnames.proofs.Values.{inside_whole, below_missing, below_there}
 use Rattle.listnames.proofs.nth_below.Goals as goal
 
 pub inside-requires : goal.inside-requires
-inside-requires c = let x = c.args in search (inside_whole x.files.now x.area.now)
+inside-requires c = let x = c.args in search (inside_whole x.mem.now.files.now x.mem.now.area.now)
 
 pub returns-in_default : goal.returns-in_default
 returns-in_default c = search below_missing

@@ -11,4 +11,4 @@ use Rattle.listnames.proofs.Turns.{Joins}
 use Rattle.listnames.proofs.put_names.Given as goal
 
 abbrev pub invariant-loop-k : goal.invariant-loop-k
-invariant-loop-k l = SameRoom l.initial.to l.to × Joins l.sep (l.files ++ l.area) l.table l.n (emit (shown l.initial.to) (joined l.sep (table_names (l.files ++ l.area) l.table l.n))) (shown l.to) l.k
+invariant-loop-k l = SameRoom l.initial.to l.to × Joins l.sep (l.mem.files.now ++ l.mem.area.now) l.table.rows.now l.table.n (emit (shown l.initial.to) (joined l.sep (table_names (l.mem.files.now ++ l.mem.area.now) l.table.rows.now l.table.n))) (shown l.to) l.k

@@ -1,23 +1,12 @@
-use Rattle.lists.proofs.Laws.{lefts}
+-- `lists::and_states` meets its contract. Assumes nothing.
+use Rattle.lists.proofs.Laws.{left_start, left_end, left_on}
 use Rattle.lists.proofs.and_states.Goals as goal
 
-pub loop-v-init : goal.loop-v-init
-loop-v-init c = search lefts
+pub loop-k-init : goal.loop-k-init
+loop-k-init c = left_start _ _ _ _ _ _ c.requires.1
 
-pub state_at-requires : goal.state_at-requires
-state_at-requires c = search lefts
+pub returns-in_default : goal.returns-in_default
+returns-in_default c = left_end _ _ _ _ _ c.loop-k.invariant _ _ _ c.state_at.ensures c.in_default.is
 
-pub and_value-t-requires : goal.and_value-t-requires
-and_value-t-requires c = search lefts
-
-pub overflow_add-k : goal.overflow_add-k
-overflow_add-k c = search lefts
-
-pub loop-v-smaller : goal.loop-v-smaller
-loop-v-smaller c = search lefts
-
-pub loop-v-preserved : goal.loop-v-preserved
-loop-v-preserved c = search lefts
-
-pub returns : goal.returns
-returns c = search lefts
+pub loop-k-preserved : goal.loop-k-preserved
+loop-k-preserved c = left_on _ _ _ _ _ c.loop-k.invariant _ _ _ c.state_at.ensures _ _ c.in-Some.is _ c.and_value-t.ensures

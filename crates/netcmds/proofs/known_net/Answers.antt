@@ -11,7 +11,7 @@ use Rattle.netcmds.proofs.known_net.Goals as goal
 
 pub returns : goal.returns
 returns c =
-    let mem : Bytes = c.args.files.now ++ c.args.area.now in
+    let mem : Bytes = c.args.mem.now.files.now ++ c.args.mem.now.area.now in
     let t = is_called mem (name_of mem c.name_of-x.result) in
     let found = any_from_yields_List t _ _ c.any.result c.any.ensures.ran (YieldsList-from_slice _ c.iter.ensures.rest) (λ x b f k. search (rules, called_is)) in
     found ∙ sym (any_list t (take c.args.t.n c.args.t.all)) ∙ ap (λ (w : Bytes). any (is_called mem w) (take c.args.t.n c.args.t.all)) c.name_of-x.ensures

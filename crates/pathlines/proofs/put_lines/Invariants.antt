@@ -13,4 +13,4 @@ use Rattle.pathlines.proofs.put_lines.Given as goal
 
 abbrev pub invariant-loop-k : goal.invariant-loop-k
 invariant-loop-k l = SameRoom l.initial.to l.to
-    × Left (line_of l.before l.after (parts l.over l.from)) l.text l.ends l.n (emit (shown l.initial.to) (each (line_of l.before l.after (parts l.over l.from)) (paths_of l.text l.ends l.n))) (shown l.to) l.k l.a
+    × Left (line_of l.before l.after (parts l.scope.over.now l.scope.from)) l.listed.text.now l.listed.ends.now l.listed.n (emit (shown l.initial.to) (each (line_of l.before l.after (parts l.scope.over.now l.scope.from)) (paths_of l.listed.text.now l.listed.ends.now l.listed.n))) (shown l.to) l.k l.a

@@ -12,6 +12,6 @@ returns c = (
   cc,
   c.put-2.ensures.1
       ∙ ap (λ (o : Out). emit o (ascii "\n")) c.put_name.ensures.1
-      ∙ ap (λ (o : Out). emit (emit o (name_of (c.args.files.now ++ c.args.area.now) c.alone.result)) (ascii "\n")) c.put.ensures.1
-      ∙ puts_said (c.args.files.now ++ c.args.area.now) c.args.words.now c.args.n _ c.last_positional-w.ensures _ c.alone.ensures _,
+      ∙ ap (λ (o : Out). emit (emit o (name_of (c.args.mem.now.files.now ++ c.args.mem.now.area.now) c.alone.result)) (ascii "\n")) c.put.ensures.1
+      ∙ puts_said (c.args.mem.now.files.now ++ c.args.mem.now.area.now) c.args.command.now.rows.now c.args.command.now.n _ c.last_positional-w.ensures _ c.alone.ensures _,
 )

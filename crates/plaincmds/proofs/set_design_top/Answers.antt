@@ -4,7 +4,7 @@ use Rattle.plaincmds.proofs.Deeds.{top_stays_does, top_inside_does, top_fine_doe
 use Rattle.plaincmds.proofs.set_design_top.Goals as goal
 
 pub returns-then-size-ne0 : goal.returns-then-size-ne0
-returns-then-size-ne0 c = top_inside_does _ _ _ _ _ _ _ c.in-None.is c.span.ensures c.size.ensures c.if-size-ne0.true
+returns-then-size-ne0 c = top_inside_does _ _ _ _ _ _ _ c.in-None.is c.from.ensures c.size.ensures c.if-size-ne0.true
 
 pub narrow-requires : goal.narrow-requires
 narrow-requires c = read_fits _ _ _ _ _ c.name-named.ensures c.requires
@@ -13,4 +13,4 @@ pub returns-in-Some : goal.returns-in-Some
 returns-in-Some c = top_stays_does _ _ _ _ _ _ c.in-Some.is
 
 pub returns-else-size-ne0 : goal.returns-else-size-ne0
-returns-else-size-ne0 c = top_fine_does _ _ _ _ _ _ _ c.in-None.is c.span.ensures c.size.ensures _ _ c.if-size-ne0.false c.name-named.ensures c.narrow.ensures
+returns-else-size-ne0 c = top_fine_does _ _ _ _ _ _ _ c.in-None.is c.from.ensures c.size.ensures _ _ c.if-size-ne0.false c.name-named.ensures c.narrow.ensures

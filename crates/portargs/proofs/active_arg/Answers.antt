@@ -2,8 +2,8 @@
 use Rattle.portargs.proofs.Made.{made}
 use Rattle.portargs.proofs.active_arg.Goals as goal
 
-pub active_of-requires : goal.active_of-requires
-active_of-requires c = search made
+pub low_of-requires : goal.low_of-requires
+low_of-requires c = search made
 
 pub fixed-requires : goal.fixed-requires
 fixed-requires c = search made

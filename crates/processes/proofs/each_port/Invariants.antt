@@ -13,4 +13,4 @@ use lib.ListN.{length}
 use Rattle.processes.proofs.each_port.Given as goal
 
 abbrev pub invariant-loop-k : goal.invariant-loop-k
-invariant-loop-k l = SameRoom l.initial.to l.to × Writes l.job (l.files ++ l.area) (parts l.over l.from) l.top l.tpl l.t l.ports l.n l.i (emit (shown l.initial.to) (ports_text l.tpl (parts l.over l.from) l.top (strategy_at (l.files ++ l.area) l.t) l.i (kept_in l.job (l.files ++ l.area) l.ports l.n))) (shown l.to) l.k l.s
+invariant-loop-k l = SameRoom l.initial.to l.to × Writes l.src.design.index.job.now (l.src.mem.files.now ++ l.src.mem.area.now) (parts l.src.scope.over.now l.src.scope.from) l.src.top.now l.tpl l.t l.ports.rows.now l.ports.n l.i (emit (shown l.initial.to) (ports_text l.tpl (parts l.src.scope.over.now l.src.scope.from) l.src.top.now (strategy_at (l.src.mem.files.now ++ l.src.mem.area.now) l.t) l.i (kept_in l.src.design.index.job.now (l.src.mem.files.now ++ l.src.mem.area.now) l.ports.rows.now l.ports.n))) (shown l.to) l.k l.s

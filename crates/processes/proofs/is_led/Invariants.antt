@@ -6,4 +6,4 @@ use Prim.Native.Nat.{◌-◌}
 use Rattle.processes.proofs.is_led.Given as goal
 
 abbrev pub invariant-loop-k : goal.invariant-loop-k
-invariant-loop-k l = Seeks (strategy_at (l.files ++ l.area) l.t) l.ports l.n l.i l.k l.s
+invariant-loop-k l = Seeks (strategy_at (l.mem.files.now ++ l.mem.area.now) l.t) l.ports.rows.now l.ports.n l.i l.k l.s

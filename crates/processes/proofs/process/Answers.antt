@@ -7,5 +7,5 @@ use Rattle.processes.proofs.process.Goals as goal
 
 pub returns : goal.returns
 returns c =
-    let mem = c.args.files.now ++ c.args.area.now in
-    (cc, process_written mem c.args.t (parts c.args.over.now c.args.from) c.args.top.now (kept_in c.args.job.now mem c.args.ports.now c.args.n) c.args.i _ _ _ _ _ _ c.put_head.ensures.1 c.each_port.ensures.1 c.put.ensures.1 c.each_port-2.ensures.1 c.put-2.ensures.1)
+    let mem = c.args.src.now.mem.files.now ++ c.args.src.now.mem.area.now in
+    (cc, process_written mem c.args.t (parts c.args.src.now.scope.over.now c.args.src.now.scope.from) c.args.src.now.top.now (kept_in c.args.src.now.design.index.job.now mem c.args.ports.now.rows.now c.args.ports.now.n) c.args.i _ _ _ _ _ _ c.put_head.ensures.1 c.each_port.ensures.1 c.put.ensures.1 c.each_port-2.ensures.1 c.put-2.ensures.1)

@@ -5,5 +5,5 @@ use Rattle.refs.proofs.put.Goals as goal
 pub returns-then-not-dots : goal.returns-then-not-dots
 returns-then-not-dots c = search written
 
-pub returns-then-m-eq0 : goal.returns-then-m-eq0
-returns-then-m-eq0 c = search written
+pub returns-in-Same : goal.returns-in-Same
+returns-in-Same c = search written

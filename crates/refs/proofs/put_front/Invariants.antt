@@ -8,4 +8,4 @@ use Rattle.refs.proofs.Written.{Fronts}
 use Rattle.refs.proofs.put_front.Given as goal
 
 abbrev pub invariant-loop-i : goal.invariant-loop-i
-invariant-loop-i l = SameRoom l.initial.to l.to × Fronts (l.files ++ l.area) (becomes l.m) (emit (shown l.initial.to) (flat (becomes l.m) (take l.upto (name_of (l.files ++ l.area) l.initial.x)))) (shown l.to) l.x (l.upto - l._i)
+invariant-loop-i l = SameRoom l.initial.to l.to × Fronts (l.mem.files.now ++ l.mem.area.now) (becomes l.m) (emit (shown l.initial.to) (flat (becomes l.m) (take l.upto (name_of (l.mem.files.now ++ l.mem.area.now) l.initial.x)))) (shown l.to) l.x (l.upto - l._i)

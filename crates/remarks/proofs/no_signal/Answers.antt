@@ -1,6 +1,7 @@
 -- `remarks::no_signal` meets its contract. Assumes nothing.
 use borrow.Author.Rules.{rules}
-use Rattle.remarks.proofs.Texts.{over_written, signal_warned}
+use Rattle.out.specs.Emit.{over_written}
+use Rattle.remarks.proofs.Texts.{signal_warned}
 use Rattle.remarks.proofs.no_signal.Goals as goal
 
 pub returns : goal.returns

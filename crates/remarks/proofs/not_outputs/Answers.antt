@@ -1,6 +1,7 @@
 -- `remarks::not_outputs` meets its contract. Assumes nothing.
 use borrow.Author.Rules.{rules}
-use Rattle.remarks.proofs.Texts.{over_written, outputs_warned}
+use Rattle.out.specs.Emit.{over_written}
+use Rattle.remarks.proofs.Texts.{outputs_warned}
 use Rattle.remarks.proofs.not_outputs.Goals as goal
 
 pub returns : goal.returns

@@ -1,6 +1,7 @@
 -- `remarks::unknown_domain` meets its contract. Assumes nothing.
 use borrow.Author.Rules.{rules}
-use Rattle.remarks.proofs.Texts.{over_written, domain_warned}
+use Rattle.out.specs.Emit.{over_written}
+use Rattle.remarks.proofs.Texts.{domain_warned}
 use Rattle.remarks.proofs.unknown_domain.Goals as goal
 
 pub returns : goal.returns

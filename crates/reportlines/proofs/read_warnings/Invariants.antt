@@ -13,4 +13,4 @@ use Rattle.reportlines.proofs.Warnings.{Lines}
 use Rattle.reportlines.proofs.read_warnings.Given as goal
 
 abbrev pub invariant-loop-i : goal.invariant-loop-i
-invariant-loop-i l = SameRoom l.initial.to l.to × Lines (l.files ++ l.area) l.nums l.rows (emit (shown l.initial.to) (each warning_line (map (warning_text (l.files ++ l.area)) (warnings_in (rows_in l.nums l.rows))))) (shown l.to) l.i
+invariant-loop-i l = SameRoom l.initial.to l.to × Lines (l.mem.files.now ++ l.mem.area.now) l.nums l.rows (emit (shown l.initial.to) (each warning_line (map (warning_text (l.mem.files.now ++ l.mem.area.now)) (warnings_in (rows_in l.nums l.rows))))) (shown l.to) l.i

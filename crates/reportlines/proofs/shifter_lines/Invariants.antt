@@ -12,4 +12,4 @@ use Rattle.reportlines.proofs.Shifters.{Lines}
 use Rattle.reportlines.proofs.shifter_lines.Given as goal
 
 abbrev pub invariant-loop-i : goal.invariant-loop-i
-invariant-loop-i l = SameRoom l.initial.to l.to × Lines (l.files ++ l.area) l.t (emit (shown l.initial.to) (each shifter_line (map (shifter_of (l.files ++ l.area)) (take l.t.n l.t.all)))) (shown l.to) l.i
+invariant-loop-i l = SameRoom l.initial.to l.to × Lines (l.mem.files.now ++ l.mem.area.now) l.t (emit (shown l.initial.to) (each shifter_line (map (shifter_of (l.mem.files.now ++ l.mem.area.now)) (take l.t.n l.t.all)))) (shown l.to) l.i

@@ -7,7 +7,7 @@ use Rattle.statecmds.proofs.switch.Goals as goal
 
 pub returns : goal.returns
 returns c =
-    switch_made (c.args.files.now ++ c.args.area.now) c.args.words.now c.args.n c.args.scope c.args.first c.args.mid c.args.end c.name-named.result c.option-domain.result c.option-input.result c.option-output.result c.option-controls.result c.name-named.ensures c.option-domain.ensures c.option-input.ensures c.option-output.ensures c.option-controls.ensures c.narrow.result c.or_empty.result c.or_empty-2.result c.or_empty-3.result c.as_maybe.result c.narrow.ensures c.as_maybe.ensures c.or_empty.ensures c.or_empty-2.ensures c.or_empty-3.ensures
+    switch_made (c.args.mem.now.files.now ++ c.args.mem.now.area.now) c.args.command.now.rows.now c.args.command.now.n c.args.scope c.args.first c.args.mid c.args.end c.name-named.result c.option-domain.result c.option-input.result c.option-output.result c.option-controls.result c.name-named.ensures c.option-domain.ensures c.option-input.ensures c.option-output.ensures c.option-controls.ensures c.narrow.result c.or_empty.result c.or_empty-2.result c.or_empty-3.result c.as_maybe.result c.narrow.ensures c.as_maybe.ensures c.or_empty.ensures c.or_empty-2.ensures c.or_empty-3.ensures
 
 pub narrow-requires : goal.narrow-requires
 narrow-requires c = read_fits _ _ _ _ _ c.name-named.ensures c.requires.line

@@ -1,8 +1,7 @@
 -- `switchwarnings::condition_warnings` meets its contract: the warnings that are left are told behind those that were. Assumes nothing.
-use mathlib.Core.Path.{◌≡◌}
 use lib.ListN.{length}
 use mathlib.Core.List.{◌++◌}
-use Rattle.out.specs.Emit.{◌▸◌}
+use Rattle.out.specs.Text.{shown, SameRoom}
 use Rattle.names.specs.Name.{name_of}
 use Rattle.nametable.specs.Table.{table_names}
 use Rattle.scope.specs.Parts.{parts}
@@ -12,7 +11,7 @@ use Rattle.switchwarnings.proofs.Words.{Warns}
 use Rattle.switchwarnings.proofs.condition_warnings.Given as goal
 
 abbrev pub invariant-loop-b : goal.invariant-loop-b
-invariant-loop-b l = (length l.out ≡ length l.initial.out) × Warns (scope_setting (parts l.over l.from)) (controls_of (table_names (l.files ++ l.area) l.controls l.count)) (l.files ++ l.area) l.initial.x (l.initial.out ▸ l.initial.o.at) l.initial.o.count (l.out ▸ l.o.at) l.o.count l.x
+invariant-loop-b l = SameRoom l.initial.to l.to × Warns (scope_setting (parts l.src.scope.over.now l.src.scope.from)) (controls_of (table_names (l.src.mem.files.now ++ l.src.mem.area.now) l.controls.rows.now l.controls.n)) (l.src.mem.files.now ++ l.src.mem.area.now) l.initial.x (shown l.initial.to) l.initial.told (shown l.to) l.told l.x
 
 abbrev pub decreases-loop-b : goal.decreases-loop-b
-decreases-loop-b l = length (name_of (l.files ++ l.area) l.x)
+decreases-loop-b l = length (name_of (l.src.mem.files.now ++ l.src.mem.area.now) l.x)

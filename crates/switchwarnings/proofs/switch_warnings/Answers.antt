@@ -9,11 +9,11 @@ loop-i-init c = (search rules, (search rules, search all_start))
 pub bounds-t-i : goal.bounds-t-i
 bounds-t-i c = omega (arith, c.loop-i-test.true, c.requires.0.sized.count)
 
-pub of_switch-o-requires : goal.of_switch-o-requires
-of_switch-o-requires c = search (all_one, all_low)
+pub of_switch-told-requires : goal.of_switch-told-requires
+of_switch-told-requires c = search (all_one, all_low)
 
 pub loop-i-preserved : goal.loop-i-preserved
 loop-i-preserved c = (search rules, (search rules, search all_next))
 
 pub returns : goal.returns
-returns c = search all_done
+returns c = (search rules, search all_done)

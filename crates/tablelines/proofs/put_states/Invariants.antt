@@ -14,4 +14,4 @@ use Rattle.tablelines.proofs.put_states.Given as goal
 
 abbrev pub invariant-loop-i : goal.invariant-loop-i
 invariant-loop-i l = SameRoom l.initial.to l.to
-    × ((l.n ≤ l.i) × Joins l.sep (l.files ++ l.area) l.nums l.rows l.k (emit (shown l.initial.to) (joined l.sep (map table_state (flat_map (states_of (l.files ++ l.area) l.k) (rows_in l.nums l.rows))))) (shown l.to) l.n l.i)
+    × ((l.n ≤ l.i) × Joins l.sep (l.mem.files.now ++ l.mem.area.now) l.nums l.rows l.k (emit (shown l.initial.to) (joined l.sep (map table_state (flat_map (states_of (l.mem.files.now ++ l.mem.area.now) l.k) (rows_in l.nums l.rows))))) (shown l.to) l.n l.i)

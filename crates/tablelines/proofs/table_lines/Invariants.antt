@@ -13,4 +13,4 @@ use Rattle.tablelines.proofs.Lines.{Lines}
 use Rattle.tablelines.proofs.table_lines.Given as goal
 
 abbrev pub invariant-loop-i : goal.invariant-loop-i
-invariant-loop-i l = SameRoom l.initial.to l.to × Lines (l.files ++ l.area) l.nums l.rows l.t (emit (shown l.initial.to) (each table_line (numbered (table_of (l.files ++ l.area) (rows_in l.nums l.rows)) 0 (take l.t.n l.t.all)))) (shown l.to) l.i
+invariant-loop-i l = SameRoom l.initial.to l.to × Lines (l.mem.files.now ++ l.mem.area.now) l.nums l.rows l.t (emit (shown l.initial.to) (each table_line (numbered (table_of (l.mem.files.now ++ l.mem.area.now) (rows_in l.nums l.rows)) 0 (take l.t.n l.t.all)))) (shown l.to) l.i

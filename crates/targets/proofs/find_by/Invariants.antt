@@ -6,7 +6,7 @@ use Rattle.targets.proofs.Turns.{Seeks}
 use Rattle.targets.proofs.find_by.Given as goal
 
 abbrev pub invariant-loop-d : goal.invariant-loop-d
-invariant-loop-d l = Seeks l.job l.index l.count l.initial.m (text_of l.job (l.files ++ l.area) l.initial.x) l.m (text_of l.job (l.files ++ l.area) l.x) l.upto l.memo
+invariant-loop-d l = Seeks l.design.index.job.now l.design.index.rows.now l.design.count l.initial.m (text_of l.design.index.job.now (l.mem.files.now ++ l.mem.area.now) l.initial.x) l.m (text_of l.design.index.job.now (l.mem.files.now ++ l.mem.area.now) l.x) l.upto l.memo
 
 abbrev pub decreases-loop-d : goal.decreases-loop-d
-decreases-loop-d l = length (text_of l.job (l.files ++ l.area) l.x)
+decreases-loop-d l = length (text_of l.design.index.job.now (l.mem.files.now ++ l.mem.area.now) l.x)

@@ -8,4 +8,4 @@ abbrev pub invariant-loop-b : goal.invariant-loop-b
 invariant-loop-b l = Unit {0}
 
 abbrev pub decreases-loop-b : goal.decreases-loop-b
-decreases-loop-b l = length (text_of l.job (l.files ++ l.area) l.x)
+decreases-loop-b l = length (text_of l.job (l.mem.files.now ++ l.mem.area.now) l.x)

@@ -1,4 +1,4 @@
-use Rattle.std.proofs.Common.{arith, rules}
+use Rattle.std.proofs.Common.{arith}
 use Rattle.targets.proofs.Parted.{take_early, take_long, take_step, take_stop}
 use Rattle.targets.proofs.stepped_part.Goals as goal
 

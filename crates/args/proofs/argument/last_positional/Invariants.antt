@@ -7,7 +7,7 @@ use Rattle.args.proofs.Loops.{Lasts}
 use Rattle.args.proofs.argument.last_positional.Given as goal
 
 abbrev pub invariant-loop-i : goal.invariant-loop-i
-invariant-loop-i l = Lasts (l.files ++ l.area) l.words l.n (last_positional (words_from (l.files ++ l.area) l.words l.n 1)) l.i l.found
+invariant-loop-i l = Lasts (l.mem.files.now ++ l.mem.area.now) l.command.rows.now l.command.n (last_positional (words_from (l.mem.files.now ++ l.mem.area.now) l.command.rows.now l.command.n 1)) l.i l.found
 
 abbrev pub decreases-loop-i : goal.decreases-loop-i
-decreases-loop-i l = l.n - l.i
+decreases-loop-i l = l.command.n - l.i

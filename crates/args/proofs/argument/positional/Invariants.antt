@@ -7,7 +7,7 @@ use Rattle.args.proofs.Loops.{Picks}
 use Rattle.args.proofs.argument.positional.Given as goal
 
 abbrev pub invariant-loop-i : goal.invariant-loop-i
-invariant-loop-i l = Picks (l.files ++ l.area) l.words l.n (pick l.k (positionals (words_from (l.files ++ l.area) l.words l.n 1))) l.i l.left
+invariant-loop-i l = Picks (l.mem.files.now ++ l.mem.area.now) l.command.rows.now l.command.n (pick l.k (positionals (words_from (l.mem.files.now ++ l.mem.area.now) l.command.rows.now l.command.n 1))) l.i l.left
 
 abbrev pub decreases-loop-i : goal.decreases-loop-i
-decreases-loop-i l = l.n - l.i
+decreases-loop-i l = l.command.n - l.i

@@ -8,7 +8,7 @@ use Rattle.args.proofs.Keys.{Seeks}
 use Rattle.args.proofs.state.state_at.Given as goal
 
 abbrev pub invariant-loop-i : goal.invariant-loop-i
-invariant-loop-i l = Seeks (l.files ++ l.area) l.words l.n l.one l.two (pick l.k (states l.one l.two (strings (l.files ++ l.area) l.words 0 l.n))) l.i l.left
+invariant-loop-i l = Seeks (l.mem.files.now ++ l.mem.area.now) l.command.rows.now l.command.n l.one l.two (pick l.k (states l.one l.two (strings (l.mem.files.now ++ l.mem.area.now) l.command.rows.now 0 l.command.n))) l.i l.left
 
 abbrev pub decreases-loop-i : goal.decreases-loop-i
-decreases-loop-i l = l.n - l.i
+decreases-loop-i l = l.command.n - l.i

@@ -2,8 +2,8 @@
 use Rattle.args.proofs.Keys.{heres}
 use Rattle.args.proofs.state.state_here.Goals as goal
 
-pub returns-then-minus-le1 : goal.returns-then-minus-le1
-returns-then-minus-le1 c = search heres
+pub returns-then-saturating_sub-le1 : goal.returns-then-saturating_sub-le1
+returns-then-saturating_sub-le1 c = search heres
 
 pub returns-then-is : goal.returns-then-is
 returns-then-is c = search heres

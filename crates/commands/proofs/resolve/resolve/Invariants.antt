@@ -6,4 +6,4 @@ use Rattle.substitution.specs.Stored.{variables}
 use Rattle.commands.proofs.resolve.resolve.Given as goal
 
 abbrev pub invariant-loop-k : goal.invariant-loop-k
-invariant-loop-k l = Room l.files l.initial.area l.initial.words l.limit l.n l.o × Resolving l.files l.text (variables (l.files ++ take l.at l.initial.area) l.vars l.nv) l.initial.area l.area l.initial.words l.words l.at l.n l.k l.o
+invariant-loop-k l = Room l.files l.initial.area l.initial.words l.limit l.n l.o × Resolving l.files l.text (variables (l.files ++ take l.at l.initial.area) l.vars.rows.now l.vars.n) l.initial.area l.area l.initial.words l.words l.at l.n l.k l.o

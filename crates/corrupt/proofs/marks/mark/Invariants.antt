@@ -6,4 +6,4 @@ use Rattle.corrupt.proofs.Marking.{Marks}
 use Rattle.corrupt.proofs.marks.mark.Given as goal
 
 abbrev pub invariant-loop-k : goal.invariant-loop-k
-invariant-loop-k l = (length l.marks ≡ length l.initial.marks) × Marks (l.files ++ l.area) l.table l.n l.marks l.k
+invariant-loop-k l = (length l.marks ≡ length l.initial.marks) × Marks (l.mem.files.now ++ l.mem.area.now) l.table.rows.now l.table.n l.marks l.k

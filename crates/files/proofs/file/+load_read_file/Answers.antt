@@ -1,5 +1,7 @@
 use Rattle.reader.specs.Turn.{going_start, next_asks, turn_none, turn_full, begun_asks, turn_less, turn_doing, turn_failed, turn_again}
-use Rattle.files.proofs.Does.{named_at, end_in_lem, front_long, lists, past, asks, does, placed_ran, said, scoped, acting, acts_of, deed_refused, deed_fits, deed_done, told, Did, with_counts, load_over, load_asks, not_opened, deep, opening, failed, behind, placed_opening, placed_reads, head_back_lem}
+use Rattle.files.proofs.Does.{named_at, end_in_lem, front_long, lists, past, asks, does, placed_ran, said, scoped, acting, acts_of, deed_refused, deed_fits, deed_done, told, Did, with_counts, load_over, load_asks, loaded_as, not_opened, deep, opening, failed, behind, placed_opening, placed_reads, head_back_lem}
+use Rattle.cmdnames.specs.Table.{number_of, known, no_puts, no_load, no_scope}
+use Rattle.scopes.specs.Stops.{numbered, stopped, not_stopped}
 use Rattle.files.proofs.Moved.{scope_asks}
 use Rattle.store.specs.declared.state.State.{State}
 use Rattle.made.specs.declared.Deed.{Deed}
@@ -17,42 +19,42 @@ use Rattle.files.proofs.file.+load_read_file.Goals.{read_file-After-warnings_wit
 pub load-returns-then-s-gt1024 : goal.load-returns-then-s-gt1024
 load-returns-then-s-gt1024 t c =
     let h = c.requires in
-    load_over c.args.job.now c.args.files.now c.args.area.now c.args.nums.now c.args.words.now c.args.count c.args.n c.args.k c.args.left c.args.s h c.if-s-gt1024.true c.args.log.now
+    load_over c.args.job.now c.args.files.now c.args.area.now c.args.nums.now c.args.command.now.rows.now c.args.count c.args.command.now.n c.args.k c.args.left c.args.s h c.if-s-gt1024.true c.args.log.now
 
-pub load-before_load-b-requires : goal.load-before_load-b-requires
-load-before_load-b-requires t c =
+pub load-before_load-requires : goal.load-before_load-requires
+load-before_load-requires t c =
     let h = c.requires in
-    asked_by _ _ _ _ _ _ _ _ _ _ (load_asks c.args.job.now c.args.files.now c.args.area.now c.args.nums.now c.args.words.now c.args.count c.args.n c.args.k c.args.left c.args.s h c.if-s-gt1024.false)
+    asked_by _ _ _ _ _ _ _ _ _ _ (load_asks c.args.job.now c.args.files.now c.args.area.now c.args.nums.now c.args.command.now.rows.now c.args.count c.args.command.now.n c.args.k c.args.left c.args.s h c.if-s-gt1024.false)
 
-pub load-returns-then-w-ne0 : goal.load-returns-then-w-ne0
-load-returns-then-w-ne0 t c =
+pub load-returns-in-Err : goal.load-returns-in-Err
+load-returns-in-Err t c =
     let h = c.requires in
-    let b = c.before_load-b in
-    placed_ran c.args.s _ b.result.went c.in_scope-u.ensures _ _ _ _ _ _ _ _ (not_opened c.args.job.now c.args.files.now c.args.area.now c.args.nums.now c.args.words.now c.args.count c.args.n c.args.k c.args.left c.args.s h c.if-s-gt1024.false _ _ _ (b.ensures _ (load_asks c.args.job.now c.args.files.now c.args.area.now c.args.nums.now c.args.words.now c.args.count c.args.n c.args.k c.args.left c.args.s h c.if-s-gt1024.false) refl) c.args.log.now c.if-w-ne0.true)
+    let b = c.before_load in
+    not_opened c.args.job.now c.args.files.now c.args.area.now c.args.nums.now c.args.command.now.rows.now c.args.count c.args.command.now.n c.args.k c.args.left c.args.s h c.if-s-gt1024.false _ _ _ (loaded_as _ _ _ _ _ _ _ _ _ _ _ _ _ c.in-Err.is (b.ensures _ (load_asks c.args.job.now c.args.files.now c.args.area.now c.args.nums.now c.args.command.now.rows.now c.args.count c.args.command.now.n c.args.k c.args.left c.args.s h c.if-s-gt1024.false) refl)) c.args.log.now (numbered _)
 
 pub load-overflow_sub-left : goal.load-overflow_sub-left
 load-overflow_sub-left t c =
     let h = c.requires in
-    let b = c.before_load-b in
-    deep c.args.job.now c.args.files.now c.args.area.now c.args.nums.now c.args.words.now c.args.count c.args.n c.args.k c.args.left c.args.s h c.if-s-gt1024.false _ _ _ (b.ensures _ (load_asks c.args.job.now c.args.files.now c.args.area.now c.args.nums.now c.args.words.now c.args.count c.args.n c.args.k c.args.left c.args.s h c.if-s-gt1024.false) refl) c.if-w-ne0.false
+    let b = c.before_load in
+    deep c.args.job.now c.args.files.now c.args.area.now c.args.nums.now c.args.command.now.rows.now c.args.count c.args.command.now.n c.args.k c.args.left c.args.s h c.if-s-gt1024.false _ _ _ (loaded_as _ _ _ _ _ _ _ _ _ _ _ _ _ c.in-Ok.is (b.ensures _ (load_asks c.args.job.now c.args.files.now c.args.area.now c.args.nums.now c.args.command.now.rows.now c.args.count c.args.command.now.n c.args.k c.args.left c.args.s h c.if-s-gt1024.false) refl)) refl
 
 pub load-read_file-r-requires : goal.load-read_file-r-requires
 load-read_file-r-requires t c =
     let h = c.requires in
-    let b = c.before_load-b in
-    (omega (arith, c.decreases, deep c.args.job.now c.args.files.now c.args.area.now c.args.nums.now c.args.words.now c.args.count c.args.n c.args.k c.args.left c.args.s h c.if-s-gt1024.false _ _ _ (b.ensures _ (load_asks c.args.job.now c.args.files.now c.args.area.now c.args.nums.now c.args.words.now c.args.count c.args.n c.args.k c.args.left c.args.s h c.if-s-gt1024.false) refl) c.if-w-ne0.false), placed_opening c.args.s _ b.result.went c.in_scope-u.ensures _ _ _ _ _ _ _ (opening c.args.job.now c.args.files.now c.args.area.now c.args.nums.now c.args.words.now c.args.count c.args.n c.args.k c.args.left c.args.s h c.if-s-gt1024.false _ _ _ (b.ensures _ (load_asks c.args.job.now c.args.files.now c.args.area.now c.args.nums.now c.args.words.now c.args.count c.args.n c.args.k c.args.left c.args.s h c.if-s-gt1024.false) refl) c.if-w-ne0.false))
+    let b = c.before_load in
+    (omega (arith, c.decreases, deep c.args.job.now c.args.files.now c.args.area.now c.args.nums.now c.args.command.now.rows.now c.args.count c.args.command.now.n c.args.k c.args.left c.args.s h c.if-s-gt1024.false _ _ _ (loaded_as _ _ _ _ _ _ _ _ _ _ _ _ _ c.in-Ok.is (b.ensures _ (load_asks c.args.job.now c.args.files.now c.args.area.now c.args.nums.now c.args.command.now.rows.now c.args.count c.args.command.now.n c.args.k c.args.left c.args.s h c.if-s-gt1024.false) refl)) refl), placed_opening c.args.s _ _ c.in_scope-u.ensures _ _ _ _ _ _ _ (opening c.args.job.now c.args.files.now c.args.area.now c.args.nums.now c.args.command.now.rows.now c.args.count c.args.command.now.n c.args.k c.args.left c.args.s h c.if-s-gt1024.false _ _ _ (loaded_as _ _ _ _ _ _ _ _ _ _ _ _ _ c.in-Ok.is (b.ensures _ (load_asks c.args.job.now c.args.files.now c.args.area.now c.args.nums.now c.args.command.now.rows.now c.args.count c.args.command.now.n c.args.k c.args.left c.args.s h c.if-s-gt1024.false) refl)) refl))
 
-pub load-returns-then-r-ne0 : goal.load-returns-then-r-ne0
-load-returns-then-r-ne0 t c =
+pub load-returns-then-is_some : goal.load-returns-then-is_some
+load-returns-then-is_some t c =
     let h = c.requires in
-    let b = c.before_load-b in
-    failed c.args.job.now c.args.files.now c.args.area.now c.args.nums.now c.args.words.now c.args.count c.args.n c.args.k c.args.left c.args.s h c.if-s-gt1024.false _ _ _ (b.ensures _ (load_asks c.args.job.now c.args.files.now c.args.area.now c.args.nums.now c.args.words.now c.args.count c.args.n c.args.k c.args.left c.args.s h c.if-s-gt1024.false) refl) c.if-w-ne0.false _ _ _ _ _ (placed_reads c.args.s _ b.result.went c.in_scope-u.ensures _ _ _ _ _ _ _ _ _ _ _ _ c.read_file-r.ensures) c.if-r-ne0.true
+    let b = c.before_load in
+    failed c.args.job.now c.args.files.now c.args.area.now c.args.nums.now c.args.command.now.rows.now c.args.count c.args.command.now.n c.args.k c.args.left c.args.s h c.if-s-gt1024.false _ _ _ (loaded_as _ _ _ _ _ _ _ _ _ _ _ _ _ c.in-Ok.is (b.ensures _ (load_asks c.args.job.now c.args.files.now c.args.area.now c.args.nums.now c.args.command.now.rows.now c.args.count c.args.command.now.n c.args.k c.args.left c.args.s h c.if-s-gt1024.false) refl)) refl _ _ _ _ _ (placed_reads c.args.s _ _ c.in_scope-u.ensures _ _ _ _ _ _ _ _ _ _ _ _ c.read_file-r.ensures) (stopped _ (told _ _ _ c.is_some.ensures c.if-is_some.true))
 
-pub load-returns : goal.load-returns
-load-returns t c =
+pub load-returns-else-is_some : goal.load-returns-else-is_some
+load-returns-else-is_some t c =
     let h = c.requires in
-    let b = c.before_load-b in
-    behind c.args.job.now c.args.files.now c.args.area.now c.args.nums.now c.args.words.now c.args.count c.args.n c.args.k c.args.left c.args.s h c.if-s-gt1024.false _ _ _ (b.ensures _ (load_asks c.args.job.now c.args.files.now c.args.area.now c.args.nums.now c.args.words.now c.args.count c.args.n c.args.k c.args.left c.args.s h c.if-s-gt1024.false) refl) c.if-w-ne0.false _ _ _ _ _ (placed_reads c.args.s _ b.result.went c.in_scope-u.ensures _ _ _ _ _ _ _ _ _ _ _ _ c.read_file-r.ensures) c.if-r-ne0.false _ (head_back_lem c.args.s c.read_file-r.result.state _ c.back-u.ensures)
+    let b = c.before_load in
+    behind c.args.job.now c.args.files.now c.args.area.now c.args.nums.now c.args.command.now.rows.now c.args.count c.args.command.now.n c.args.k c.args.left c.args.s h c.if-s-gt1024.false _ _ _ (loaded_as _ _ _ _ _ _ _ _ _ _ _ _ _ c.in-Ok.is (b.ensures _ (load_asks c.args.job.now c.args.files.now c.args.area.now c.args.nums.now c.args.command.now.rows.now c.args.count c.args.command.now.n c.args.k c.args.left c.args.s h c.if-s-gt1024.false) refl)) refl _ _ _ _ _ (placed_reads c.args.s _ _ c.in_scope-u.ensures _ _ _ _ _ _ _ _ _ _ _ _ c.read_file-r.ensures) (not_stopped _ (told _ _ _ c.is_some.ensures c.if-is_some.false)) _ (head_back_lem c.args.s c.read_file-r.result.state _ c.back-u.ensures)
 
 pub read_file-loop-n-init : goal.read_file-loop-n-init
 read_file-loop-n-init t c =
@@ -89,123 +91,93 @@ read_file-overflow_add-substituted t c =
     let h = c.requires in let l = c.loop-n in let b = c.place-base in let z = c.place-len in let d = c.next_command in
     omega (arith, (begun_asks c.args.job.now c.args.files.now c.args.area.now c.args.nums.now c.args.log.now c.args.count c.args.k c.args.left c.args.s b.result z.result h b.ensures z.ensures l.area l.nums l.log l.words l.at l.u l.invariant _ _ d.result d.ensures _ _ _ (c.in-Ok-Some.is ∙ ap Ok c.in-Ok-Some.field-0-is)).1.1)
 
-pub read_file-slice_bounds-number-end : goal.read_file-slice_bounds-number-end
-read_file-slice_bounds-number-end t c =
+pub read_file-slice_bounds-mem-end : goal.read_file-slice_bounds-mem-end
+read_file-slice_bounds-mem-end t c =
     let h = c.requires in let l = c.loop-n in let b = c.place-base in let z = c.place-len in let d = c.next_command in
     end_in_lem c.args.job.now c.args.files.now _ l.nums _ c.args.count _ c.args.k c.args.left _ (turn_doing c.args.job.now c.args.files.now c.args.area.now c.args.nums.now c.args.log.now c.args.count c.args.k c.args.left c.args.s b.result z.result h b.ensures z.ensures l.area l.nums l.log l.words l.at l.u l.invariant _ _ d.result d.ensures _ _ _ (c.in-Ok-Some.is ∙ ap Ok c.in-Ok-Some.field-0-is) d.auto.area _ refl)
 
-pub read_file-slice_bounds-number-end-in-Ok-Some : goal.read_file-slice_bounds-number-end-in-Ok-Some
-read_file-slice_bounds-number-end-in-Ok-Some t c =
+pub read_file-slice_bounds-mem-end-in-Ok-Some : goal.read_file-slice_bounds-mem-end-in-Ok-Some
+read_file-slice_bounds-mem-end-in-Ok-Some t c =
     let h = c.requires in let l = c.loop-n in let b = c.place-base in let z = c.place-len in let d = c.next_command in
     front_long c.args.job.now c.args.files.now _ l.nums _ c.args.count _ c.args.k c.args.left _ (turn_doing c.args.job.now c.args.files.now c.args.area.now c.args.nums.now c.args.log.now c.args.count c.args.k c.args.left c.args.s b.result z.result h b.ensures z.ensures l.area l.nums l.log l.words l.at l.u l.invariant _ _ d.result d.ensures _ _ _ (c.in-Ok-Some.is ∙ ap Ok c.in-Ok-Some.field-0-is) d.auto.area _ refl)
 
 pub read_file-load-r-requires : goal.read_file-load-r-requires
 read_file-load-r-requires t c =
     let h = c.requires in let l = c.loop-n in let b = c.place-base in let z = c.place-len in let d = c.next_command in
-    let p = c.pair in let m = c.number-c in
-    (omega (arith, c.decreases), (record { doing = (turn_doing c.args.job.now c.args.files.now c.args.area.now c.args.nums.now c.args.log.now c.args.count c.args.k c.args.left c.args.s b.result z.result h b.ensures z.ensures l.area l.nums l.log l.words l.at l.u l.invariant _ _ d.result d.ensures _ _ _ (c.in-Ok-Some.is ∙ ap Ok c.in-Ok-Some.field-0-is) d.auto.area _ refl); is = named_at _ _ _ m.result 2 p.ensures m.ensures.is c.if-c-eq2.true }))
+    let p = c.pair in let m = c.named_command-c in
+    (omega (arith, c.decreases), (record { doing = (turn_doing c.args.job.now c.args.files.now c.args.area.now c.args.nums.now c.args.log.now c.args.count c.args.k c.args.left c.args.s b.result z.result h b.ensures z.ensures l.area l.nums l.log l.words l.at l.u l.invariant _ _ d.result d.ensures _ _ _ (c.in-Ok-Some.is ∙ ap Ok c.in-Ok-Some.field-0-is) d.auto.area _ refl); is = named_at _ _ _ (number_of m.result) 2 p.ensures m.ensures (ap number_of c.in-LoadUpf.is) }))
 
-pub read_file-returns-then-r-ne0 : goal.read_file-returns-then-r-ne0
-read_file-returns-then-r-ne0 t c =
+pub read_file-returns-then-is_some : goal.read_file-returns-then-is_some
+read_file-returns-then-is_some t c =
     let h = c.requires in let l = c.loop-n in let b = c.place-base in let z = c.place-len in let d = c.next_command in
-    turn_failed c.args.job.now c.args.files.now c.args.area.now c.args.nums.now c.args.log.now c.args.count c.args.k c.args.left c.args.s b.result z.result h b.ensures z.ensures l.area l.nums l.log l.words l.at l.u l.invariant _ _ d.result d.ensures _ _ _ (c.in-Ok-Some.is ∙ ap Ok c.in-Ok-Some.field-0-is) d.auto.area _ refl _ _ _ _ c.load-r.ensures c.if-r-ne0.true
+    turn_failed c.args.job.now c.args.files.now c.args.area.now c.args.nums.now c.args.log.now c.args.count c.args.k c.args.left c.args.s b.result z.result h b.ensures z.ensures l.area l.nums l.log l.words l.at l.u l.invariant _ _ d.result d.ensures _ _ _ (c.in-Ok-Some.is ∙ ap Ok c.in-Ok-Some.field-0-is) d.auto.area _ refl _ _ _ _ c.load-r.ensures (stopped _ (told _ _ _ c.is_some.ensures c.if-is_some.true))
 
-pub read_file-loop-n-smaller-then-c-eq2 : goal.read_file-loop-n-smaller-then-c-eq2
-read_file-loop-n-smaller-then-c-eq2 t c =
+pub read_file-loop-n-smaller-in-LoadUpf : goal.read_file-loop-n-smaller-in-LoadUpf
+read_file-loop-n-smaller-in-LoadUpf t c =
     let h = c.requires in let l = c.loop-n in let b = c.place-base in let z = c.place-len in let d = c.next_command in
     turn_less c.args.job.now c.args.files.now c.args.area.now c.args.nums.now c.args.log.now c.args.count c.args.k c.args.left c.args.s b.result z.result h b.ensures z.ensures l.area l.nums l.log l.words l.at l.u l.invariant _ _ d.result d.ensures _ _ _ (c.in-Ok-Some.is ∙ ap Ok c.in-Ok-Some.field-0-is)
 
-pub read_file-loop-n-preserved-then-c-eq2 : goal.read_file-loop-n-preserved-then-c-eq2
-read_file-loop-n-preserved-then-c-eq2 t c =
+pub read_file-loop-n-preserved-in-LoadUpf : goal.read_file-loop-n-preserved-in-LoadUpf
+read_file-loop-n-preserved-in-LoadUpf t c =
     let h = c.requires in let l = c.loop-n in let b = c.place-base in let z = c.place-len in let d = c.next_command in
-    turn_again c.args.job.now c.args.files.now c.args.area.now c.args.nums.now c.args.log.now c.args.count c.args.k c.args.left c.args.s b.result z.result h b.ensures z.ensures l.area l.nums l.log l.words l.at l.u l.invariant _ _ d.result d.ensures _ _ _ (c.in-Ok-Some.is ∙ ap Ok c.in-Ok-Some.field-0-is) d.auto.area _ refl _ _ _ _ c.load-r.ensures c.if-r-ne0.false d.auto.words c.load-r.auto.area c.load-r.auto.nums c.load-r.auto.log
-
-pub read_file-slice_bounds-counted-end : goal.read_file-slice_bounds-counted-end
-read_file-slice_bounds-counted-end t c =
-    let h = c.requires in let l = c.loop-n in let b = c.place-base in let z = c.place-len in let d = c.next_command in
-    end_in_lem c.args.job.now c.args.files.now _ l.nums _ c.args.count _ c.args.k c.args.left _ (turn_doing c.args.job.now c.args.files.now c.args.area.now c.args.nums.now c.args.log.now c.args.count c.args.k c.args.left c.args.s b.result z.result h b.ensures z.ensures l.area l.nums l.log l.words l.at l.u l.invariant _ _ d.result d.ensures _ _ _ (c.in-Ok-Some.is ∙ ap Ok c.in-Ok-Some.field-0-is) d.auto.area _ refl)
-
-pub read_file-slice_bounds-counted-end-in-Ok-Some : goal.read_file-slice_bounds-counted-end-in-Ok-Some
-read_file-slice_bounds-counted-end-in-Ok-Some t c =
-    let h = c.requires in let l = c.loop-n in let b = c.place-base in let z = c.place-len in let d = c.next_command in
-    front_long c.args.job.now c.args.files.now _ l.nums _ c.args.count _ c.args.k c.args.left _ (turn_doing c.args.job.now c.args.files.now c.args.area.now c.args.nums.now c.args.log.now c.args.count c.args.k c.args.left c.args.s b.result z.result h b.ensures z.ensures l.area l.nums l.log l.words l.at l.u l.invariant _ _ d.result d.ensures _ _ _ (c.in-Ok-Some.is ∙ ap Ok c.in-Ok-Some.field-0-is) d.auto.area _ refl)
+    turn_again c.args.job.now c.args.files.now c.args.area.now c.args.nums.now c.args.log.now c.args.count c.args.k c.args.left c.args.s b.result z.result h b.ensures z.ensures l.area l.nums l.log l.words l.at l.u l.invariant _ _ d.result d.ensures _ _ _ (c.in-Ok-Some.is ∙ ap Ok c.in-Ok-Some.field-0-is) d.auto.area _ refl _ _ _ _ c.load-r.ensures (not_stopped _ (told _ _ _ c.is_some.ensures c.if-is_some.false)) d.auto.words c.load-r.auto.area c.load-r.auto.nums c.load-r.auto.log
 
 pub read_file-counted-requires : goal.read_file-counted-requires
 read_file-counted-requires t c =
     let h = c.requires in let l = c.loop-n in let b = c.place-base in let z = c.place-len in let d = c.next_command in
     lists c.args.job.now c.args.files.now _ l.nums _ c.args.count _ c.args.k c.args.left _ (turn_doing c.args.job.now c.args.files.now c.args.area.now c.args.nums.now c.args.log.now c.args.count c.args.k c.args.left c.args.s b.result z.result h b.ensures z.ensures l.area l.nums l.log l.words l.at l.u l.invariant _ _ d.result d.ensures _ _ _ (c.in-Ok-Some.is ∙ ap Ok c.in-Ok-Some.field-0-is) d.auto.area _ refl)
 
-pub read_file-returns-in_default : goal.read_file-returns-in_default
-read_file-returns-in_default t c =
+pub read_file-returns-in_default-counted : goal.read_file-returns-in_default-counted
+read_file-returns-in_default-counted t c =
     let h = c.requires in let l = c.loop-n in let b = c.place-base in let z = c.place-len in let d = c.next_command in
-    let p = c.pair in let m = c.number-c in let x = c.counted in
-    turn_failed c.args.job.now c.args.files.now c.args.area.now c.args.nums.now c.args.log.now c.args.count c.args.k c.args.left c.args.s b.result z.result h b.ensures z.ensures l.area l.nums l.log l.words l.at l.u l.invariant _ _ d.result d.ensures _ _ _ (c.in-Ok-Some.is ∙ ap Ok c.in-Ok-Some.field-0-is) d.auto.area _ refl _ _ _ _ (past c.args.job.now c.args.files.now _ l.nums _ c.args.count _ c.args.k c.args.left _ (turn_doing c.args.job.now c.args.files.now c.args.area.now c.args.nums.now c.args.log.now c.args.count c.args.k c.args.left c.args.s b.result z.result h b.ensures z.ensures l.area l.nums l.log l.words l.at l.u l.invariant _ _ d.result d.ensures _ _ _ (c.in-Ok-Some.is ∙ ap Ok c.in-Ok-Some.field-0-is) d.auto.area _ refl) m.result (named_at _ _ _ m.result m.result p.ensures m.ensures.is refl) x.result x.ensures c.in_default.is _) (λ q. absurd (omega (arith, q)))
+    let p = c.pair in let m = c.named_command-c in let x = c.counted in
+    turn_failed c.args.job.now c.args.files.now c.args.area.now c.args.nums.now c.args.log.now c.args.count c.args.k c.args.left c.args.s b.result z.result h b.ensures z.ensures l.area l.nums l.log l.words l.at l.u l.invariant _ _ d.result d.ensures _ _ _ (c.in-Ok-Some.is ∙ ap Ok c.in-Ok-Some.field-0-is) d.auto.area _ refl _ _ _ _ (past c.args.job.now c.args.files.now _ l.nums _ c.args.count _ c.args.k c.args.left _ (turn_doing c.args.job.now c.args.files.now c.args.area.now c.args.nums.now c.args.log.now c.args.count c.args.k c.args.left c.args.s b.result z.result h b.ensures z.ensures l.area l.nums l.log l.words l.at l.u l.invariant _ _ d.result d.ensures _ _ _ (c.in-Ok-Some.is ∙ ap Ok c.in-Ok-Some.field-0-is) d.auto.area _ refl) (number_of m.result) (named_at _ _ _ (number_of m.result) (number_of m.result) p.ensures m.ensures refl) x.result x.ensures c.in_default-counted.is _) (λ q. absurd (omega (arith, q)))
 
-pub read_file-slice_bounds-puts-end : goal.read_file-slice_bounds-puts-end
-read_file-slice_bounds-puts-end t c =
-    let h = c.requires in let l = c.loop-n in let b = c.place-base in let z = c.place-len in let d = c.next_command in
-    end_in_lem c.args.job.now c.args.files.now _ l.nums _ c.args.count _ c.args.k c.args.left _ (turn_doing c.args.job.now c.args.files.now c.args.area.now c.args.nums.now c.args.log.now c.args.count c.args.k c.args.left c.args.s b.result z.result h b.ensures z.ensures l.area l.nums l.log l.words l.at l.u l.invariant _ _ d.result d.ensures _ _ _ (c.in-Ok-Some.is ∙ ap Ok c.in-Ok-Some.field-0-is) d.auto.area _ refl)
-
-pub read_file-slice_bounds-puts-end-then-c-eq1 : goal.read_file-slice_bounds-puts-end-then-c-eq1
-read_file-slice_bounds-puts-end-then-c-eq1 t c =
-    let h = c.requires in let l = c.loop-n in let b = c.place-base in let z = c.place-len in let d = c.next_command in
-    front_long c.args.job.now c.args.files.now _ l.nums _ c.args.count _ c.args.k c.args.left _ (turn_doing c.args.job.now c.args.files.now c.args.area.now c.args.nums.now c.args.log.now c.args.count c.args.k c.args.left c.args.s b.result z.result h b.ensures z.ensures l.area l.nums l.log l.words l.at l.u l.invariant _ _ d.result d.ensures _ _ _ (c.in-Ok-Some.is ∙ ap Ok c.in-Ok-Some.field-0-is) d.auto.area _ refl)
-
-pub read_file-loop-n-smaller-then-c-eq1 : goal.read_file-loop-n-smaller-then-c-eq1
-read_file-loop-n-smaller-then-c-eq1 t c =
+pub read_file-loop-n-smaller-in-Puts : goal.read_file-loop-n-smaller-in-Puts
+read_file-loop-n-smaller-in-Puts t c =
     let h = c.requires in let l = c.loop-n in let b = c.place-base in let z = c.place-len in let d = c.next_command in
     turn_less c.args.job.now c.args.files.now c.args.area.now c.args.nums.now c.args.log.now c.args.count c.args.k c.args.left c.args.s b.result z.result h b.ensures z.ensures l.area l.nums l.log l.words l.at l.u l.invariant _ _ d.result d.ensures _ _ _ (c.in-Ok-Some.is ∙ ap Ok c.in-Ok-Some.field-0-is)
 
-pub read_file-loop-n-preserved-then-c-eq1 : goal.read_file-loop-n-preserved-then-c-eq1
-read_file-loop-n-preserved-then-c-eq1 t c =
+pub read_file-loop-n-preserved-in-Puts : goal.read_file-loop-n-preserved-in-Puts
+read_file-loop-n-preserved-in-Puts t c =
     let h = c.requires in let l = c.loop-n in let b = c.place-base in let z = c.place-len in let d = c.next_command in
-    let p = c.pair in let m = c.number-c in let x = c.counted in
-    turn_again c.args.job.now c.args.files.now c.args.area.now c.args.nums.now c.args.log.now c.args.count c.args.k c.args.left c.args.s b.result z.result h b.ensures z.ensures l.area l.nums l.log l.words l.at l.u l.invariant _ _ d.result d.ensures _ _ _ (c.in-Ok-Some.is ∙ ap Ok c.in-Ok-Some.field-0-is) d.auto.area _ refl _ _ _ _ (does c.args.job.now c.args.files.now _ l.nums _ c.args.count _ c.args.k c.args.left _ (turn_doing c.args.job.now c.args.files.now c.args.area.now c.args.nums.now c.args.log.now c.args.count c.args.k c.args.left c.args.s b.result z.result h b.ensures z.ensures l.area l.nums l.log l.words l.at l.u l.invariant _ _ d.result d.ensures _ _ _ (c.in-Ok-Some.is ∙ ap Ok c.in-Ok-Some.field-0-is) d.auto.area _ refl) m.result (named_at _ _ _ m.result m.result p.ensures m.ensures.is refl) x.result x.ensures _ c.in-Some.is c.if-c-eq2.false _ _ _ _ _ (said _ _ _ _ _ _ _ c.if-c-eq1.true (asks c.args.job.now c.args.files.now _ l.nums _ c.args.count _ c.args.k c.args.left _ (turn_doing c.args.job.now c.args.files.now c.args.area.now c.args.nums.now c.args.log.now c.args.count c.args.k c.args.left c.args.s b.result z.result h b.ensures z.ensures l.area l.nums l.log l.words l.at l.u l.invariant _ _ d.result d.ensures _ _ _ (c.in-Ok-Some.is ∙ ap Ok c.in-Ok-Some.field-0-is) d.auto.area _ refl) m.result (named_at _ _ _ m.result m.result p.ensures m.ensures.is refl) x.result x.ensures _ c.in-Some.is c.if-c-eq2.false m.ensures.known) _ _ _ c.puts-end.ensures)) refl d.auto.words refl refl c.puts-end.auto.log
+    let p = c.pair in let m = c.named_command-c in let x = c.counted in
+    turn_again c.args.job.now c.args.files.now c.args.area.now c.args.nums.now c.args.log.now c.args.count c.args.k c.args.left c.args.s b.result z.result h b.ensures z.ensures l.area l.nums l.log l.words l.at l.u l.invariant _ _ d.result d.ensures _ _ _ (c.in-Ok-Some.is ∙ ap Ok c.in-Ok-Some.field-0-is) d.auto.area _ refl _ _ _ _ (does c.args.job.now c.args.files.now _ l.nums _ c.args.count _ c.args.k c.args.left _ (turn_doing c.args.job.now c.args.files.now c.args.area.now c.args.nums.now c.args.log.now c.args.count c.args.k c.args.left c.args.s b.result z.result h b.ensures z.ensures l.area l.nums l.log l.words l.at l.u l.invariant _ _ d.result d.ensures _ _ _ (c.in-Ok-Some.is ∙ ap Ok c.in-Ok-Some.field-0-is) d.auto.area _ refl) (number_of m.result) (named_at _ _ _ (number_of m.result) (number_of m.result) p.ensures m.ensures refl) x.result x.ensures _ c.in-Some.is (no_load _ (search rules)) _ _ _ _ _ (said _ _ _ _ _ _ _ (ap number_of c.in-Puts.is) (asks c.args.job.now c.args.files.now _ l.nums _ c.args.count _ c.args.k c.args.left _ (turn_doing c.args.job.now c.args.files.now c.args.area.now c.args.nums.now c.args.log.now c.args.count c.args.k c.args.left c.args.s b.result z.result h b.ensures z.ensures l.area l.nums l.log l.words l.at l.u l.invariant _ _ d.result d.ensures _ _ _ (c.in-Ok-Some.is ∙ ap Ok c.in-Ok-Some.field-0-is) d.auto.area _ refl) (number_of m.result) (named_at _ _ _ (number_of m.result) (number_of m.result) p.ensures m.ensures refl) x.result x.ensures _ c.in-Some.is (no_load _ (search rules)) (known m.result)) _ _ _ c.puts-end.ensures)) refl d.auto.words refl refl c.puts-end.auto.log
 
-pub read_file-set_scope-w-requires : goal.read_file-set_scope-w-requires
-read_file-set_scope-w-requires t c =
+pub read_file-set_scope-requires : goal.read_file-set_scope-requires
+read_file-set_scope-requires t c =
     let h = c.requires in let l = c.loop-n in let b = c.place-base in let z = c.place-len in let d = c.next_command in
-    let p = c.pair in let m = c.number-c in let x = c.counted in
-    scope_asks _ _ _ _ _ _ _ (asks c.args.job.now c.args.files.now _ l.nums _ c.args.count _ c.args.k c.args.left _ (turn_doing c.args.job.now c.args.files.now c.args.area.now c.args.nums.now c.args.log.now c.args.count c.args.k c.args.left c.args.s b.result z.result h b.ensures z.ensures l.area l.nums l.log l.words l.at l.u l.invariant _ _ d.result d.ensures _ _ _ (c.in-Ok-Some.is ∙ ap Ok c.in-Ok-Some.field-0-is) d.auto.area _ refl) m.result (named_at _ _ _ m.result m.result p.ensures m.ensures.is refl) x.result x.ensures _ c.in-Some.is c.if-c-eq2.false m.ensures.known)
+    let p = c.pair in let m = c.named_command-c in let x = c.counted in
+    scope_asks _ _ _ _ _ _ _ (asks c.args.job.now c.args.files.now _ l.nums _ c.args.count _ c.args.k c.args.left _ (turn_doing c.args.job.now c.args.files.now c.args.area.now c.args.nums.now c.args.log.now c.args.count c.args.k c.args.left c.args.s b.result z.result h b.ensures z.ensures l.area l.nums l.log l.words l.at l.u l.invariant _ _ d.result d.ensures _ _ _ (c.in-Ok-Some.is ∙ ap Ok c.in-Ok-Some.field-0-is) d.auto.area _ refl) (number_of m.result) (named_at _ _ _ (number_of m.result) (number_of m.result) p.ensures m.ensures refl) x.result x.ensures _ c.in-Some.is (no_load _ (search rules)) (known m.result))
 
-pub read_file-returns-then-w-ne0 : goal.read_file-returns-then-w-ne0
-read_file-returns-then-w-ne0 t c =
+pub read_file-returns-in-Err-set_scope : goal.read_file-returns-in-Err-set_scope
+read_file-returns-in-Err-set_scope t c =
     let h = c.requires in let l = c.loop-n in let b = c.place-base in let z = c.place-len in let d = c.next_command in
-    let p = c.pair in let m = c.number-c in let x = c.counted in
-    turn_failed c.args.job.now c.args.files.now c.args.area.now c.args.nums.now c.args.log.now c.args.count c.args.k c.args.left c.args.s b.result z.result h b.ensures z.ensures l.area l.nums l.log l.words l.at l.u l.invariant _ _ d.result d.ensures _ _ _ (c.in-Ok-Some.is ∙ ap Ok c.in-Ok-Some.field-0-is) d.auto.area _ refl _ _ _ _ (does c.args.job.now c.args.files.now _ l.nums _ c.args.count _ c.args.k c.args.left _ (turn_doing c.args.job.now c.args.files.now c.args.area.now c.args.nums.now c.args.log.now c.args.count c.args.k c.args.left c.args.s b.result z.result h b.ensures z.ensures l.area l.nums l.log l.words l.at l.u l.invariant _ _ d.result d.ensures _ _ _ (c.in-Ok-Some.is ∙ ap Ok c.in-Ok-Some.field-0-is) d.auto.area _ refl) m.result (named_at _ _ _ m.result m.result p.ensures m.ensures.is refl) x.result x.ensures _ c.in-Some.is c.if-c-eq2.false _ _ _ _ _ (placed_ran _ _ c.set_scope-w.result c.in_scope-u.ensures _ _ _ _ _ _ _ _ (scoped _ _ _ _ _ _ _ c.if-c-eq4.true (asks c.args.job.now c.args.files.now _ l.nums _ c.args.count _ c.args.k c.args.left _ (turn_doing c.args.job.now c.args.files.now c.args.area.now c.args.nums.now c.args.log.now c.args.count c.args.k c.args.left c.args.s b.result z.result h b.ensures z.ensures l.area l.nums l.log l.words l.at l.u l.invariant _ _ d.result d.ensures _ _ _ (c.in-Ok-Some.is ∙ ap Ok c.in-Ok-Some.field-0-is) d.auto.area _ refl) m.result (named_at _ _ _ m.result m.result p.ensures m.ensures.is refl) x.result x.ensures _ c.in-Some.is c.if-c-eq2.false m.ensures.known) _ _ _ c.set_scope-w.auto.area (c.set_scope-w.ensures _ refl)))) c.if-w-ne0.true
+    let p = c.pair in let m = c.named_command-c in let x = c.counted in
+    turn_failed c.args.job.now c.args.files.now c.args.area.now c.args.nums.now c.args.log.now c.args.count c.args.k c.args.left c.args.s b.result z.result h b.ensures z.ensures l.area l.nums l.log l.words l.at l.u l.invariant _ _ d.result d.ensures _ _ _ (c.in-Ok-Some.is ∙ ap Ok c.in-Ok-Some.field-0-is) d.auto.area _ refl _ _ _ _ (does c.args.job.now c.args.files.now _ l.nums _ c.args.count _ c.args.k c.args.left _ (turn_doing c.args.job.now c.args.files.now c.args.area.now c.args.nums.now c.args.log.now c.args.count c.args.k c.args.left c.args.s b.result z.result h b.ensures z.ensures l.area l.nums l.log l.words l.at l.u l.invariant _ _ d.result d.ensures _ _ _ (c.in-Ok-Some.is ∙ ap Ok c.in-Ok-Some.field-0-is) d.auto.area _ refl) (number_of m.result) (named_at _ _ _ (number_of m.result) (number_of m.result) p.ensures m.ensures refl) x.result x.ensures _ c.in-Some.is (no_load _ (search rules)) _ _ _ _ _ (scoped _ _ _ _ _ _ _ (ap number_of c.in-SetScope.is) (asks c.args.job.now c.args.files.now _ l.nums _ c.args.count _ c.args.k c.args.left _ (turn_doing c.args.job.now c.args.files.now c.args.area.now c.args.nums.now c.args.log.now c.args.count c.args.k c.args.left c.args.s b.result z.result h b.ensures z.ensures l.area l.nums l.log l.words l.at l.u l.invariant _ _ d.result d.ensures _ _ _ (c.in-Ok-Some.is ∙ ap Ok c.in-Ok-Some.field-0-is) d.auto.area _ refl) (number_of m.result) (named_at _ _ _ (number_of m.result) (number_of m.result) p.ensures m.ensures refl) x.result x.ensures _ c.in-Some.is (no_load _ (search rules)) (known m.result)) _ _ _ _ c.set_scope.auto.area c.in-Err-set_scope.is (c.set_scope.ensures _ refl))) (numbered _)
 
-pub read_file-loop-n-smaller-then-c-eq4 : goal.read_file-loop-n-smaller-then-c-eq4
-read_file-loop-n-smaller-then-c-eq4 t c =
+pub read_file-loop-n-smaller-in-Ok : goal.read_file-loop-n-smaller-in-Ok
+read_file-loop-n-smaller-in-Ok t c =
     let h = c.requires in let l = c.loop-n in let b = c.place-base in let z = c.place-len in let d = c.next_command in
     turn_less c.args.job.now c.args.files.now c.args.area.now c.args.nums.now c.args.log.now c.args.count c.args.k c.args.left c.args.s b.result z.result h b.ensures z.ensures l.area l.nums l.log l.words l.at l.u l.invariant _ _ d.result d.ensures _ _ _ (c.in-Ok-Some.is ∙ ap Ok c.in-Ok-Some.field-0-is)
 
-pub read_file-loop-n-preserved-then-c-eq4 : goal.read_file-loop-n-preserved-then-c-eq4
-read_file-loop-n-preserved-then-c-eq4 t c =
+pub read_file-loop-n-preserved-in-Ok : goal.read_file-loop-n-preserved-in-Ok
+read_file-loop-n-preserved-in-Ok t c =
     let h = c.requires in let l = c.loop-n in let b = c.place-base in let z = c.place-len in let d = c.next_command in
-    let p = c.pair in let m = c.number-c in let x = c.counted in
-    turn_again c.args.job.now c.args.files.now c.args.area.now c.args.nums.now c.args.log.now c.args.count c.args.k c.args.left c.args.s b.result z.result h b.ensures z.ensures l.area l.nums l.log l.words l.at l.u l.invariant _ _ d.result d.ensures _ _ _ (c.in-Ok-Some.is ∙ ap Ok c.in-Ok-Some.field-0-is) d.auto.area _ refl _ _ _ _ (does c.args.job.now c.args.files.now _ l.nums _ c.args.count _ c.args.k c.args.left _ (turn_doing c.args.job.now c.args.files.now c.args.area.now c.args.nums.now c.args.log.now c.args.count c.args.k c.args.left c.args.s b.result z.result h b.ensures z.ensures l.area l.nums l.log l.words l.at l.u l.invariant _ _ d.result d.ensures _ _ _ (c.in-Ok-Some.is ∙ ap Ok c.in-Ok-Some.field-0-is) d.auto.area _ refl) m.result (named_at _ _ _ m.result m.result p.ensures m.ensures.is refl) x.result x.ensures _ c.in-Some.is c.if-c-eq2.false _ _ _ _ _ (placed_ran _ _ c.set_scope-w.result c.in_scope-u.ensures _ _ _ _ _ _ _ _ (scoped _ _ _ _ _ _ _ c.if-c-eq4.true (asks c.args.job.now c.args.files.now _ l.nums _ c.args.count _ c.args.k c.args.left _ (turn_doing c.args.job.now c.args.files.now c.args.area.now c.args.nums.now c.args.log.now c.args.count c.args.k c.args.left c.args.s b.result z.result h b.ensures z.ensures l.area l.nums l.log l.words l.at l.u l.invariant _ _ d.result d.ensures _ _ _ (c.in-Ok-Some.is ∙ ap Ok c.in-Ok-Some.field-0-is) d.auto.area _ refl) m.result (named_at _ _ _ m.result m.result p.ensures m.ensures.is refl) x.result x.ensures _ c.in-Some.is c.if-c-eq2.false m.ensures.known) _ _ _ c.set_scope-w.auto.area (c.set_scope-w.ensures _ refl)))) c.if-w-ne0.false d.auto.words c.set_scope-w.auto.area refl refl
-
-pub read_file-slice_bounds-act-end : goal.read_file-slice_bounds-act-end
-read_file-slice_bounds-act-end t c =
-    let h = c.requires in let l = c.loop-n in let b = c.place-base in let z = c.place-len in let d = c.next_command in
-    end_in_lem c.args.job.now c.args.files.now _ l.nums _ c.args.count _ c.args.k c.args.left _ (turn_doing c.args.job.now c.args.files.now c.args.area.now c.args.nums.now c.args.log.now c.args.count c.args.k c.args.left c.args.s b.result z.result h b.ensures z.ensures l.area l.nums l.log l.words l.at l.u l.invariant _ _ d.result d.ensures _ _ _ (c.in-Ok-Some.is ∙ ap Ok c.in-Ok-Some.field-0-is) d.auto.area _ refl)
-
-pub read_file-slice_bounds-act-end-in-Ok-Some : goal.read_file-slice_bounds-act-end-in-Ok-Some
-read_file-slice_bounds-act-end-in-Ok-Some t c =
-    let h = c.requires in let l = c.loop-n in let b = c.place-base in let z = c.place-len in let d = c.next_command in
-    front_long c.args.job.now c.args.files.now _ l.nums _ c.args.count _ c.args.k c.args.left _ (turn_doing c.args.job.now c.args.files.now c.args.area.now c.args.nums.now c.args.log.now c.args.count c.args.k c.args.left c.args.s b.result z.result h b.ensures z.ensures l.area l.nums l.log l.words l.at l.u l.invariant _ _ d.result d.ensures _ _ _ (c.in-Ok-Some.is ∙ ap Ok c.in-Ok-Some.field-0-is) d.auto.area _ refl)
+    let p = c.pair in let m = c.named_command-c in let x = c.counted in
+    turn_again c.args.job.now c.args.files.now c.args.area.now c.args.nums.now c.args.log.now c.args.count c.args.k c.args.left c.args.s b.result z.result h b.ensures z.ensures l.area l.nums l.log l.words l.at l.u l.invariant _ _ d.result d.ensures _ _ _ (c.in-Ok-Some.is ∙ ap Ok c.in-Ok-Some.field-0-is) d.auto.area _ refl _ _ _ _ (does c.args.job.now c.args.files.now _ l.nums _ c.args.count _ c.args.k c.args.left _ (turn_doing c.args.job.now c.args.files.now c.args.area.now c.args.nums.now c.args.log.now c.args.count c.args.k c.args.left c.args.s b.result z.result h b.ensures z.ensures l.area l.nums l.log l.words l.at l.u l.invariant _ _ d.result d.ensures _ _ _ (c.in-Ok-Some.is ∙ ap Ok c.in-Ok-Some.field-0-is) d.auto.area _ refl) (number_of m.result) (named_at _ _ _ (number_of m.result) (number_of m.result) p.ensures m.ensures refl) x.result x.ensures _ c.in-Some.is (no_load _ (search rules)) _ _ _ _ _ (placed_ran _ _ _ c.in_scope-u.ensures _ _ _ _ _ _ _ _ (scoped _ _ _ _ _ _ _ (ap number_of c.in-SetScope.is) (asks c.args.job.now c.args.files.now _ l.nums _ c.args.count _ c.args.k c.args.left _ (turn_doing c.args.job.now c.args.files.now c.args.area.now c.args.nums.now c.args.log.now c.args.count c.args.k c.args.left c.args.s b.result z.result h b.ensures z.ensures l.area l.nums l.log l.words l.at l.u l.invariant _ _ d.result d.ensures _ _ _ (c.in-Ok-Some.is ∙ ap Ok c.in-Ok-Some.field-0-is) d.auto.area _ refl) (number_of m.result) (named_at _ _ _ (number_of m.result) (number_of m.result) p.ensures m.ensures refl) x.result x.ensures _ c.in-Some.is (no_load _ (search rules)) (known m.result)) _ _ _ _ c.set_scope.auto.area c.in-Ok.is (c.set_scope.ensures _ refl)))) refl d.auto.words c.set_scope.auto.area refl refl
 
 pub read_file-act-d-requires : goal.read_file-act-d-requires
 read_file-act-d-requires t c =
     let h = c.requires in let l = c.loop-n in let b = c.place-base in let z = c.place-len in let d = c.next_command in
-    let p = c.pair in let m = c.number-c in let x = c.counted in
-    (acting _ _ _ _ _ _ _ (asks c.args.job.now c.args.files.now _ l.nums _ c.args.count _ c.args.k c.args.left _ (turn_doing c.args.job.now c.args.files.now c.args.area.now c.args.nums.now c.args.log.now c.args.count c.args.k c.args.left c.args.s b.result z.result h b.ensures z.ensures l.area l.nums l.log l.words l.at l.u l.invariant _ _ d.result d.ensures _ _ _ (c.in-Ok-Some.is ∙ ap Ok c.in-Ok-Some.field-0-is) d.auto.area _ refl) m.result (named_at _ _ _ m.result m.result p.ensures m.ensures.is refl) x.result x.ensures _ c.in-Some.is c.if-c-eq2.false m.ensures.known) c.brief_of-b.result c.brief_of-b.ensures c.if-c-eq1.false c.if-c-eq4.false)
+    let p = c.pair in let m = c.named_command-c in let x = c.counted in
+    (acting _ _ _ _ _ _ _ (asks c.args.job.now c.args.files.now _ l.nums _ c.args.count _ c.args.k c.args.left _ (turn_doing c.args.job.now c.args.files.now c.args.area.now c.args.nums.now c.args.log.now c.args.count c.args.k c.args.left c.args.s b.result z.result h b.ensures z.ensures l.area l.nums l.log l.words l.at l.u l.invariant _ _ d.result d.ensures _ _ _ (c.in-Ok-Some.is ∙ ap Ok c.in-Ok-Some.field-0-is) d.auto.area _ refl) (number_of m.result) (named_at _ _ _ (number_of m.result) (number_of m.result) p.ensures m.ensures refl) x.result x.ensures _ c.in-Some.is (no_load _ (search rules)) (known m.result)) c.brief_of-b.result c.brief_of-b.ensures (no_puts _ (search rules)) (no_scope _ (search rules)))
 
 pub read_file-returns-then-refused : goal.read_file-returns-then-refused
 read_file-returns-then-refused t c =
     let h = c.requires in let l = c.loop-n in let b = c.place-base in let z = c.place-len in let d = c.next_command in
-    let p = c.pair in let m = c.number-c in let x = c.counted in
-    turn_failed c.args.job.now c.args.files.now c.args.area.now c.args.nums.now c.args.log.now c.args.count c.args.k c.args.left c.args.s b.result z.result h b.ensures z.ensures l.area l.nums l.log l.words l.at l.u l.invariant _ _ d.result d.ensures _ _ _ (c.in-Ok-Some.is ∙ ap Ok c.in-Ok-Some.field-0-is) d.auto.area _ refl _ _ _ _ (does c.args.job.now c.args.files.now _ l.nums _ c.args.count _ c.args.k c.args.left _ (turn_doing c.args.job.now c.args.files.now c.args.area.now c.args.nums.now c.args.log.now c.args.count c.args.k c.args.left c.args.s b.result z.result h b.ensures z.ensures l.area l.nums l.log l.words l.at l.u l.invariant _ _ d.result d.ensures _ _ _ (c.in-Ok-Some.is ∙ ap Ok c.in-Ok-Some.field-0-is) d.auto.area _ refl) m.result (named_at _ _ _ m.result m.result p.ensures m.ensures.is refl) x.result x.ensures _ c.in-Some.is c.if-c-eq2.false _ _ _ _ _ (deed_refused _ _ _ _ _ _ _ _ c.act-d.result (acts_of _ _ _ _ _ _ _ (asks c.args.job.now c.args.files.now _ l.nums _ c.args.count _ c.args.k c.args.left _ (turn_doing c.args.job.now c.args.files.now c.args.area.now c.args.nums.now c.args.log.now c.args.count c.args.k c.args.left c.args.s b.result z.result h b.ensures z.ensures l.area l.nums l.log l.words l.at l.u l.invariant _ _ d.result d.ensures _ _ _ (c.in-Ok-Some.is ∙ ap Ok c.in-Ok-Some.field-0-is) d.auto.area _ refl) m.result (named_at _ _ _ m.result m.result p.ensures m.ensures.is refl) x.result x.ensures _ c.in-Some.is c.if-c-eq2.false m.ensures.known) c.brief_of-b.result c.brief_of-b.ensures c.if-c-eq1.false c.if-c-eq4.false _ _ c.act-d.ensures) l.log (told _ _ _ c.refused.ensures c.if-refused.true))) (λ q. absurd (omega (arith, q)))
+    let p = c.pair in let m = c.named_command-c in let x = c.counted in
+    turn_failed c.args.job.now c.args.files.now c.args.area.now c.args.nums.now c.args.log.now c.args.count c.args.k c.args.left c.args.s b.result z.result h b.ensures z.ensures l.area l.nums l.log l.words l.at l.u l.invariant _ _ d.result d.ensures _ _ _ (c.in-Ok-Some.is ∙ ap Ok c.in-Ok-Some.field-0-is) d.auto.area _ refl _ _ _ _ (does c.args.job.now c.args.files.now _ l.nums _ c.args.count _ c.args.k c.args.left _ (turn_doing c.args.job.now c.args.files.now c.args.area.now c.args.nums.now c.args.log.now c.args.count c.args.k c.args.left c.args.s b.result z.result h b.ensures z.ensures l.area l.nums l.log l.words l.at l.u l.invariant _ _ d.result d.ensures _ _ _ (c.in-Ok-Some.is ∙ ap Ok c.in-Ok-Some.field-0-is) d.auto.area _ refl) (number_of m.result) (named_at _ _ _ (number_of m.result) (number_of m.result) p.ensures m.ensures refl) x.result x.ensures _ c.in-Some.is (no_load _ (search rules)) _ _ _ _ _ (deed_refused _ _ _ _ _ _ _ _ c.act-d.result (acts_of _ _ _ _ _ _ _ (asks c.args.job.now c.args.files.now _ l.nums _ c.args.count _ c.args.k c.args.left _ (turn_doing c.args.job.now c.args.files.now c.args.area.now c.args.nums.now c.args.log.now c.args.count c.args.k c.args.left c.args.s b.result z.result h b.ensures z.ensures l.area l.nums l.log l.words l.at l.u l.invariant _ _ d.result d.ensures _ _ _ (c.in-Ok-Some.is ∙ ap Ok c.in-Ok-Some.field-0-is) d.auto.area _ refl) (number_of m.result) (named_at _ _ _ (number_of m.result) (number_of m.result) p.ensures m.ensures refl) x.result x.ensures _ c.in-Some.is (no_load _ (search rules)) (known m.result)) c.brief_of-b.result c.brief_of-b.ensures (no_puts _ (search rules)) (no_scope _ (search rules)) _ _ c.act-d.ensures) l.log (told _ _ _ c.refused.ensures c.if-refused.true))) (λ q. absurd (omega (arith, q)))
 
 -- the deed, and the state when its rows and warnings are counted
 abbrev read_file-deed : (t : ℕ) → read_file-After-warnings_with-warnings t → Deed
@@ -223,11 +195,11 @@ read_file-Did t c =
 read_file-did : (t : ℕ) (c : read_file-After-warnings_with-warnings t) → read_file-Did t c
 read_file-did t c =
     let a = c.args in let h = c.requires in let l = c.loop-n in let b = c.place-base in let z = c.place-len in let d = c.next_command in
-    let p = c.pair in let m = c.number-c in let x = c.counted in
+    let p = c.pair in let m = c.named_command-c in let x = c.counted in
     record {
-      fits = deed_fits _ _ _ _ _ _ _ _ c.act-d.result (acts_of _ _ _ _ _ _ _ (asks a.job.now a.files.now _ l.nums _ a.count _ a.k a.left _ (turn_doing a.job.now a.files.now a.area.now a.nums.now a.log.now a.count a.k a.left a.s b.result z.result h b.ensures z.ensures l.area l.nums l.log l.words l.at l.u l.invariant _ _ d.result d.ensures _ _ _ (c.in-Ok-Some.is ∙ ap Ok c.in-Ok-Some.field-0-is) d.auto.area _ refl) m.result (named_at _ _ _ m.result m.result p.ensures m.ensures.is refl) x.result x.ensures _ c.in-Some.is c.if-c-eq2.false m.ensures.known) c.brief_of-b.result c.brief_of-b.ensures c.if-c-eq1.false c.if-c-eq4.false _ _ c.act-d.ensures) l.log (told _ _ _ c.refused.ensures c.if-refused.false) c.rows_with-rows.result c.warnings_with-warnings.result c.rows_with-rows.ensures c.warnings_with-warnings.ensures;
+      fits = deed_fits _ _ _ _ _ _ _ _ c.act-d.result (acts_of _ _ _ _ _ _ _ (asks a.job.now a.files.now _ l.nums _ a.count _ a.k a.left _ (turn_doing a.job.now a.files.now a.area.now a.nums.now a.log.now a.count a.k a.left a.s b.result z.result h b.ensures z.ensures l.area l.nums l.log l.words l.at l.u l.invariant _ _ d.result d.ensures _ _ _ (c.in-Ok-Some.is ∙ ap Ok c.in-Ok-Some.field-0-is) d.auto.area _ refl) (number_of m.result) (named_at _ _ _ (number_of m.result) (number_of m.result) p.ensures m.ensures refl) x.result x.ensures _ c.in-Some.is (no_load _ (search rules)) (known m.result)) c.brief_of-b.result c.brief_of-b.ensures (no_puts _ (search rules)) (no_scope _ (search rules)) _ _ c.act-d.ensures) l.log (told _ _ _ c.refused.ensures c.if-refused.false) c.rows_with-rows.result c.warnings_with-warnings.result c.rows_with-rows.ensures c.warnings_with-warnings.ensures;
       less = turn_less a.job.now a.files.now a.area.now a.nums.now a.log.now a.count a.k a.left a.s b.result z.result h b.ensures z.ensures l.area l.nums l.log l.words l.at l.u l.invariant _ _ d.result d.ensures _ _ _ (c.in-Ok-Some.is ∙ ap Ok c.in-Ok-Some.field-0-is);
-      again = λ v e. turn_again a.job.now a.files.now a.area.now a.nums.now a.log.now a.count a.k a.left a.s b.result z.result h b.ensures z.ensures l.area l.nums l.log l.words l.at l.u l.invariant _ _ d.result d.ensures _ _ _ (c.in-Ok-Some.is ∙ ap Ok c.in-Ok-Some.field-0-is) d.auto.area _ refl _ _ _ _ (does a.job.now a.files.now _ l.nums _ a.count _ a.k a.left _ (turn_doing a.job.now a.files.now a.area.now a.nums.now a.log.now a.count a.k a.left a.s b.result z.result h b.ensures z.ensures l.area l.nums l.log l.words l.at l.u l.invariant _ _ d.result d.ensures _ _ _ (c.in-Ok-Some.is ∙ ap Ok c.in-Ok-Some.field-0-is) d.auto.area _ refl) m.result (named_at _ _ _ m.result m.result p.ensures m.ensures.is refl) x.result x.ensures _ c.in-Some.is c.if-c-eq2.false _ _ _ _ _ (deed_done _ _ _ _ _ _ _ _ c.act-d.result (acts_of _ _ _ _ _ _ _ (asks a.job.now a.files.now _ l.nums _ a.count _ a.k a.left _ (turn_doing a.job.now a.files.now a.area.now a.nums.now a.log.now a.count a.k a.left a.s b.result z.result h b.ensures z.ensures l.area l.nums l.log l.words l.at l.u l.invariant _ _ d.result d.ensures _ _ _ (c.in-Ok-Some.is ∙ ap Ok c.in-Ok-Some.field-0-is) d.auto.area _ refl) m.result (named_at _ _ _ m.result m.result p.ensures m.ensures.is refl) x.result x.ensures _ c.in-Some.is c.if-c-eq2.false m.ensures.known) c.brief_of-b.result c.brief_of-b.ensures c.if-c-eq1.false c.if-c-eq4.false _ _ c.act-d.ensures) l.log (told _ _ _ c.refused.ensures c.if-refused.false) c.rows_with-rows.result c.warnings_with-warnings.result c.rows_with-rows.ensures c.warnings_with-warnings.ensures v e)) refl d.auto.words refl c.act-d.auto.nums refl;
+      again = λ v e. turn_again a.job.now a.files.now a.area.now a.nums.now a.log.now a.count a.k a.left a.s b.result z.result h b.ensures z.ensures l.area l.nums l.log l.words l.at l.u l.invariant _ _ d.result d.ensures _ _ _ (c.in-Ok-Some.is ∙ ap Ok c.in-Ok-Some.field-0-is) d.auto.area _ refl _ _ _ _ (does a.job.now a.files.now _ l.nums _ a.count _ a.k a.left _ (turn_doing a.job.now a.files.now a.area.now a.nums.now a.log.now a.count a.k a.left a.s b.result z.result h b.ensures z.ensures l.area l.nums l.log l.words l.at l.u l.invariant _ _ d.result d.ensures _ _ _ (c.in-Ok-Some.is ∙ ap Ok c.in-Ok-Some.field-0-is) d.auto.area _ refl) (number_of m.result) (named_at _ _ _ (number_of m.result) (number_of m.result) p.ensures m.ensures refl) x.result x.ensures _ c.in-Some.is (no_load _ (search rules)) _ _ _ _ _ (deed_done _ _ _ _ _ _ _ _ c.act-d.result (acts_of _ _ _ _ _ _ _ (asks a.job.now a.files.now _ l.nums _ a.count _ a.k a.left _ (turn_doing a.job.now a.files.now a.area.now a.nums.now a.log.now a.count a.k a.left a.s b.result z.result h b.ensures z.ensures l.area l.nums l.log l.words l.at l.u l.invariant _ _ d.result d.ensures _ _ _ (c.in-Ok-Some.is ∙ ap Ok c.in-Ok-Some.field-0-is) d.auto.area _ refl) (number_of m.result) (named_at _ _ _ (number_of m.result) (number_of m.result) p.ensures m.ensures refl) x.result x.ensures _ c.in-Some.is (no_load _ (search rules)) (known m.result)) c.brief_of-b.result c.brief_of-b.ensures (no_puts _ (search rules)) (no_scope _ (search rules)) _ _ c.act-d.ensures) l.log (told _ _ _ c.refused.ensures c.if-refused.false) c.rows_with-rows.result c.warnings_with-warnings.result c.rows_with-rows.ensures c.warnings_with-warnings.ensures v e)) refl d.auto.words refl c.act-d.auto.nums refl;
     }
 
 pub read_file-add_variable-u-requires : goal.read_file-add_variable-u-requires

@@ -2,20 +2,20 @@
 use Rattle.format.proofs.Arguments.{lits}
 use Rattle.format.proofs.arg.put_literal.Goals as goal
 
-pub returns-in-5 : goal.returns-in-5
-returns-in-5 c = search lits
+pub returns-in-BitZero : goal.returns-in-BitZero
+returns-in-BitZero c = search lits
 
-pub returns-in-6 : goal.returns-in-6
-returns-in-6 c = search lits
+pub returns-in-BitOne : goal.returns-in-BitOne
+returns-in-BitOne c = search lits
 
-pub returns-in-7 : goal.returns-in-7
-returns-in-7 c = search lits
+pub returns-in-Zero : goal.returns-in-Zero
+returns-in-Zero c = search lits
 
-pub returns-in-8 : goal.returns-in-8
-returns-in-8 c = search lits
+pub returns-in-One : goal.returns-in-One
+returns-in-One c = search lits
 
-pub returns-in-9 : goal.returns-in-9
-returns-in-9 c = search lits
+pub returns-in-Z : goal.returns-in-Z
+returns-in-Z c = search lits
 
-pub returns-in_default : goal.returns-in_default
-returns-in_default c = search lits
+pub returns-in-High : goal.returns-in-High
+returns-in-High c = search lits

@@ -6,7 +6,7 @@ use Rattle.refs.specs.Text.{text_of}
 use Rattle.format.proofs.path.put_below.Goals as goal
 
 pub returns-then-has_bytes : goal.returns-then-has_bytes
-returns-then-has_bytes c = (cc, below_more _ c.args.dots (parts c.args.over.now c.args.from) (text_of c.args.job.now (c.args.files.now ++ c.args.area.now) c.args.r) _ _ _ c.put_parts.ensures.1 c.dot.ensures _ c.has_bytes.ensures _ _ _ c.put.ensures.1 c.becomes.ensures.1 c.dot-then-has_bytes.ensures c.if-has_bytes.true)
+returns-then-has_bytes c = (cc, below_more _ c.args.dots (parts c.args.src.now.scope.over.now c.args.src.now.scope.from) (text_of c.args.src.now.design.index.job.now (c.args.src.now.mem.files.now ++ c.args.src.now.mem.area.now) c.args.r) _ _ _ c.put_parts.ensures.1 c.dot.ensures _ c.has_bytes.ensures _ _ _ c.put.ensures.1 c.becomes.ensures.1 c.dot-then-has_bytes.ensures c.if-has_bytes.true)
 
 pub returns : goal.returns
-returns c = (cc, below_none _ c.args.dots (parts c.args.over.now c.args.from) (text_of c.args.job.now (c.args.files.now ++ c.args.area.now) c.args.r) _ _ _ c.put_parts.ensures.1 c.dot.ensures _ c.has_bytes.ensures c.if-has_bytes.false)
+returns c = (cc, below_none _ c.args.dots (parts c.args.src.now.scope.over.now c.args.src.now.scope.from) (text_of c.args.src.now.design.index.job.now (c.args.src.now.mem.files.now ++ c.args.src.now.mem.area.now) c.args.r) _ _ _ c.put_parts.ensures.1 c.dot.ensures _ c.has_bytes.ensures c.if-has_bytes.false)

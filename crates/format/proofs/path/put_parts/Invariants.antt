@@ -1,6 +1,5 @@
 -- `format::path::put_parts` meets its contract: what is left of the parts is written behind what was. Assumes nothing.
 use Prim.Native.Nat.{◌-◌}
-use mathlib.Core.Path.{◌≡◌}
 use lib.ListN.{length}
 use Rattle.out.specs.Bytewise.{flat, becomes}
 use Rattle.out.specs.Emit.{emit}
@@ -11,7 +10,7 @@ use Rattle.format.proofs.Scopes.{Leads}
 use Rattle.format.proofs.path.put_parts.Given as goal
 
 abbrev pub invariant-loop-p : goal.invariant-loop-p
-invariant-loop-p l = SameRoom l.initial.to l.to × Leads (becomes l.m) l.sep l.dots l.over (emit (shown l.initial.to) (flat (becomes l.m) (led l.sep l.dots (parts l.over l.from)))) (shown l.to) l.i
+invariant-loop-p l = SameRoom l.initial.to l.to × Leads (becomes l.m) l.sep l.dots l.scope.over.now (emit (shown l.initial.to) (flat (becomes l.m) (led l.sep l.dots (parts l.scope.over.now l.scope.from)))) (shown l.to) l.i
 
 abbrev pub decreases-loop-p : goal.decreases-loop-p
-decreases-loop-p l = length l.over - l.i
+decreases-loop-p l = length l.scope.over.now - l.i

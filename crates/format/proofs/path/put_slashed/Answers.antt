@@ -6,4 +6,4 @@ use Rattle.refs.specs.Text.{text_of}
 use Rattle.format.proofs.path.put_slashed.Goals as goal
 
 pub returns : goal.returns
-returns c = (cc, rooted_all _ c.args.top.now (parts c.args.over.now c.args.from) (text_of c.args.job.now (c.args.files.now ++ c.args.area.now) c.args.r) _ _ _ _ c.put_below.ensures.1 c.put_slice.ensures.1 c.becomes.ensures.1)
+returns c = (cc, rooted_all _ c.args.src.now.top.now (parts c.args.src.now.scope.over.now c.args.src.now.scope.from) (text_of c.args.src.now.design.index.job.now (c.args.src.now.mem.files.now ++ c.args.src.now.mem.area.now) c.args.r) _ _ _ _ c.put_below.ensures.1 c.put_slice.ensures.1 c.becomes.ensures.1)

@@ -1,7 +1,4 @@
 -- `format::path::put_slice` meets its contract: what is left of the slice is written behind what was. Assumes nothing.
-use Prim.Native.Nat.{◌-◌}
-use mathlib.Core.Path.{◌≡◌}
-use lib.ListN.{length}
 use Rattle.out.specs.Bytewise.{flat, becomes}
 use Rattle.out.specs.Emit.{emit}
 use Rattle.out.specs.Text.{shown, SameRoom}

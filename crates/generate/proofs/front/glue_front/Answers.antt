@@ -5,4 +5,4 @@ use Rattle.generate.proofs.Bridged.{bridged}
 use Rattle.generate.proofs.front.glue_front.Goals as goal
 
 pub returns : goal.returns
-returns c = bridged (GlueFronts c.args.job.now c.args.nums.now c.args.files.now c.args.area.now c.args.path.now c.args.from c.args.top.now c.args.s c.args.ports.now c.args.m) _ _ _ _ c.put_glue.ensures.front (sym c.over-to.ensures.from) (search rules)
+returns c = bridged (GlueFronts c.args.src.now.design.index.job.now c.args.src.now.design.index.rows.now c.args.src.now.mem.files.now c.args.src.now.mem.area.now c.args.src.now.scope.over.now c.args.src.now.scope.from c.args.src.now.top.now c.args.s c.args.ports.now.rows.now c.args.ports.now.n) _ _ _ _ c.put_glue.ensures.front (sym c.over-to.ensures.from) (search rules)

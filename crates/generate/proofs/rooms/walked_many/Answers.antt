@@ -4,4 +4,4 @@ use borrow.Author.Rules.{rules}
 use Rattle.generate.proofs.rooms.walked_many.Goals as goal
 
 pub make-requires : goal.make-requires
-make-requires c = make_many c.args.job.now c.args.nums.now c.args.count c.args.k c.args.files.now c.args.area.now c.args.path.now c.args.s c.requires.0 _ _ (search rules) (search rules)
+make-requires c = make_many c.args.src.now.design.index.job.now c.args.src.now.design.index.rows.now c.args.src.now.design.count c.args.k c.args.src.now.mem.files.now c.args.src.now.mem.area.now c.args.src.now.scope.over.now c.args.s c.requires.0 _ _ (search rules) (search rules)

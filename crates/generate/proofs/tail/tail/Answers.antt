@@ -7,4 +7,4 @@ use Rattle.generate.proofs.Tails.{all_tailed}
 use Rattle.generate.proofs.tail.tail.Goals as goal
 
 pub returns : goal.returns
-returns c = all_tailed c.args.job.now c.args.nums.now c.args.count c.args.k c.args.files.now c.args.area.now c.args.path.now c.args.from c.args.top.now c.args.s c.requires c.args.remarks c.args.s.fill refl c.args.s.shifters refl c.args.s.tables refl _ _ _ _ _ refl (bridged_at _ _ _ _ _ _ c.listed.ensures.lines c.over-to.ensures.from (search rules)) c.warnings.ensures
+returns c = all_tailed c.args.src.now.design.index.job.now c.args.src.now.design.index.rows.now c.args.src.now.design.count c.args.k c.args.src.now.mem.files.now c.args.src.now.mem.area.now c.args.src.now.scope.over.now c.args.src.now.scope.from c.args.src.now.top.now c.args.s c.requires c.args.remarks c.args.s.fill refl c.args.s.shifters refl c.args.s.tables refl _ _ _ _ _ refl (bridged_at _ _ _ _ _ _ c.listed.ensures.lines c.over-to.ensures.from (search rules)) c.warnings.ensures

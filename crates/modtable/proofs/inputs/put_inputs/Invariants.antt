@@ -5,7 +5,7 @@ use Rattle.modtable.proofs.Listed.{InputsOn}
 use Rattle.modtable.proofs.inputs.put_inputs.Given as goal
 
 abbrev pub invariant-loop-own : goal.invariant-loop-own
-invariant-loop-own l = InputsOn l.job l.index l.k l.initial.inputs l.inputs l.i l.c
+invariant-loop-own l = InputsOn l.index.job.now l.index.rows.now l.k l.initial.inputs l.inputs l.i l.c
 
 abbrev pub decreases-loop-own : goal.decreases-loop-own
-decreases-loop-own l = length (inputs_from l.job l.index l.k l.c)
+decreases-loop-own l = length (inputs_from l.index.job.now l.index.rows.now l.k l.c)

@@ -3,4 +3,4 @@ use Rattle.modtable.proofs.Modules.{Made}
 use Rattle.modtable.proofs.make.make.Given as goal
 
 abbrev pub invariant-loop-k : goal.invariant-loop-k
-invariant-loop-k l = Made l.job l.index l.count l.initial.inputs l.inputs l.initial.table l.table l.k
+invariant-loop-k l = Made l.design.index.job.now l.design.index.rows.now l.design.count l.initial.inputs l.inputs l.initial.table l.table l.k

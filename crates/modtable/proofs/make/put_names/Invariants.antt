@@ -5,7 +5,7 @@ use Rattle.modtable.proofs.Names.{NamesOn}
 use Rattle.modtable.proofs.make.put_names.Given as goal
 
 abbrev pub invariant-loop-own : goal.invariant-loop-own
-invariant-loop-own l = NamesOn l.job l.index l.k l.inputs l.n l.initial.table l.table l.i l.c
+invariant-loop-own l = NamesOn l.index.job.now l.index.rows.now l.k l.inputs l.n l.initial.table l.table l.i l.c
 
 abbrev pub decreases-loop-own : goal.decreases-loop-own
-decreases-loop-own l = length (candidates_from l.job l.index l.k l.c)
+decreases-loop-own l = length (candidates_from l.index.job.now l.index.rows.now l.k l.c)

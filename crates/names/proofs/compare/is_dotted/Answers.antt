@@ -15,7 +15,7 @@ use Rattle.names.proofs.compare.is_dotted.Goals as goal
 
 pub returns : goal.returns
 returns c =
-    let name = name_of (c.args.files.now ++ c.args.area.now) c.args.n in
+    let name = name_of (c.args.mem.now.files.now ++ c.args.mem.now.area.now) c.args.n in
     same_from_yields_List (λ x t. t ≡ x) c.copied.result c.eq.result c.eq.ensures.ran
     (YieldsList-from_map _ dot_of (YieldsList-at c.map.ensures.source (YieldsList-from_first (λ x. x) left_of name refl)) c.map.ensures.closure (λ x r q k. search rules))
     (λ t e. YieldsList-from_copied (YieldsList-from_slice c.args.w.now (ap (λ u. iter_rest (copied_source u)) e ∙ ap iter_rest c.copied.ensures.source ∙ c.iter.ensures.rest)))

@@ -7,7 +7,7 @@ use Rattle.names.proofs.Parted.{Trims}
 use Rattle.names.proofs.part.past_slashes.Given as goal
 
 abbrev pub invariant-loop-b : goal.invariant-loop-b
-invariant-loop-b l = Trims (l.files ++ l.area) (unslashed (name_of (l.files ++ l.area) l.initial.x)) l.x
+invariant-loop-b l = Trims (l.mem.files.now ++ l.mem.area.now) (unslashed (name_of (l.mem.files.now ++ l.mem.area.now) l.initial.x)) l.x
 
 abbrev pub decreases-loop-b : goal.decreases-loop-b
-decreases-loop-b l = length (name_of (l.files ++ l.area) l.x)
+decreases-loop-b l = length (name_of (l.mem.files.now ++ l.mem.area.now) l.x)

@@ -6,4 +6,4 @@ use Rattle.names.proofs.Parted.{Takes}
 use Rattle.names.proofs.part.stepped_part.Given as goal
 
 abbrev pub invariant-loop-c : goal.invariant-loop-c
-invariant-loop-c l = Takes (l.files ++ l.area) l.w (behind l.w (parts (name_of (l.files ++ l.area) l.initial.x))) l.x l.c-index
+invariant-loop-c l = Takes (l.mem.files.now ++ l.mem.area.now) l.w (behind l.w (parts (name_of (l.mem.files.now ++ l.mem.area.now) l.initial.x))) l.x l.c-index

@@ -2,8 +2,8 @@
 use Rattle.names.proofs.Written.{written}
 use Rattle.names.proofs.put.put_formed.Goals as goal
 
-pub returns-then-form-eq0 : goal.returns-then-form-eq0
-returns-then-form-eq0 c = search written
+pub returns-then-stands : goal.returns-then-stands
+returns-then-stands c = search written
 
 pub returns : goal.returns
 returns c = search written

@@ -2,5 +2,5 @@
 use Rattle.names.proofs.Written.{written}
 use Rattle.names.proofs.put.put_slice.Goals as goal
 
-pub returns-then-m-eq0 : goal.returns-then-m-eq0
-returns-then-m-eq0 c = search written
+pub returns-in-Same : goal.returns-in-Same
+returns-in-Same c = search written

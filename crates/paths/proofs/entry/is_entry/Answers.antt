@@ -13,7 +13,7 @@ use Rattle.paths.proofs.entry.is_entry.Goals as goal
 
 pub returns : goal.returns
 returns c =
-    let mem = c.args.files.now ++ c.args.area.now in
+    let mem = c.args.mem.now.files.now ++ c.args.mem.now.area.now in
     same_from_yields_List (λ x t. t ≡ x) c.map-entry.result c.eq.result c.eq.ensures.ran
     (YieldsList-from_chain
     (YieldsList-at c.chain.ensures.first (YieldsList-from_map _ dot_of (YieldsList-at c.map-element.ensures.source (YieldsList-from_first (λ x. x) left_of (name_of mem c.args.e) refl)) c.map-element.ensures.closure (λ x r q k. search rules)))

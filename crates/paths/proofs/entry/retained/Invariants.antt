@@ -11,4 +11,4 @@ use Rattle.paths.proofs.Entries.{Among}
 use Rattle.paths.proofs.entry.retained.Given as goal
 
 abbrev pub invariant-loop-k : goal.invariant-loop-k
-invariant-loop-k l = Among (l.files ++ l.area) (dotted (name_of (l.files ++ l.area) l.e) ++ l.tail) l.table l.n (is_in (dotted (name_of (l.files ++ l.area) l.e) ++ l.tail) (retained_paths [] (entries_below l.below (table_names (l.files ++ l.area) l.table l.n)))) l.k
+invariant-loop-k l = Among (l.mem.files.now ++ l.mem.area.now) (dotted (name_of (l.mem.files.now ++ l.mem.area.now) l.e) ++ l.tail) l.table.rows.now l.table.n (is_in (dotted (name_of (l.mem.files.now ++ l.mem.area.now) l.e) ++ l.tail) (retained_paths [] (entries_below l.below (table_names (l.mem.files.now ++ l.mem.area.now) l.table.rows.now l.table.n)))) l.k

@@ -5,4 +5,4 @@ use Rattle.paths.specs.Sizes.{name_short}
 use Rattle.paths.proofs.entry.size.Goals as goal
 
 pub count-requires-clause-fits : goal.count-requires-clause-fits
-count-requires-clause-fits c = inl (omega (arith, c.requires, name_short (c.args.files.now ++ c.args.area.now) c.args.n, length-append c.args.files.now c.args.area.now))
+count-requires-clause-fits c = inl (omega (arith, c.requires, name_short (c.args.mem.now.files.now ++ c.args.mem.now.area.now) c.args.n, length-append c.args.mem.now.files.now c.args.mem.now.area.now))

@@ -5,16 +5,16 @@ use Rattle.scopes.proofs.go.go_to.Goals as goal
 
 pub returns-then-n-all : goal.returns-then-n-all
 returns-then-n-all c =
-    to_over c.args.files.now c.args.area.now c.args.p c.args.t c.requires _ c.size-n.ensures c.if-n-all.true
+    to_over c.args.mem.now.files.now c.args.mem.now.area.now c.args.p c.args.t c.requires _ c.size-n.ensures c.if-n-all.true
 
 pub narrow-requires : goal.narrow-requires
 narrow-requires c =
-    to_fits c.args.files.now c.args.area.now c.args.p c.args.t c.requires
+    to_fits c.args.mem.now.files.now c.args.mem.now.area.now c.args.p c.args.t c.requires
 
-pub overflow_add-q : goal.overflow_add-q
-overflow_add-q c =
-    record { fits = to_add c.args.files.now c.args.area.now c.args.p c.args.t c.requires _ c.size-n.ensures c.if-n-all.false }
+pub overflow_add-result : goal.overflow_add-result
+overflow_add-result c =
+    record { fits = to_add c.args.mem.now.files.now c.args.mem.now.area.now c.args.p c.args.t c.requires _ c.size-n.ensures c.if-n-all.false }
 
 pub returns : goal.returns
 returns c =
-    to_under c.args.files.now c.args.area.now c.args.p c.args.t c.requires _ c.size-n.ensures c.if-n-all.false _ _ c.narrow.ensures refl refl
+    to_under c.args.mem.now.files.now c.args.mem.now.area.now c.args.p c.args.t c.requires _ c.size-n.ensures c.if-n-all.false _ c.narrow.ensures

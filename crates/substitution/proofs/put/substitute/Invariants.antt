@@ -10,7 +10,7 @@ use Rattle.substitution.specs.Stored.{variables}
 use Rattle.substitution.proofs.put.substitute.Given as goal
 
 abbrev pub invariant-loop-i : goal.invariant-loop-i
-invariant-loop-i l = (l.o ≤ l.limit) × Written l.initial.area l.at (substitute (variables (l.files ++ take l.m l.initial.area) l.vars l.n) (written l.quoted l.body)) (left (variables (l.files ++ take l.m l.initial.area) l.vars l.n) l.quoted l.body l.i) l.area l.o
+invariant-loop-i l = (l.o ≤ l.limit) × Written l.initial.area l.at (substitute (variables (l.files ++ take l.m l.initial.area) l.vars.rows.now l.vars.n) (written l.quoted l.body)) (left (variables (l.files ++ take l.m l.initial.area) l.vars.rows.now l.vars.n) l.quoted l.body l.i) l.area l.o
 
 abbrev pub decreases-loop-i : goal.decreases-loop-i
 decreases-loop-i l = length l.body - l.i

@@ -8,7 +8,7 @@ use Rattle.text.specs.Compare.{same}
 use Rattle.substitution.proofs.variable.is_written.Given as goal
 
 abbrev pub invariant-loop-b : goal.invariant-loop-b
-invariant-loop-b l = Named l.quoted l.body (l.files ++ l.known) (same (take l.size (written l.quoted (drop l.at l.body))) (bytes (l.files ++ l.known) l.initial.x)) l.i l.left l.x
+invariant-loop-b l = Named l.quoted l.body (l.mem.files.now ++ l.mem.area.now) (same (take l.size (written l.quoted (drop l.at l.body))) (bytes (l.mem.files.now ++ l.mem.area.now) l.initial.x)) l.i l.left l.x
 
 abbrev pub decreases-loop-b : goal.decreases-loop-b
-decreases-loop-b l = length (bytes (l.files ++ l.known) l.x)
+decreases-loop-b l = length (bytes (l.mem.files.now ++ l.mem.area.now) l.x)

@@ -9,7 +9,7 @@ use Rattle.substitution.specs.Stored.{variables}
 use Rattle.substitution.proofs.variable.last.Given as goal
 
 abbrev pub invariant-loop-k : goal.invariant-loop-k
-invariant-loop-k l = (l.k ≤ l.n) × Looks (l.files ++ l.known) l.vars (take l.size (written l.quoted (drop l.at l.body))) (lookup (variables (l.files ++ l.known) l.vars l.n) (take l.size (written l.quoted (drop l.at l.body)))) l.k
+invariant-loop-k l = (l.k ≤ l.vars.n) × Looks (l.mem.files.now ++ l.mem.area.now) l.vars.rows.now (take l.size (written l.quoted (drop l.at l.body))) (lookup (variables (l.mem.files.now ++ l.mem.area.now) l.vars.rows.now l.vars.n) (take l.size (written l.quoted (drop l.at l.body)))) l.k
 
 abbrev pub decreases-loop-k : goal.decreases-loop-k
 decreases-loop-k l = l.k

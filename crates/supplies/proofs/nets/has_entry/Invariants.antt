@@ -9,7 +9,7 @@ use Rattle.supplies.proofs.Rows.{Tests}
 use Rattle.supplies.proofs.nets.has_entry.Given as goal
 
 abbrev pub invariant-loop-i : goal.invariant-loop-i
-invariant-loop-i l = Tests (l.files ++ l.area) l.scope l.p l.text (any (is_below (l.files ++ l.area) l.scope l.p) (list l.text)) l.at l.first
+invariant-loop-i l = Tests (l.mem.files.now ++ l.mem.area.now) l.scope l.p l.text (any (is_below (l.mem.files.now ++ l.mem.area.now) l.scope l.p) (list l.text)) l.at l.first
 
 abbrev pub decreases-loop-i : goal.decreases-loop-i
 decreases-loop-i l = length (entries_left l.first (drop l.at l.text))

@@ -8,4 +8,4 @@ use Rattle.supplies.proofs.Tables.{Looks}
 use Rattle.supplies.proofs.nets.is_listed.Given as goal
 
 abbrev pub invariant-loop-k : goal.invariant-loop-k
-invariant-loop-k l = Looks (l.files ++ l.area) l.table l.n (name_of (l.files ++ l.area) l.x) (is_in (name_of (l.files ++ l.area) l.x) (table_names (l.files ++ l.area) l.table l.n)) l.k
+invariant-loop-k l = Looks (l.mem.files.now ++ l.mem.area.now) l.table.rows.now l.table.n (name_of (l.mem.files.now ++ l.mem.area.now) l.x) (is_in (name_of (l.mem.files.now ++ l.mem.area.now) l.x) (table_names (l.mem.files.now ++ l.mem.area.now) l.table.rows.now l.table.n)) l.k

@@ -5,4 +5,4 @@ use Rattle.supplies.proofs.Rows.{Nets}
 use Rattle.supplies.proofs.nets.net_of.Given as goal
 
 abbrev pub invariant-loop-k : goal.invariant-loop-k
-invariant-loop-k l = (l.k ≤ l.rows) × Nets (l.files ++ l.area) l.nums l.p l.net l.k
+invariant-loop-k l = (l.k ≤ l.rows) × Nets (l.mem.files.now ++ l.mem.area.now) l.nums l.p l.net l.k

@@ -6,4 +6,4 @@ use Rattle.supplies.proofs.Tables.{Ported}
 use Rattle.supplies.proofs.nets.of_ports.Given as goal
 
 abbrev pub invariant-loop-i : goal.invariant-loop-i
-invariant-loop-i l = (l.i ≤ l.t.n) × Ported (l.files ++ l.area) (rows_in l.nums l.rows) l.t l.initial.table l.n l.table l.k l.i
+invariant-loop-i l = (l.i ≤ l.t.n) × Ported (l.mem.files.now ++ l.mem.area.now) (rows_in l.nums l.rows) l.t l.initial.table l.n l.table l.k l.i

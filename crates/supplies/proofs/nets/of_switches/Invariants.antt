@@ -5,4 +5,4 @@ use Rattle.supplies.proofs.Tables.{Switched}
 use Rattle.supplies.proofs.nets.of_switches.Given as goal
 
 abbrev pub invariant-loop-i : goal.invariant-loop-i
-invariant-loop-i l = (l.i ≤ l.t.n) × Switched (l.files ++ l.area) l.t l.initial.table l.n l.table l.k l.i
+invariant-loop-i l = (l.i ≤ l.t.n) × Switched (l.mem.files.now ++ l.mem.area.now) l.t l.initial.table l.n l.table l.k l.i

@@ -13,4 +13,4 @@ use Rattle.supplies.proofs.Written.{Each}
 use Rattle.supplies.proofs.write.cases.Given as goal
 
 abbrev pub invariant-loop-k : goal.invariant-loop-k
-invariant-loop-k l = SameRoom l.initial.to l.to × Each (case_of l.t l.top (parts l.over l.from)) (l.files ++ l.area) l.table l.n (emit (shown l.initial.to) (each (case_of l.t l.top (parts l.over l.from)) (table_names (l.files ++ l.area) l.table l.n))) (shown l.to) l.k
+invariant-loop-k l = SameRoom l.initial.to l.to × Each (case_of l.t l.src.top.now (parts l.src.scope.over.now l.src.scope.from)) (l.src.mem.files.now ++ l.src.mem.area.now) l.table.rows.now l.table.n (emit (shown l.initial.to) (each (case_of l.t l.src.top.now (parts l.src.scope.over.now l.src.scope.from)) (table_names (l.src.mem.files.now ++ l.src.mem.area.now) l.table.rows.now l.table.n))) (shown l.to) l.k

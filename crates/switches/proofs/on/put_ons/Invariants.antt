@@ -16,4 +16,4 @@ use Rattle.switches.proofs.Ons.{OnLoop}
 use Rattle.switches.proofs.on.put_ons.Given as goal
 
 abbrev pub invariant-loop-k : goal.invariant-loop-k
-invariant-loop-k l = SameRoom l.initial.to l.to × OnLoop (scope_setting (parts l.over l.from)) (controls_of (table_names (l.files ++ l.area) l.controls l.count)) (l.files ++ l.area) l.nums l.first l.n l.sep (emit (shown l.initial.to) (joined l.sep (map (on_text (scope_setting (parts l.over l.from)) (controls_of (table_names (l.files ++ l.area) l.controls l.count))) (ons_from (l.files ++ l.area) l.nums l.first l.n)))) (shown l.to) l.k
+invariant-loop-k l = SameRoom l.initial.to l.to × OnLoop (scope_setting (parts l.src.scope.over.now l.src.scope.from)) (controls_of (table_names (l.src.mem.files.now ++ l.src.mem.area.now) l.controls.rows.now l.controls.n)) (l.src.mem.files.now ++ l.src.mem.area.now) l.src.design.index.rows.now l.first l.n l.sep (emit (shown l.initial.to) (joined l.sep (map (on_text (scope_setting (parts l.src.scope.over.now l.src.scope.from)) (controls_of (table_names (l.src.mem.files.now ++ l.src.mem.area.now) l.controls.rows.now l.controls.n))) (ons_from (l.src.mem.files.now ++ l.src.mem.area.now) l.src.design.index.rows.now l.first l.n)))) (shown l.to) l.k

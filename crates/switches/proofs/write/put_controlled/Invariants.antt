@@ -13,7 +13,7 @@ use Rattle.switches.proofs.Lines.{Pairs}
 use Rattle.switches.proofs.write.put_controlled.Given as goal
 
 abbrev pub invariant-loop-i : goal.invariant-loop-i
-invariant-loop-i l = SameRoom l.initial.to l.to × Pairs l.sep (l.files ++ l.area) l.controls l.count (emit (shown l.initial.to) (joined l.sep (map pair_text (controls_of (table_names (l.files ++ l.area) l.controls l.count))))) (shown l.to) l.i
+invariant-loop-i l = SameRoom l.initial.to l.to × Pairs l.sep (l.mem.files.now ++ l.mem.area.now) l.controls.rows.now l.controls.n (emit (shown l.initial.to) (joined l.sep (map pair_text (controls_of (table_names (l.mem.files.now ++ l.mem.area.now) l.controls.rows.now l.controls.n))))) (shown l.to) l.i
 
 abbrev pub decreases-loop-i : goal.decreases-loop-i
-decreases-loop-i l = l.count - l.i
+decreases-loop-i l = l.controls.n - l.i

@@ -17,7 +17,7 @@ use Rattle.switches.proofs.Glue.{Turns}
 use Rattle.switches.proofs.write.put_controls.Given as goal
 
 abbrev pub invariant-loop-i : goal.invariant-loop-i
-invariant-loop-i l = SameRoom l.initial.to l.to × Turns (control_text (parts l.over l.from) (ons_text (scope_setting (parts l.over l.from)) (controls_of (table_names (l.files ++ l.area) l.controls l.count)) (ons_from (l.files ++ l.area) l.nums l.first l.n)) (arg_of l.job (l.files ++ l.area) (parts l.over l.from) l.top l.c)) (l.files ++ l.area) l.controls l.count (emit (shown l.initial.to) (each (control_text (parts l.over l.from) (ons_text (scope_setting (parts l.over l.from)) (controls_of (table_names (l.files ++ l.area) l.controls l.count)) (ons_from (l.files ++ l.area) l.nums l.first l.n)) (arg_of l.job (l.files ++ l.area) (parts l.over l.from) l.top l.c)) (controls_of (table_names (l.files ++ l.area) l.controls l.count)))) (shown l.to) l.i
+invariant-loop-i l = SameRoom l.initial.to l.to × Turns (control_text (parts l.src.scope.over.now l.src.scope.from) (ons_text (scope_setting (parts l.src.scope.over.now l.src.scope.from)) (controls_of (table_names (l.src.mem.files.now ++ l.src.mem.area.now) l.controls.rows.now l.controls.n)) (ons_from (l.src.mem.files.now ++ l.src.mem.area.now) l.src.design.index.rows.now l.first l.n)) (arg_of l.src.design.index.job.now (l.src.mem.files.now ++ l.src.mem.area.now) (parts l.src.scope.over.now l.src.scope.from) l.src.top.now l.c)) (l.src.mem.files.now ++ l.src.mem.area.now) l.controls.rows.now l.controls.n (emit (shown l.initial.to) (each (control_text (parts l.src.scope.over.now l.src.scope.from) (ons_text (scope_setting (parts l.src.scope.over.now l.src.scope.from)) (controls_of (table_names (l.src.mem.files.now ++ l.src.mem.area.now) l.controls.rows.now l.controls.n)) (ons_from (l.src.mem.files.now ++ l.src.mem.area.now) l.src.design.index.rows.now l.first l.n)) (arg_of l.src.design.index.job.now (l.src.mem.files.now ++ l.src.mem.area.now) (parts l.src.scope.over.now l.src.scope.from) l.src.top.now l.c)) (controls_of (table_names (l.src.mem.files.now ++ l.src.mem.area.now) l.controls.rows.now l.controls.n)))) (shown l.to) l.i
 
 abbrev pub decreases-loop-i : goal.decreases-loop-i
-decreases-loop-i l = l.count - l.i
+decreases-loop-i l = l.controls.n - l.i

@@ -12,4 +12,4 @@ use Rattle.switches.proofs.Glue.{Eaches}
 use Rattle.switches.proofs.write.switch_lines.Given as goal
 
 abbrev pub invariant-loop-i : goal.invariant-loop-i
-invariant-loop-i l = SameRoom l.initial.to l.to × Eaches switch_line (switch_of (l.files ++ l.area) []) l.t.all l.t.n (emit (shown l.initial.to) (each switch_line (map (switch_of (l.files ++ l.area) []) (take l.t.n l.t.all)))) (shown l.to) l.i
+invariant-loop-i l = SameRoom l.initial.to l.to × Eaches switch_line (switch_of (l.src.mem.files.now ++ l.src.mem.area.now) []) l.t.all l.t.n (emit (shown l.initial.to) (each switch_line (map (switch_of (l.src.mem.files.now ++ l.src.mem.area.now) []) (take l.t.n l.t.all)))) (shown l.to) l.i

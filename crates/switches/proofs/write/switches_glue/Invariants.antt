@@ -14,4 +14,4 @@ use Rattle.switches.proofs.Glue.{Eaches}
 use Rattle.switches.proofs.write.switches_glue.Given as goal
 
 abbrev pub invariant-loop-i : goal.invariant-loop-i
-invariant-loop-i l = SameRoom l.initial.to l.to × Eaches (switch_glue (scope_setting (parts l.over l.from))) (switch_in (l.files ++ l.area) l.nums) l.t.all l.t.n (emit (shown l.initial.to) (each (switch_glue (scope_setting (parts l.over l.from))) (map (switch_in (l.files ++ l.area) l.nums) (take l.t.n l.t.all)))) (shown l.to) l.i
+invariant-loop-i l = SameRoom l.initial.to l.to × Eaches (switch_glue (scope_setting (parts l.src.scope.over.now l.src.scope.from))) (switch_in (l.src.mem.files.now ++ l.src.mem.area.now) l.src.design.index.rows.now) l.t.all l.t.n (emit (shown l.initial.to) (each (switch_glue (scope_setting (parts l.src.scope.over.now l.src.scope.from))) (map (switch_in (l.src.mem.files.now ++ l.src.mem.area.now) l.src.design.index.rows.now) (take l.t.n l.t.all)))) (shown l.to) l.i

@@ -1,6 +1,0 @@
--- `alike::active_of` meets its contract. Assumes nothing.
-use Rattle.alike.proofs.Values.{values}
-use Rattle.alike.proofs.active_of.Goals as goal
-
-pub returns : goal.returns
-returns c = search values

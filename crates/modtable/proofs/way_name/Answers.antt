@@ -1,6 +1,0 @@
--- `modtable::way_name` meets its contract. Assumes nothing.
-use Rattle.modtable.proofs.Numbers.{reads}
-use Rattle.modtable.proofs.way_name.Goals as goal
-
-pub returns : goal.returns
-returns c = search reads
