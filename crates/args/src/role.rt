@@ -18,6 +18,7 @@ pub enum Role {
 }
 
 // Whether a word is `-` followed by a byte that is no digit.
+#[inline(always)]
 pub fn is_option(mem: &Memory, s: Span) -> bool
     ensures { result ≡ is_option (bytes (memory mem.now) s) }
 {
@@ -34,6 +35,7 @@ pub fn is_option(mem: &Memory, s: Span) -> bool
 }
 
 // What word i of n is, which is like an option: by the word behind it.
+#[inline(always)]
 fn with_value(mem: &Memory, command: &Rows, i: usize) -> Role
     ensures { with_value (words_from (memory mem.now) command.now.rows.now command.now.n (i + 1)) ≡ role_as (bytes (memory mem.now) (pair_at command.now.rows.now (i + 1))) result }
 {
@@ -47,6 +49,7 @@ fn with_value(mem: &Memory, command: &Rows, i: usize) -> Role
 }
 
 // What word i of n is, where it is not the value of the word before it.
+#[inline(always)]
 pub fn role_at(mem: &Memory, command: &Rows, i: usize) -> Role
     ensures { role_of (bytes (memory mem.now) (pair_at command.now.rows.now i)) (words_from (memory mem.now) command.now.rows.now command.now.n (i + 1)) ≡ role_as (bytes (memory mem.now) (pair_at command.now.rows.now (i + 1))) result }
 {

@@ -2,7 +2,7 @@
 use Prim.Native.Nat.{ℕ, ◌+◌, ◌≤◌}
 use mathlib.Core.Path.{◌≡◌}
 use mathlib.Core.List.{List, [], ◌++◌}
-use Rattle.std.specs.Prelude.{Result, Ok, Err, IsErrAnd}
+use Rattle.std.specs.Prelude.{Ok}
 use native.Mathlib.Omega.{arith}
 use lib.Dec.{ltb}
 use lib.ListN.{length, length-append}
@@ -12,14 +12,12 @@ use Rattle.nametable.specs.Table.{table_names}
 use Rattle.walk.specs.Walk.{domain_list, domain_entered}
 use Rattle.paths.specs.Pieces.{entries_below}
 use Rattle.listing.specs.Listing.{Within, Listed}
-use Rattle.listing.specs.declared.TooMany.{TooMany}
 use Rattle.listing.specs.declared.Walk.{Walk}
 use Rattle.corrupt.specs.Corrupt.{DomainGiven}
 use Rattle.store.specs.View.{domain_of}
 use Rattle.store.specs.declared.state.Domain.{Domain}
 use Rattle.domainlists.specs.Lists.{OfDomain, Names}
-use Rattle.domainpaths.specs.Losses.{OfWalk, Loses}
-use Rattle.domainpaths.specs.declared.Loss.{Loss}
+use Rattle.domainpaths.specs.Losses.{OfWalk, Full, Loses}
 
 module _ (job : Bytes) (nums : List ℕ) (count k : ℕ) (table : List ℕ) (files area : Bytes) (kept : ℕ) (d : Domain) (prefix : ℕ) (tail text : Bytes) (ends : List ℕ) (g : OfWalk job nums count k table files area kept d prefix tail text ends) where
   pub walk_elements : (elements : List ℕ) → 325 ≤ length elements → OfDomain files area d elements
@@ -42,12 +40,12 @@ module _ (job : Bytes) (nums : List ℕ) (count k : ℕ) (table : List ℕ) (fil
         tabled = g.tabled;
       }
 
-  pub walk_over : (mods : List Module) (base : Module) (entries : List Bytes) (elements elements' : List ℕ) (m : ℕ) (text' : Bytes) (ends' : List ℕ)
+  pub walk_over : (mods : List Module) (base : Module) (entries : List Bytes) (elements elements' : List ℕ) (m : ℕ)
       → (Within prefix (domain_entered mods base [] (entries_below (ltb 0 prefix) entries) (table_names (files ++ area) elements' m)) (domain_list mods base [] (entries_below (ltb 0 prefix) entries) (table_names (files ++ area) elements' m)) → ⊥)
       → Names (files ++ area) (domain_of (files ++ area) d).elements elements elements' m
-      → (x : TooMany) (r : Result Loss TooMany) → IsErrAnd r (λ y. y ≡ x) → Loses mods base (files ++ area) entries d prefix elements' text' ends' r
-  walk_over mods base entries elements elements' m text' ends' out ns x (Err y) h = rw ns.are at out
-  walk_over mods base entries elements elements' m text' ends' out ns x (Ok l) h = absurd h
+      → Full mods base (files ++ area) entries d prefix elements' (record { elements = m })
+  walk_over mods base entries elements elements' m out ns =
+      record { elements_are = ns.are; elements_few = omega (arith, ns.count, g.elements_few); over = rw ns.are at out }
 
   pub walk_loses : (mods : List Module) (base : Module) (entries : List Bytes) (elements elements' : List ℕ) (m : ℕ) (w : Walk) (text' : Bytes) (ends' : List ℕ)
       → Listed prefix (domain_entered mods base [] (entries_below (ltb 0 prefix) entries) (table_names (files ++ area) elements' m)) (domain_list mods base [] (entries_below (ltb 0 prefix) entries) (table_names (files ++ area) elements' m)) w text' ends'

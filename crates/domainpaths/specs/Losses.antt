@@ -22,6 +22,7 @@ use Rattle.made.specs.Made.{reach_of}
 use Rattle.pathlines.specs.Lines.{below}
 use Rattle.pathlines.specs.Lost.{lost_over, lost_are}
 use Rattle.domainpaths.specs.declared.Loss.{Loss}
+use Rattle.domainpaths.specs.declared.Passed.{Passed}
 
 -- ---- what is asked
 
@@ -47,17 +48,22 @@ pub record Lost (mods : List Module) (base : Module) (mem : Bytes) (entries : Li
   pub elements_few : r.elements ≤ 65
   pub listed : Listed prefix (domain_entered mods base [] (entries_below (ltb 0 prefix) entries) (domain_of mem d).elements) (domain_list mods base [] (entries_below (ltb 0 prefix) entries) (domain_of mem d).elements) r.walk text ends
 
-abbrev pub Loses : List Module → Module → Bytes → List Bytes → Domain → ℕ → List ℕ → Bytes → List ℕ → Result Loss TooMany → Type 0
+pub record Full (mods : List Module) (base : Module) (mem : Bytes) (entries : List Bytes) (d : Domain) (prefix : ℕ) (elements : List ℕ) (x : Passed) : Type 0 where
+  pub elements_are : table_names mem elements x.elements ≡ (domain_of mem d).elements
+  pub elements_few : x.elements ≤ 65
+  pub over : Within prefix (domain_entered mods base [] (entries_below (ltb 0 prefix) entries) (domain_of mem d).elements) (domain_list mods base [] (entries_below (ltb 0 prefix) entries) (domain_of mem d).elements) → ⊥
+
+abbrev pub Loses : List Module → Module → Bytes → List Bytes → Domain → ℕ → List ℕ → Bytes → List ℕ → Result Loss Passed → Type 0
 Loses mods base mem entries d prefix elements text ends (Ok r) = Lost mods base mem entries d prefix elements text ends r
-Loses mods base mem entries d prefix elements text ends (Err _) = Within prefix (domain_entered mods base [] (entries_below (ltb 0 prefix) entries) (domain_of mem d).elements) (domain_list mods base [] (entries_below (ltb 0 prefix) entries) (domain_of mem d).elements) → ⊥
+Loses mods base mem entries d prefix elements text ends (Err x) = Full mods base mem entries d prefix elements x
 
 -- ---- laws: what is lost, below the scope whose path adds `prefix` to each path
 
 module _ (mods : List Module) (base : Module) (mem : Bytes) (scope entries : List Bytes) (d : Domain) (ok : Filled mods) (at : Mem base mods) (bare : scope_path scope ≡ [] → scope ≡ []) (prefix : ℕ) (pre : prefix ≡ length (stem (scope_path scope))) (elements : List ℕ) (text : Bytes) (ends : List ℕ) where
   -- a limit is passed exactly where the walk does not fit
-  pub loses_over : (r : Result Loss TooMany) → Loses mods base mem entries d prefix elements text ends r → is_err r ≡ not (walk_fits mods base scope entries (domain_of mem d).elements)
+  pub loses_over : (r : Result Loss Passed) → Loses mods base mem entries d prefix elements text ends r → is_err r ≡ not (walk_fits mods base scope entries (domain_of mem d).elements)
   loses_over (Ok r) l = lost_over mods base scope entries (domain_of mem d).elements ok at bare prefix pre (Ok r.walk) text ends l.listed
-  loses_over (Err x) out = lost_over mods base scope entries (domain_of mem d).elements ok at bare prefix pre (Err x) text ends out
+  loses_over (Err x) out = lost_over mods base scope entries (domain_of mem d).elements ok at bare prefix pre (Err (record {})) text ends out.over
 
   module _ (r : Loss) (l : Lost mods base mem entries d prefix elements text ends r) where
     -- else the listed paths are those that are lost

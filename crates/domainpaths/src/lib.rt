@@ -13,7 +13,7 @@ ghost use Rattle.jobindex.specs.Modules.{module_in};
 use corrupt::domain_paths;
 use domainlists::domain_elements;
 use jobindex::Design;
-use listing::{TooMany, Walk};
+use listing::Walk;
 use spans::span::Memory;
 use store::state::Domain;
 use text::part::Rows;
@@ -22,6 +22,12 @@ use text::part::Rows;
 #[derive(Clone, Copy)]
 pub struct Loss {
     pub walk: Walk,
+    pub elements: usize,
+}
+
+// A limit of the walk is passed; the domain's elements stand in the table all the same, as many as this.
+#[derive(Clone, Copy, Debug, PartialEq, Eq)]
+pub struct Passed {
     pub elements: usize,
 }
 
@@ -40,12 +46,12 @@ pub fn lost<'a>(
     text: &mut [u8],
     ends: &mut [u32],
     stamp: u32,
-) -> Result<Loss, TooMany>
+) -> Result<Loss, Passed>
     requires { OfWalk design.now.index.job.now design.now.index.rows.now design.now.count k table.now mem.now.files.now mem.now.area.now kept d prefix tail.old text.old ends.old × (325 ≤ length elements.old) }
     ensures { Loses (modules_in design.now) (module_in design.now.index k) (memory mem.now) (table_names (memory mem.now) retained.now kept) d prefix elements.new text.new ends.new result }
 {
     let m = domain_elements(mem, d, elements);
-    let w = domain_paths(
+    match domain_paths(
         design,
         k,
         table,
@@ -64,9 +70,8 @@ pub fn lost<'a>(
         text,
         ends,
         stamp,
-    )?;
-    Ok(Loss {
-        walk: w,
-        elements: m,
-    })
+    ) {
+        Err(_) => Err(Passed { elements: m }),
+        Ok(walk) => Ok(Loss { walk, elements: m }),
+    }
 }

@@ -2,7 +2,7 @@
 use Rattle.store.specs.declared.state.Few.{Few}
 use Rattle.store.specs.declared.state.Isolation.{Isolation}
 use Rattle.store.specs.declared.state.Retention.{Retention}
-use Rattle.std.specs.Prelude.{Option, Some, None, Result, Ok, Err, IsErrAnd, is_err}
+use Rattle.std.specs.Prelude.{Option, Some, None, Result, Ok, Err, is_err}
 use Prim.Native.Nat.{ℕ, ◌≤◌}
 use mathlib.Core.Path.{◌≡◌, refl, sym, ap, ◌∙◌}
 use mathlib.Core.Bool.{Bool, true, false, not}
@@ -47,6 +47,7 @@ use Rattle.domainreport.specs.Reports.{OfReport, orders_report, report_is}
 use Rattle.listing.specs.declared.TooMany.{TooMany}
 use Rattle.domainpaths.specs.Losses.{OfWalk, Lost, Loses, loses_over, loses_paths, loses_room, loses_count}
 use Rattle.domainpaths.specs.declared.Loss.{Loss}
+use Rattle.domainpaths.specs.declared.Passed.{Passed}
 use Rattle.domains.specs.declared.Told.{Told}
 use Rattle.domains.specs.Told.{OfDomains, WalkRoom, shown_ports}
 use Rattle.domains.specs.One.{OfOne, OfTexts, Texts, Bare, Tells, SuppliedTold, OneTold}
@@ -160,12 +161,12 @@ module _ (job : Bytes) (nums : List ℕ) (count k : ℕ) (table : List ℕ) (fil
       entries_are : retained_entries t.records ≡ table_names (files ++ area) retained kept
       entries_are = ap retained_entries st.records_are ∙ all_entries_lem (files ++ area) (store_of nums s) s t.records.log ∙ sym h.kept_are
 
-      over_is : (r : Result Loss TooMany) → Loses (modules job nums count) (module_row job nums k) (files ++ area) (table_names (files ++ area) retained kept) d prefix elements text ends r → is_err r ≡ not (walk_fits t.design t.base t.scope (retained_entries t.records) (domain_of (files ++ area) d).elements)
+      over_is : (r : Result Loss Passed) → Loses (modules job nums count) (module_row job nums k) (files ++ area) (table_names (files ++ area) retained kept) d prefix elements text ends r → is_err r ≡ not (walk_fits t.design t.base t.scope (retained_entries t.records) (domain_of (files ++ area) d).elements)
       over_is r l =
           loses_over (modules job nums count) (module_row job nums k) (files ++ area) (parts path from) (table_names (files ++ area) retained kept) d h.filled at_row (parts_bare path from) prefix h.prefix_is elements text ends r l
           ∙ ap not (sym (fits_same t.design (modules job nums count) t.base (module_row job nums k) t.scope (parts path from) (retained_entries t.records) (table_names (files ++ area) retained kept) (domain_of (files ++ area) d).elements st.design_is st.base_is st.scope_is_lem entries_are))
 
-      walk_over : (x : TooMany) → Loses (modules job nums count) (module_row job nums k) (files ++ area) (table_names (files ++ area) retained kept) d prefix elements text ends (Err x) → walk_fits t.design t.base t.scope (retained_entries t.records) (domain_of (files ++ area) d).elements ≡ false
+      walk_over : (x : Passed) → Loses (modules job nums count) (module_row job nums k) (files ++ area) (table_names (files ++ area) retained kept) d prefix elements text ends (Err x) → walk_fits t.design t.base t.scope (retained_entries t.records) (domain_of (files ++ area) d).elements ≡ false
       walk_over x out = not_true (walk_fits t.design t.base t.scope (retained_entries t.records) (domain_of (files ++ area) d).elements) (over_is (Err x) out)
 
       walk_within : (l : Loss) → Ends l → walk_fits t.design t.base t.scope (retained_entries t.records) (domain_of (files ++ area) d).elements ≡ true
@@ -181,9 +182,8 @@ module _ (job : Bytes) (nums : List ℕ) (count k : ℕ) (table : List ℕ) (fil
       count_is l w = loses_count (modules job nums count) (module_row job nums k) (files ++ area) (parts path from) (table_names (files ++ area) retained kept) d h.filled at_row (parts_bare path from) prefix h.prefix_is elements text ends l w ∙ ap length (sym lost_same)
 
     module _ (top : Bytes) (p q : Below) (g : Out) (glue : Bytes) (o : Out) (report : Bytes) where
-      pub supplied_over : (x : TooMany) → Loses (modules job nums count) (module_row job nums k) (files ++ area) (table_names (files ++ area) retained kept) d prefix elements text ends (Err x) → (r : Result Told TooMany) → IsErrAnd r (λ y. y ≡ x) → SuppliedTold job nums count k files area path from top s ports isolated d p q g glue o report r
-      supplied_over x out (Err _) z = record { told = λ t st. walk_over top t st x out }
-      supplied_over x out (Ok _) z = absurd z
+      pub supplied_over : (x : Passed) → Loses (modules job nums count) (module_row job nums k) (files ++ area) (table_names (files ++ area) retained kept) d prefix elements text ends (Err x) → SuppliedTold job nums count k files area path from top s ports isolated d p q g glue o report (Err (record {}))
+      supplied_over x out = record { told = λ t st. walk_over top t st x out }
 
       pub supplied_texts : (l : Loss) → Ends l → (r : Told) → Texts (files ++ area) (parts path from) s.isolations s.retentions ports isolated d p q (table_names (files ++ area) elements l.elements) (below (parts path from) (paths_of text ends l.walk.count)) l.walk.count g glue o report r → SuppliedTold job nums count k files area path from top s ports isolated d p q g glue o report (Ok r)
       supplied_texts l w r x =

@@ -89,7 +89,7 @@ fn supplied_by<'a>(
     ensures { SuppliedTold src.now.design.index.job.now src.now.design.index.rows.now src.now.design.count k src.now.mem.files.now src.now.mem.area.now src.now.scope.over.now src.now.scope.from src.now.top.now s ports.now.rows.now ports.now.n d p g (glue.old ▸ at.glue) glue.new (report.old ▸ at.report) report.new result }
 {
     let stamp = low(at.report);
-    let l = lost(
+    match lost(
         &src.design,
         k,
         table,
@@ -103,31 +103,35 @@ fn supplied_by<'a>(
         text,
         ends,
         stamp,
-    )?;
-    let w = l.walk;
-    let xs = s.isolations;
-    let rs = s.retentions;
-    Ok(texts(
-        src,
-        xs,
-        rs,
-        ports,
-        d,
-        p,
-        g,
-        &Rows {
-            rows: elements,
-            n: l.elements,
-        },
-        &PathList {
-            text,
-            ends,
-            n: w.count,
-        },
-        glue,
-        report,
-        at,
-    ))
+    ) {
+        Err(_) => Err(TooMany),
+        Ok(l) => {
+            let w = l.walk;
+            let xs = s.isolations;
+            let rs = s.retentions;
+            Ok(texts(
+                src,
+                xs,
+                rs,
+                ports,
+                d,
+                p,
+                g,
+                &Rows {
+                    rows: elements,
+                    n: l.elements,
+                },
+                &PathList {
+                    text,
+                    ends,
+                    n: w.count,
+                },
+                glue,
+                report,
+                at,
+            ))
+        }
+    }
 }
 
 // A domain with both supplies.

@@ -46,6 +46,7 @@ fn slot(mem: &Memory, k: usize, e: Name) -> usize
 }
 
 // Where to begin to look for the first part of an element in module k: at an instance of that name, where the memo has it.
+#[inline(always)]
 #[tactic(auto, using(crate::proofs::Turns::lookups))]
 fn begin(index: &Index, k: usize, mem: &Memory, e: Name, memo: &[usize], h: usize) -> usize
     requires { Asked index.now.job.now index.now.rows.now memo.now k h }
@@ -66,6 +67,7 @@ fn begin(index: &Index, k: usize, mem: &Memory, e: Name, memo: &[usize], h: usiz
 }
 
 // The first instance of module k whose name is the first part of an element, dimensions not looked at; none of that name is before `from`.
+#[inline(always)]
 #[tactic(auto, using(crate::proofs::Turns::downs))]
 fn instance_at(index: &Index, k: usize, mem: &Memory, e: Name, from: usize) -> Option<Down>
     requires { Begins index.now.job.now index.now.rows.now k (first_part (parts (name_of (memory mem.now) e))) from }
@@ -89,6 +91,7 @@ fn instance_at(index: &Index, k: usize, mem: &Memory, e: Name, from: usize) -> O
 }
 
 // The same with a memo, which then has the instance. A module of few lines is looked through without it.
+#[inline(always)]
 #[tactic(auto, using(crate::proofs::Turns::steps))]
 fn step_down(index: &Index, k: usize, mem: &Memory, e: Name, memo: &mut [usize]) -> Option<Down>
     requires { Recalls index.now.job.now index.now.rows.now memo.old k }
@@ -106,6 +109,7 @@ fn step_down(index: &Index, k: usize, mem: &Memory, e: Name, memo: &mut [usize])
 }
 
 // The module that an element leads to from module k, with a memo.
+#[inline(always)]
 #[tactic(auto, using(crate::proofs::Turns::goings))]
 fn module_by(design: &Design, k: usize, mem: &Memory, e: Name, memo: &mut [usize]) -> Option<usize>
     requires { (design.now.count ≤ 128) × ((k < design.now.count) × Known design.now.index.job.now design.now.index.rows.now memo.old) }

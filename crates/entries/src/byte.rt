@@ -59,7 +59,9 @@ fn first_joined(mem: &Memory, s: Span) -> Option<(u8, Span)>
     Some((a, t))
 }
 
-// The first byte of an entry that is a span of the files and the area.
+// The first byte of an entry that is a span of the files and the area. Seldom met, since an entry without a backslash is read as a word: kept out of the
+// loops over names.
+#[inline(never)]
 pub fn first_byte(mem: &Memory, s: Span, quoted: bool) -> Option<(u8, Span)>
     ensures { entry_bytes quoted (bytes (memory mem.now) s) ≡ entry_got quoted (memory mem.now) result }
 {

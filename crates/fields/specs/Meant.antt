@@ -1,6 +1,9 @@
 -- What the answers of the code say: for each case of an enum, the value that the definitions give.
 -- Assumes nothing.
-use Rattle.std.specs.Prelude.{ℕ, ◌≡◌, refl, Bool, true, false, cond, eqb, [], ◌∷◌, Option, None, Some}
+use Rattle.std.specs.Prelude.{ℕ, ◌≡◌, refl, Bool, true, false, cond, not, eqb, [], ◌∷◌, Option, None, Some, unwrap_or}
+use Rattle.std.proofs.Common.{sym, ◌∙◌}
+use Rattle.std.proofs.lemmas.Bool.{not-false}
+use Rattle.text.specs.Sames.{no_true}
 use Rattle.text.specs.Ascii.{Bytes}
 use Rattle.fields.specs.Fields.{among, Dir, Kind, Style, input, output, inout, ref, undirected, net, variable, odd, body, ansi, nonansi, empty}
 use Rattle.fields.specs.declared.Dims.{Dims}
@@ -77,3 +80,18 @@ style_row style.Empty = refl
 abbrev pub is_some : {A : Type 0} → Option A → Bool
 is_some None = false
 is_some (Some a) = true
+
+-- what is known was read: k is the flag, and the value is read from d whatever z is
+pub dims_known : (d : Option Dims) (z : Dims) (k : Bool) → k ≡ is_some (dims_meant d) → not k ≡ false → dims_meant d ≡ Some (dims_is (unwrap_or d z))
+dims_known None z k e h = absurd (no_true (sym e ∙ not-false k h))
+dims_known (Some d) z k e h = refl
+
+-- the same for DIR
+pub dir_known : (d : Option Dir·code) (z : Dir·code) (k : Bool) → k ≡ is_some (dir_meant d) → not k ≡ false → dir_meant d ≡ Some (dir_is (unwrap_or d z))
+dir_known None z k e h = absurd (no_true (sym e ∙ not-false k h))
+dir_known (Some d) z k e h = refl
+
+-- and for KIND
+pub kind_known : (d : Option Kind·code) (z : Kind·code) (k : Bool) → k ≡ is_some (kind_meant d) → not k ≡ false → kind_meant d ≡ Some (kind_is (unwrap_or d z))
+kind_known None z k e h = absurd (no_true (sym e ∙ not-false k h))
+kind_known (Some d) z k e h = refl

@@ -12,7 +12,9 @@ use Rattle.text.specs.Compare.{same}
 use Rattle.text.specs.Lists.{here}
 use Rattle.text.specs.Scan.{split_at}
 use Rattle.out.specs.Emit.{Out, emit, emit_append}
-use Rattle.out.specs.Bytewise.{flat, dotted, dotted_byte, flat_append, flat_two}
+use Rattle.out.specs.declared.bytewise.Mode.{Mode}
+use Rattle.out.specs.declared.bytewise.Mode.TheVariants as mode
+use Rattle.out.specs.Bytewise.{becomes, flat, dotted, dotted_byte, flat_append, flat_two, flat_same}
 use Rattle.out.specs.Items.{each}
 use Rattle.names.specs.Laws.{dotted_map, dotted_none}
 use Rattle.design.specs.Lists.{those}
@@ -51,6 +53,16 @@ module _ (f : ℕ → Bytes) (d : Bool) (p : Bytes) (w o : Out) (i : ℕ) (inv :
   slice_done h = rw (drop_of_length-le p {i = i} h, dots_none d) at inv.keeps
 
 pub ruleset slices = (rules, slice_next, slice_done)
+
+-- ---- a slice, as it stands
+
+pub slice_same : (m : Mode) (d : Bool) (o w : Out) (p : Bytes) → w ≡ emit o p → m ≡ mode.Same → d ≡ false → w ≡ emit o (flat (becomes m) (as_dots d p))
+slice_same m d o w p e h g = rw (h, g, flat_same) e
+
+pub slice_flat : (m : Mode) (d : Bool) (o w : Out) (p : Bytes) → w ≡ emit o (flat (becomes m) p) → d ≡ false → w ≡ emit o (flat (becomes m) (as_dots d p))
+slice_flat m d o w p e g = rw g e
+
+pub ruleset wholes = (rules, slice_same, slice_flat)
 
 -- ---- the parts, each with a byte before it
 

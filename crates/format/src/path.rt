@@ -18,12 +18,26 @@ use refs::{Ref, dot, has_bytes};
 use scope::{ScopePath, next_part};
 use text::part::part;
 
-// Writes a slice in one of the modes of `becomes`, with `/` as `.` where dots are wanted.
-pub fn put_slice(to: &mut Text, m: Mode, dots: bool, p: &[u8])
+// Writes a slice byte by byte.
+fn put_each(to: &mut Text, m: Mode, dots: bool, p: &[u8])
     ensures { Writes to.old (Bytewise·flat (Bytewise·becomes m) (as_dots dots p.now)) to.new }
 {
     for &b in p {
         to.becomes(m, dot(dots, b));
+    }
+}
+
+// Writes a slice in one of the modes of `becomes`, with `/` as `.` where dots are wanted.
+#[tactic(auto, using(crate::proofs::Scopes::wholes))]
+pub fn put_slice(to: &mut Text, m: Mode, dots: bool, p: &[u8])
+    ensures { Writes to.old (Bytewise·flat (Bytewise·becomes m) (as_dots dots p.now)) to.new }
+{
+    if dots {
+        return put_each(to, m, dots, p);
+    }
+    match m {
+        Mode::Same => to.put(p),
+        _ => to.flat(m, p),
     }
 }
 

@@ -78,6 +78,17 @@ named_at table.Files = path_at
 named_at table.Modules = name_at
 named_at table.Insts = inst_at
 
+-- where the name of a table's first row stands, and how far on the next one is
+abbrev pub first_of : Table → ℕ
+first_of table.Files = 0
+first_of table.Modules = 128
+first_of table.Insts = 1152
+
+abbrev pub step_of : Table → ℕ
+step_of table.Files = 4
+step_of table.Modules = 8
+step_of table.Insts = 2
+
 -- the last of the first n rows with a name
 unfoldable pub row_of : (ℕ → Bytes) → Bytes → ℕ → Option ℕ
 row_of f name zero = None

@@ -122,6 +122,10 @@ row_is_lem f name (suc n) k h = go (same (f n) name) refl (λ g. row_is_lem f na
     go true e r g = let z : k ≡ n = cc in rw z (same_eq (f n) name e)
     go false e r g = r g
 
+-- counted from 1 it is at most n
+pub row_le : (f : ℕ → Bytes) (name : Bytes) (n k : ℕ) → Some k ≡ row_of f name n → k + 1 ≤ n
+row_le f name n k h = omega (arith, row_within f name n k h)
+
 -- ---- after a row is put: what stands before it, behind it and in it
 -- stores one after the other, from i on
 abbrev pub puts : List ℕ → ℕ → List ℕ → List ℕ

@@ -7,7 +7,7 @@
 #![tactic(auto)]
 
 ghost use Rattle.std.specs.Prelude.{◌≡◌, ◌+◌, ◌≤◌, ◌<◌, ◌^◌, length};
-ghost use Rattle.jobindex.specs.Index.{index_size, num, bytes_at, path_at, name_at, named_at, row_of};
+ghost use Rattle.jobindex.specs.Index.{index_size, num, bytes_at, path_at, name_at, named_at, first_of, step_of, row_of};
 ghost use Rattle.jobindex.specs.Stores.{Fits, with_four, with_file, with_module, with_name};
 
 pub mod look;
@@ -15,17 +15,17 @@ pub mod look;
 use fields::Style;
 use text::part::place;
 
-// A job and its index.
+// A job and its index. Each has a lifetime of its own: a name of the job lives on when the index is written.
 #[derive(Clone, Copy)]
-pub struct Index<'a> {
+pub struct Index<'a, 'b> {
     pub job: &'a [u8],
-    pub rows: &'a [u32],
+    pub rows: &'b [u32],
 }
 
 // The modules of a job: its index, and how many there are.
 #[derive(Clone, Copy)]
 pub struct Design<'a> {
-    pub index: Index<'a>,
+    pub index: Index<'a, 'a>,
     pub count: usize,
 }
 
@@ -84,7 +84,7 @@ pub fn part_at<'a>(job: &'a [u8], index: &[u32], i: usize) -> &'a [u8]
 
 // The path of file k.
 #[tactic(auto, unfolding(crate::specs::Index::path_at))]
-pub fn path_at<'a>(index: &Index<'a>, k: usize) -> &'a [u8]
+pub fn path_at<'a>(index: &Index<'a, '_>, k: usize) -> &'a [u8]
     requires { k ≤ 128 }
     ensures { result.now ≡ path_at index.now.job.now index.now.rows.now k }
 {
@@ -93,24 +93,48 @@ pub fn path_at<'a>(index: &Index<'a>, k: usize) -> &'a [u8]
 
 // The name of module k.
 #[tactic(auto, unfolding(crate::specs::Index::name_at))]
-pub fn name_at<'a>(index: &Index<'a>, k: usize) -> &'a [u8]
+pub fn name_at<'a>(index: &Index<'a, '_>, k: usize) -> &'a [u8]
     requires { k ≤ 128 }
     ensures { result.now ≡ name_at index.now.job.now index.now.rows.now k }
 {
     part_at(index.job, index.rows, 128 + 8 * k)
 }
 
-// The name of row k of a table.
-#[tactic(auto, unfolding(crate::specs::Index::inst_at))]
-fn named_at<'a>(index: &Index<'a>, table: Table, k: usize) -> &'a [u8]
-    requires { k ≤ 128 }
-    ensures { result.now ≡ named_at table index.now.job.now index.now.rows.now k }
+// Where the name of a table's first row stands.
+fn first_of(table: Table) -> usize
+    ensures { result ≡ first_of table }
 {
     match table {
-        Table::Files => path_at(index, k),
-        Table::Modules => name_at(index, k),
-        Table::Insts => part_at(index.job, index.rows, 1152 + 2 * k),
+        Table::Files => 0,
+        Table::Modules => 128,
+        Table::Insts => 1152,
     }
+}
+
+// How far on the name of the next row is.
+fn step_of(table: Table) -> usize
+    ensures { result ≡ step_of table }
+{
+    match table {
+        Table::Files => 4,
+        Table::Modules => 8,
+        Table::Insts => 2,
+    }
+}
+
+// The name of row k of a table, whose names stand from `first` on, `step` apart: asked once, and not for each row.
+#[tactic(auto, using(crate::proofs::Places::placing))]
+fn named_at<'a>(
+    index: &Index<'a, '_>,
+    table: Table,
+    first: usize,
+    step: usize,
+    k: usize,
+) -> &'a [u8]
+    requires { (k ≤ 128) × ((first ≡ first_of table) × (step ≡ step_of table)) }
+    ensures { result.now ≡ named_at table index.now.job.now index.now.rows.now k }
+{
+    part_at(index.job, index.rows, first + step * k)
 }
 
 // The last of the first `count` rows of a table with a name.
@@ -119,8 +143,10 @@ pub fn row_of(index: &Index, table: Table, count: usize, name: &[u8]) -> Option<
     requires { count ≤ 128 }
     ensures { result ≡ row_of (named_at table index.now.job.now index.now.rows.now) name.now count }
 {
+    let first = first_of(table);
+    let step = step_of(table);
     for k in (0..count).rev() {
-        if text::compare::same(named_at(index, table, k), name) {
+        if text::compare::same(named_at(index, table, first, step, k), name) {
             return Some(k);
         }
     }

@@ -96,6 +96,7 @@ pub fn decl_form(v: &[u8]) -> Option<DeclForm>
 }
 
 // The instance of an instance line's value.
+#[inline(always)]
 #[tactic(auto, using(crate::proofs::Forms::insts))]
 pub fn inst_form(v: &[u8]) -> Option<InstForm>
     ensures { (inst_meant v.now result ≡ inst_of (Lines·fields v.now)) × InstIn v.now result }

@@ -340,6 +340,7 @@ fn port_on(end: usize, head: Header, opened: Open) -> Step
 }
 
 // In a module, behind a declaration. One function for this and for `conns_step` would take the count, the test and the step of each, and be no plainer.
+#[inline(always)]
 pub fn decls_step(
     job: &[u8],
     index: &mut [u32],
@@ -415,6 +416,7 @@ fn conn_on(end: usize, head: Header, opened: Open) -> Step
 }
 
 // In a module, where an instance may stand.
+#[inline(always)]
 fn insts_step(
     job: &[u8],
     index: &mut [u32],
@@ -462,6 +464,7 @@ fn inst_on(index: &mut [u32], at: usize, len: usize, end: usize, head: Header, o
 }
 
 // The module that is being read ends before this line.
+#[inline(always)]
 fn leave_step(
     job: &[u8],
     index: &mut [u32],

@@ -48,6 +48,7 @@ pub enum ConnAt {
 }
 
 // The LF of the line that begins at `at`; `end` where there is none before it.
+#[inline(always)]
 #[tactic(auto, using(crate::proofs::Turns::cuts))]
 pub fn line_end(job: &[u8], at: usize, end: usize) -> usize
     ensures { Cut job.now at end result }
@@ -64,6 +65,7 @@ pub fn line_end(job: &[u8], at: usize, end: usize) -> usize
 }
 
 // The LF of the line that begins at `at`, if there is one before `end`.
+#[inline(always)]
 fn line_feed(job: &[u8], at: usize, end: usize) -> Option<usize>
     ensures { LineFound job.now at end result }
 {
@@ -72,6 +74,7 @@ fn line_feed(job: &[u8], at: usize, end: usize) -> Option<usize>
 }
 
 // The part of a line's value from n on, `len` bytes or all that are there; the value ends at e of the job.
+#[inline(always)]
 #[tactic(auto, using(crate::proofs::Turns::spans))]
 fn span_in(v: &[u8], e: usize, n: usize, len: usize) -> Span
     requires { length v.now ≤ e }
@@ -109,6 +112,7 @@ fn decl_here(line: &[u8]) -> Option<DeclForm>
 }
 
 // The instance of a line, if it is an instance line.
+#[inline(always)]
 #[tactic(auto, using(crate::proofs::Turns::inst_heres))]
 fn inst_here(line: &[u8]) -> Option<InstForm>
     ensures { inst_meant (drop 5 line.now) result ≡ inst_here line.now }
@@ -175,6 +179,7 @@ pub fn next_decl(job: &[u8], at: usize, end: usize) -> Option<DeclAt>
 }
 
 // The next instance of the lines from `at` up to `end`.
+#[inline(always)]
 #[tactic(auto, using(crate::proofs::Turns::inst_turns))]
 pub fn next_inst(job: &[u8], at: usize, end: usize) -> Option<InstAt>
     ensures { InstSeen job.now at end result }

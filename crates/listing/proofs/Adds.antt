@@ -47,13 +47,12 @@ module _ (path text : Bytes) (ends : List ℕ) (count : ℕ) where
     unfolding cut any
     left_none h = rw (drop_of_length-le (take count ends) {i = k} (omega (arith, long))) at inv.keeps
 
-    module _ (h : k < count) (e : ℕ) (ee : e ≡ get_or ends k 0) (n : ℕ) (en : n ≡ e - at) (row : Bytes) (er : row ≡ take n (drop at text)) (b : Bool) (eb : b ≡ same path row) where
+    module _ (h : k < count) (e : ℕ) (ee : e ≡ get_or ends k 0) (b : Bool) (eb : b ≡ same path (section text at e)) where
       first : b || is_in path (cut text e (drop (k + 1) (take count ends))) ≡ t
       unfolding cut any
       first =
           let z : drop k (take count ends) ≡ e ∷ drop (k + 1) (take count ends) = here (take count ends) k (omega (arith, long)) ∙ rw (get_or-take count ends k 0 h, ee) in
-          let y : section text at e ≡ row = rw (er, en) in
-          rw (eb, ← y) (rw z at inv.keeps)
+          rw eb (rw z at inv.keeps)
 
       pub left_here : b ≡ true → true ≡ t
       left_here g = rw g at first

@@ -1,8 +1,9 @@
 -- How a text and its ends stand for a list of paths, how far a walk has come, and what its answer says: a refusal exactly where a limit is passed, else the paths.
 -- Assumes nothing.
-use Rattle.std.specs.Prelude.{ℕ, suc, ◌+◌, ◌%◌, ◌≤◌, ◌<◌, ◌^◌, ◌≡◌, refl, false, List, [], ◌∷◌, ◌++◌, length, take, drop, get_or, Result, Ok, Err, IsErrAnd}
+use Rattle.std.specs.Prelude.{ℕ, suc, ◌+◌, ◌-◌, ◌%◌, ◌≤◌, ◌<◌, ◌^◌, ◌≡◌, refl, Bool, true, false, List, [], ◌∷◌, ◌++◌, length, take, drop, get_or, Result, Ok, Err, IsErrAnd}
 use Rattle.std.proofs.Common.{sym, ap, ◌∙◌, arith, take-take}
 use Rattle.text.specs.Ascii.{Bytes}
+use Rattle.text.specs.Compare.{same}
 use Rattle.text.specs.Lists.{drop_take}
 use Rattle.jobindex.specs.Index.{section}
 use Rattle.names.specs.Name.{name_of}
@@ -26,6 +27,10 @@ cut text at (e ∷ es) = section text at e ∷ cut text e es
 -- the first n paths
 abbrev pub paths_of : Bytes → List ℕ → ℕ → List Bytes
 paths_of text ends n = cut text 0 (take n ends)
+
+-- where r is true, no path that ends in `last` is a row of the text that ends at `end`
+pub record Apart (last : ℕ) (text : Bytes) (end : ℕ) (r : Bool) : Type 0 where
+  pub is : r ≡ true → (path : Bytes) (at : ℕ) → (length path ≡ 0 → ⊥) → get_or path (length path - 1) 0 ≡ last → false ≡ same path (section text at end)
 
 -- places that do not fall, from a up to z
 unfoldable pub Ascends : ℕ → List ℕ → ℕ → Type 0

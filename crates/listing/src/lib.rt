@@ -2,18 +2,20 @@
 // walk's stamp for each listed path, by the path's number. A path is added where the list does not have it yet, within the limits of a domain's walk.
 #![tactic(auto)]
 
-ghost use Rattle.std.specs.Prelude.{◌≡◌, [], ◌∷◌, ◌++◌, ◌≤◌, length};
+ghost use Rattle.std.specs.Prelude.{◌≡◌, [], ◌∷◌, ◌++◌, ◌-◌, ◌≤◌, length, get_or};
+ghost use Rattle.jobindex.specs.Index.{section};
+ghost use Rattle.text.specs.Compare.{same};
 ghost use Rattle.names.specs.Name.{name_of};
 ghost use Rattle.design.specs.Lists.{is_in, add_new};
 ghost use Rattle.design.specs.Paths.{dotted};
 ghost use Rattle.paths.specs.Pieces.{Sized};
 ghost use Rattle.pathnumber.specs.Number.{number as Number·number};
-ghost use Rattle.listing.specs.Listing.{paths_of, flag_place, Flagged, nowhere, Ready, NewGiven, Answer};
+ghost use Rattle.listing.specs.Listing.{paths_of, flag_place, Flagged, nowhere, Ready, NewGiven, Answer, Apart};
 ghost use Rattle.spans.specs.Memory.{memory};
 
 use names::name::Name;
 use spans::span::Memory;
-use text::part::{num, part, place};
+use text::part::{num, part, peek, place};
 
 // The paths that were listed: one behind the other in a text, with the ends of n.
 #[derive(Clone, Copy)]
@@ -51,7 +53,43 @@ pub fn start(stamp: u32) -> Walk
     }
 }
 
-// Whether a path is one of the first `count` of the list.
+// Whether another byte than `last` surely stands in the text before `end`: then no path that ends in `last` is a row that ends there. Most names of a
+// module end in different bytes. Not `refs::end_apart`, which is asked of two slices: here the byte is taken once for all rows.
+#[tactic(auto, using(crate::proofs::Rows::aparts))]
+fn ends_apart(last: u8, text: &[u8], end: usize) -> bool
+    ensures { Apart last text.now end result }
+{
+    if end == 0 || text.len() < end {
+        return false;
+    }
+    text[end - 1] != last
+}
+
+// Whether a path, whose name ends in `last`, is the row of the text from `at` to `end`.
+#[tactic(auto, using(crate::proofs::Rows::rows))]
+fn is_row(
+    mem: &Memory,
+    e: Name,
+    elen: usize,
+    tail: &[u8],
+    name: &[u8],
+    last: u8,
+    text: &[u8],
+    at: usize,
+    end: usize,
+) -> bool
+    requires { Sized (memory mem.now) e elen tail.now name.now × (last ≡ get_or name.now (length name.now - 1) 0) }
+    ensures { result ≡ same (dotted (name_of (memory mem.now) e) ++ (tail.now ++ name.now)) (section text.now at end) }
+{
+    if name.len() != 0 && ends_apart(last, text, end) {
+        return false;
+    }
+    let row = part(text, at, end.saturating_sub(at));
+    paths::path::is_path(mem, e, elen, tail, name, row)
+}
+
+// Whether a path is one of the first `count` of the list. A function of its own, so that its loop has the registers to itself.
+#[inline(never)]
 #[tactic(auto, using(crate::proofs::Adds::lefts))]
 fn listed(
     mem: &Memory,
@@ -66,11 +104,11 @@ fn listed(
     requires { Sized (memory mem.now) e elen tail.now name.now × (count ≤ length ends.now) }
     ensures { result ≡ is_in (dotted (name_of (memory mem.now) e) ++ (tail.now ++ name.now)) (paths_of text.now ends.now count) }
 {
+    let last = peek(name, name.len().saturating_sub(1));
     let mut at = 0;
     for k in 0..count {
         let end = place(ends, k);
-        let row = part(text, at, end.saturating_sub(at));
-        if paths::path::is_path(mem, e, elen, tail, name, row) {
+        if is_row(mem, e, elen, tail, name, last, text, at, end) {
             return true;
         }
         at = end;

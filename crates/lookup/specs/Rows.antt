@@ -1,6 +1,6 @@
 -- What a lookup comes to. A module is the number of its row; the modules of the job are the rows of its index.
 -- Assumes nothing.
-use Rattle.std.specs.Prelude.{ℕ, ◌+◌, ◌<◌, ◌≡◌, refl, List, [], ◌∷◌, Option, None, Some}
+use Rattle.std.specs.Prelude.{ℕ, ◌+◌, ◌<◌, ◌≡◌, refl, List, [], ◌∷◌, Option, None, Some, unwrap_or}
 use Rattle.text.specs.Ascii.{Bytes}
 use Rattle.joblines.specs.Job.{Inst, Module}
 use Rattle.joblines.specs.Sections.{insts_in}
@@ -18,6 +18,15 @@ modules job index count = rows (module_row job index) count
 abbrev pub row_is : Bytes → List ℕ → Option ℕ → Option Module
 row_is job index None = None
 row_is job index (Some k) = Some (module_row job index k)
+
+-- no row is no module
+pub row_none : (job : Bytes) (index : List ℕ) → row_is job index None ≡ None
+row_none job index = refl
+
+-- one that was found is the module of its number, which is read from q whatever z is
+pub row_some : (job : Bytes) (index : List ℕ) (q : Option ℕ) (z : ℕ) → (q ≡ None → ⊥) → row_is job index q ≡ Some (module_row job index (unwrap_or q z))
+row_some job index None z h = absurd (h refl)
+row_some job index (Some k) z h = refl
 
 -- the row is one of the first `count`
 abbrev pub RowIn : ℕ → Option ℕ → Type 0

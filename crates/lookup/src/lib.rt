@@ -28,6 +28,7 @@ pub fn insts_end(index: &[u32], k: usize) -> usize
 }
 
 // The first module of a name among the first `count`.
+#[inline(always)]
 #[tactic(auto, using(crate::proofs::Turns::module_turns))]
 pub fn module_named(design: &Design, name: &[u8]) -> Option<usize>
     requires { design.now.count ≤ 128 }

@@ -1,7 +1,7 @@
 -- The first byte of a word or an entry and of a name, and a name below a scope: laws as the needs ask them. Assumes nothing.
 use Rattle.std.specs.Prelude.{Option, Some, None}
 use Prim.Native.Nat.{ℕ}
-use mathlib.Core.Path.{◌≡◌, refl}
+use mathlib.Core.Path.{◌≡◌, refl, sym, ◌∙◌}
 use mathlib.Core.Bool.{Bool, true, false, ◌&&◌}
 use mathlib.Core.List.{[], ◌∷◌, ◌++◌}
 use native.Mathlib.Omega.{arith}
@@ -10,12 +10,13 @@ use borrow.Author.Rules.{rules}
 use borrow.Author.Tests.{eq-eqb, ne_eqb}
 use Rattle.text.specs.Ascii.{Bytes, ascii, byte}
 use Rattle.text.specs.Compare.{same}
+use Rattle.text.specs.Sames.{no_true}
 use Rattle.spans.specs.Span.{◌⋯◌, bytes, got_of}
 use Rattle.spans.specs.declared.span.Span.{Span}
 use Rattle.entries.specs.Entry.{entry_bytes}
 use Rattle.entries.specs.View.{entry_got}
 use Rattle.names.specs.Scoped.{scoped}
-use Rattle.names.specs.Name.{named, entry_of, slash, name_of, form_got, step_of, Makes}
+use Rattle.names.specs.Name.{named, entry_of, stands, quotes, slash, name_of, form_got, step_of, Makes}
 use Rattle.names.specs.declared.name.Name.{Name}
 use Rattle.names.specs.declared.name.Form.{Form}
 use Rattle.names.specs.declared.name.Form.TheVariants.{Word, Entry, Quoted}
@@ -35,7 +36,21 @@ module _ (mem : Bytes) (s : Span) (form : Form) where
   formed_quoted (Some (b, t)) e h = rw h e
   formed_quoted None e h = rw h e
 
-pub ruleset formed = (rules, formed_plain, formed_entry, formed_quoted)
+-- the same by a test, t, and where it fails by another, q
+pub formed_first : (mem : Bytes) (s : Span) (form : Form) (t : Bool) (r : Option (ℕ × Span)) → t ≡ stands form → t ≡ true → bytes mem s ≡ got_of mem r → entry_of form (bytes mem s) ≡ form_got form mem r
+formed_first mem s Word t (Some (b, u)) e h g = g
+formed_first mem s Word t None e h g = g
+formed_first mem s Entry t r e h g = absurd (no_true (sym e ∙ h))
+formed_first mem s Quoted t r e h g = absurd (no_true (sym e ∙ h))
+
+pub formed_listed : (mem : Bytes) (s : Span) (form : Form) (t q : Bool) (r : Option (ℕ × Span)) → t ≡ stands form → t ≡ false → q ≡ quotes form → entry_bytes q (bytes mem s) ≡ entry_got q mem r → entry_of form (bytes mem s) ≡ form_got form mem r
+formed_listed mem s Word t q r e h k g = absurd (no_true (sym h ∙ e))
+formed_listed mem s Entry t q (Some (b, u)) e h k g = rw k at g
+formed_listed mem s Entry t q None e h k g = rw k at g
+formed_listed mem s Quoted t q (Some (b, u)) e h k g = rw k at g
+formed_listed mem s Quoted t q None e h k g = rw k at g
+
+pub ruleset formed = (rules, formed_first, formed_listed)
 
 -- ---- a name
 

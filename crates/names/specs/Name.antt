@@ -24,6 +24,11 @@ stands Word = true
 stands Entry = false
 stands Quoted = false
 
+abbrev pub quotes : Form → Bool
+quotes Word = false
+quotes Entry = false
+quotes Quoted = true
+
 abbrev pub slash : Bool → Bytes
 slash sep = cond sep (ascii "/") []
 

@@ -3,7 +3,7 @@ ghost use Rattle.std.specs.Prelude.{◌≡◌, false, ◌++◌};
 ghost use Rattle.text.specs.Ascii.{ascii};
 ghost use Rattle.text.specs.Compare.{same};
 ghost use Rattle.spans.specs.Span.{bytes, ◌⋯◌};
-ghost use Rattle.names.specs.Name.{named, entry_of, stands, slash, name_of, is_word, form_got, step_of, Makes};
+ghost use Rattle.names.specs.Name.{named, entry_of, stands, quotes, slash, name_of, is_word, form_got, step_of, Makes};
 ghost use Rattle.spans.specs.Memory.{memory};
 
 use entries::byte::first_byte;
@@ -27,18 +27,19 @@ pub struct Name {
 }
 
 // The first byte of a word or an entry.
+#[inline(always)]
 #[tactic(auto, using(crate::proofs::Firsts::formed))]
 fn first_formed(mem: &Memory, s: Span, form: Form) -> Option<(u8, Span)>
     ensures { entry_of form (bytes (memory mem.now) s) ≡ form_got form (memory mem.now) result }
 {
-    match form {
-        Form::Word => first(mem, s),
-        Form::Entry => first_byte(mem, s, false),
-        Form::Quoted => first_byte(mem, s, true),
+    if stands(form) {
+        return first(mem, s);
     }
+    first_byte(mem, s, is_quoted(form))
 }
 
 // The first byte of what stands behind the scope.
+#[inline(always)]
 #[tactic(auto, using(crate::proofs::Firsts::steps))]
 fn behind_scope(mem: &Memory, n: Name) -> Option<(u8, Name)>
     ensures { slash n.sep ++ entry_of n.form (bytes (memory mem.now) n.word) ≡ step_of (memory mem.now) result }
@@ -51,6 +52,7 @@ fn behind_scope(mem: &Memory, n: Name) -> Option<(u8, Name)>
 }
 
 // The first byte of what is left, and what is left then.
+#[inline(always)]
 #[tactic(auto, using(crate::proofs::Firsts::steps))]
 pub fn next(mem: &Memory, n: Name) -> Option<(u8, Name)>
     ensures { name_of (memory mem.now) n ≡ step_of (memory mem.now) result }
@@ -78,6 +80,7 @@ impl Iterator for Stream<'_> {
 
     ghost remaining = { item_count left_of };
 
+    #[inline(always)]
     fn next(&mut self) -> Option<u8> {
         let (b, left) = next(self.mem, self.left)?;
         self.left = left;
@@ -102,6 +105,13 @@ pub fn stands(form: Form) -> bool
     ensures { result ≡ stands form }
 {
     matches!(form, Form::Word)
+}
+
+// Whether a word is read as a quoted entry.
+fn is_quoted(form: Form) -> bool
+    ensures { result ≡ quotes form }
+{
+    matches!(form, Form::Quoted)
 }
 
 // Whether a name is a word as it stands.

@@ -74,6 +74,7 @@ fn begins_span(mem: &Memory, s: Span, w: &[u8]) -> bool
 }
 
 // Whether the first part of a word is w, and what is left then.
+#[inline(always)]
 #[tactic(auto, using(crate::proofs::Cuts::cuts))]
 fn word_part(mem: &Memory, s: Span, w: &[u8]) -> Part
     ensures { part_of (memory mem.now) result ≡ behind w.now (parts (bytes (memory mem.now) s)) }
@@ -93,6 +94,7 @@ fn word_part(mem: &Memory, s: Span, w: &[u8]) -> Part
 }
 
 // The same for a name with a slash behind its scope: the part lies in the scope.
+#[inline(always)]
 #[tactic(auto, using(crate::proofs::Cuts::scopes))]
 fn scope_part(mem: &Memory, n: Name, w: &[u8]) -> Part
     requires { n.sep ≡ true }
@@ -114,6 +116,7 @@ fn scope_part(mem: &Memory, n: Name, w: &[u8]) -> Part
 }
 
 // Whether the first part of a name is w, and what is left then.
+#[inline(always)]
 #[tactic(auto, using(crate::proofs::Cuts::words))]
 pub fn next_part(mem: &Memory, n: Name, w: &[u8]) -> Part
     ensures { part_of (memory mem.now) result ≡ behind w.now (parts (name_of (memory mem.now) n)) }
@@ -128,6 +131,7 @@ pub fn next_part(mem: &Memory, n: Name, w: &[u8]) -> Part
 }
 
 // A name without the slashes at its start.
+#[inline(always)]
 pub fn past_slashes(mem: &Memory, n: Name) -> Name
     ensures { name_of (memory mem.now) result ≡ unslashed (name_of (memory mem.now) n) }
 {

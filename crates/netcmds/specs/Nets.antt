@@ -2,7 +2,7 @@
 use Rattle.store.specs.declared.state.Few.{Few}
 use Rattle.std.specs.Prelude.{ℕ, suc, ◌+◌, ◌≤◌, ◌<◌, ◌≡◌, refl, Bool, true, ◌||◌, List, [], ◌∷◌, ◌++◌, map, get_or, take, drop}
 use Rattle.std.specs.List.{list_any}
-use Rattle.std.proofs.Common.{arith, ◌∙◌}
+use Rattle.std.proofs.Common.{arith, add-one, ◌∙◌, drop-cons}
 use Rattle.std.proofs.Math.Path.{sym, ap}
 use Rattle.std.proofs.Math.Bool.{false, cond}
 use Rattle.std.proofs.Math.ListN.{length}
@@ -49,6 +49,37 @@ named_is mem b p q r e g m = m.is ∙ ap (λ (u : Span). scoped (bytes mem u) (b
 
 pub called_is : (mem w : Bytes) (b : Below) (y : Name) (k r : Bool) → Name·nameOf mem y ≡ below_of mem b → k ≡ same (Name·nameOf mem y) w → k ≡ r → is_called mem w b ≡ r
 called_is mem w b y k r e h t = ap (λ (u : Bytes). same u w) (sym e) ∙ sym h ∙ t
+
+-- ---- looking for one that passes a test: of the first n elements i are passed, and none of them passes it
+pub record Seeks {A : Type 0} (t : A → Bool) (l : List A) (n i : ℕ) : Type 0 where
+  pub before : i ≤ n
+  pub rest : any t (take n l) ≡ any t (drop i (take n l))
+
+module _ {A : Type 0} (t : A → Bool) (l : List A) (n : ℕ) where
+  -- none is passed at first
+  pub seeks_start : Seeks t l n 0
+  seeks_start = record { before = omega arith; rest = refl }
+
+  -- all are passed: none passes the test
+  pub seeks_end : (i : ℕ) → Seeks t l n i → n ≤ length l → n ≤ i → false ≡ any t (take n l)
+  unfolding any
+  seeks_end i k q h =
+      let e : i ≡ length (take n l) = omega (arith, k.before, length-take-le n l q) in
+      let z : any t (drop i (take n l)) ≡ false = rw (e, drop-length (take n l)) in
+      sym (k.rest ∙ z)
+
+  module _ (i : ℕ) (d : A) (k : Seeks t l n i) (q : n ≤ length l) (h : i < n) where
+    this : any t (drop i (take n l)) ≡ t (get_or l i d) || any t (drop (suc i) (take n l))
+    unfolding any
+    this = rw (drop-cons (take n l) i d (omega (arith, length-take-le n l q)), get_or-take n l i d h)
+
+    -- the next one passes the test
+    pub seeks_here : t (get_or l i d) ≡ true → true ≡ any t (take n l)
+    seeks_here e = sym (k.rest ∙ this ∙ rw e)
+
+    -- the next one does not, and is passed too
+    pub seeks_on : t (get_or l i d) ≡ false → Seeks t l n (i + 1)
+    seeks_on e = record { before = omega arith; rest = k.rest ∙ this ∙ rw (e, add-one i) }
 
 -- whether one passes a test, in the words of the library
 pub any_list : {A : Type 0} (t : A → Bool) (l : List A) → any t l ≡ list_any t l

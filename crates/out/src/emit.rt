@@ -1,7 +1,9 @@
 // A byte, and a piece of text.
 ghost use Rattle.std.specs.Prelude.{◌≡◌, ◌+◌, eqb, length};
-ghost use Rattle.out.specs.Emit.{◌▸◌, emit};
+ghost use Rattle.out.specs.Emit.{◌▸◌, emit, emit1};
 ghost use Rattle.out.specs.Text.{shown, Writes, Writes1};
+
+use text::part::copy;
 
 // A text that is being written: a lent buffer, and the place to write next.
 #[derive(Drop)]
@@ -60,7 +62,7 @@ impl<'a> Text<'a> {
     {
         let n = piece.len();
         if self.at <= self.room.len() && n <= self.room.len() - self.at {
-            self.room[self.at..self.at + n].copy_from_slice(piece);
+            copy(&mut self.room[self.at..self.at + n], piece);
             self.at += n;
             return;
         }
@@ -68,7 +70,16 @@ impl<'a> Text<'a> {
     }
 }
 
-// The same over a buffer and a place: writes piece at the place at.
+// Writes one byte into a buffer at the place at, and returns the place behind it.
+pub fn byte(out: &mut [u8], at: usize, b: u8) -> usize
+    ensures { out.new ▸ result ≡ emit1 (out.old ▸ at) b }
+{
+    let mut to = Text::over(out, at);
+    to.byte(b);
+    to.end()
+}
+
+// Writes piece into a buffer at the place at, and returns the place behind it.
 pub fn put(out: &mut [u8], at: usize, piece: &[u8]) -> usize
     ensures { out.new ▸ result ≡ emit (out.old ▸ at) piece.now }
 {

@@ -85,6 +85,7 @@ pub fn of_job(at: usize, len: usize) -> Ref
 }
 
 // The first byte of a part of the job.
+#[inline(always)]
 fn of_part(job: &[u8], at: usize, len: usize) -> Option<(u8, Ref)>
     ensures { Starts job.now at len result }
 {
@@ -98,6 +99,7 @@ fn of_part(job: &[u8], at: usize, len: usize) -> Option<(u8, Ref)>
 }
 
 // The first byte of what stands behind the name and the slash.
+#[inline(always)]
 fn of_last(job: &[u8], mem: &Memory, r: Ref) -> Option<(u8, Ref)>
     ensures { name_of (memory mem.now) r.last ++ take r.len (drop r.at job.now) ≡ step_of job.now (memory mem.now) result }
 {
@@ -109,6 +111,7 @@ fn of_last(job: &[u8], mem: &Memory, r: Ref) -> Option<(u8, Ref)>
 }
 
 // The first byte of what stands behind the name.
+#[inline(always)]
 fn behind(job: &[u8], mem: &Memory, r: Ref) -> Option<(u8, Ref)>
     ensures { slash r.sep ++ (name_of (memory mem.now) r.last ++ take r.len (drop r.at job.now)) ≡ step_of job.now (memory mem.now) result }
 {
@@ -121,6 +124,7 @@ fn behind(job: &[u8], mem: &Memory, r: Ref) -> Option<(u8, Ref)>
 }
 
 // The first byte of what is left, and what is left then.
+#[inline(always)]
 pub fn next(job: &[u8], mem: &Memory, r: Ref) -> Option<(u8, Ref)>
     ensures { text_of job.now (memory mem.now) r ≡ step_of job.now (memory mem.now) result }
 {
@@ -152,6 +156,7 @@ impl Iterator for Stream<'_> {
 
     ghost remaining = { item_count left_of };
 
+    #[inline(always)]
     fn next(&mut self) -> Option<u8> {
         let (b, left) = next(self.job, self.mem, self.left)?;
         self.left = left;

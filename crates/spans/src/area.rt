@@ -4,7 +4,7 @@ ghost use Rattle.spans.specs.Span.{bytes, ◌⋯◌};
 ghost use Rattle.spans.specs.Area.{Wrote};
 
 use super::span::Span;
-use text::part::part;
+use text::part::{copy, part};
 
 // Writes src to the area from o on, and returns where it ends.
 pub fn append(src: &[u8], area: &mut [u8], o: usize) -> usize
@@ -12,7 +12,7 @@ pub fn append(src: &[u8], area: &mut [u8], o: usize) -> usize
     ensures { Wrote area.old area.new o src.now result }
 {
     let e = o + src.len();
-    area[o..e].copy_from_slice(src);
+    copy(&mut area[o..e], src);
     e
 }
 
@@ -21,7 +21,9 @@ pub fn append_own(area: &mut [u8], a: usize, n: usize, o: usize) -> usize
     requires { (a + n ≤ o) × (o + n ≤ length area.old) }
     ensures { Wrote area.old area.new o (take n (drop a area.old)) result }
 {
-    area.copy_within(a..a + n, o);
+    for i in 0..n {
+        area[o + i] = area[a + i];
+    }
     o + n
 }
 

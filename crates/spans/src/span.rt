@@ -22,6 +22,7 @@ pub struct Span {
 }
 
 // The first byte of what is left of a string.
+#[inline(always)]
 #[tactic(auto, using(crate::proofs::Spans::spans))]
 pub fn first(mem: &Memory, s: Span) -> Option<(u8, Span)>
     ensures { bytes (memory mem.now) s ≡ got_of (memory mem.now) result }
@@ -69,6 +70,7 @@ impl Iterator for Stream<'_> {
 
     ghost remaining = { item_count left_of };
 
+    #[inline(always)]
     fn next(&mut self) -> Option<u8> {
         let (b, left) = first(self.mem, self.left)?;
         self.left = left;
@@ -86,6 +88,7 @@ pub fn size(mem: &Memory, s: Span) -> usize
 }
 
 // The string as a part of whichever slice holds it: all of it, where it does not cross from one to the other.
+#[inline(always)]
 #[tactic(auto, using(crate::proofs::Spans::fetches))]
 pub fn fetch<'a>(mem: &Memory<'a>, s: Span) -> &'a [u8]
     ensures { result.now ≡ take (length result.now) (bytes (memory mem.now) s) }
@@ -98,7 +101,8 @@ pub fn fetch<'a>(mem: &Memory<'a>, s: Span) -> &'a [u8]
     part(mem.area, k, s.len)
 }
 
-// Whether the string is w, byte by byte.
+// Whether the string is w, byte by byte: seldom asked, where a string crosses from the files into the area.
+#[inline(never)]
 fn is_stream(mem: &Memory, s: Span, w: &[u8]) -> bool
     ensures { result ≡ Compare·same (bytes (memory mem.now) s) w.now }
 {
@@ -107,6 +111,7 @@ fn is_stream(mem: &Memory, s: Span, w: &[u8]) -> bool
 }
 
 // Whether the string is w.
+#[inline(always)]
 #[tactic(auto, using(crate::proofs::Spans::is_whole))]
 pub fn is<'a>(mem: &Memory<'a>, s: Span, w: &[u8]) -> bool
     ensures { result ≡ Compare·same (bytes (memory mem.now) s) w.now }

@@ -93,6 +93,14 @@ module _ (mem : Bytes) (words : List ℕ) (n : ℕ) (ss : List State) (want : Bo
     unfolding chosen
     here = ap (chosen want) (pick_some k ss this its)
 
+    -- one state further is a number yet
+    pub putting_next : n < 2 ^ 64 → k + 1 < 2 ^ 64
+    putting_next h = omega (arith, pick_in k ss this its, inv.short)
+
+    -- behind it fewer states are left
+    pub putting_less : length ss - (k + 1) < length ss - k
+    putting_less = omega (arith, pick_in k ss this its)
+
     pub putting_fits : last_of span_end (pairs words 0 n) < 2 ^ 32 → v.at + v.len < 2 ^ 32
     putting_fits h = omega (arith, rw g at (a.within span_end refl))
 

@@ -19,7 +19,7 @@ use text::part::Rows;
 #[derive(Clone, Copy, Debug, PartialEq, Eq)]
 pub struct Full;
 
-// Writes n bytes of a written word from `at` on, and returns where they end. Bytes between them are dropped, so that no `copy_from_slice` writes it.
+// Writes n bytes of a written word from `at` on, and returns where they end. Bytes between them are dropped, so that `text::part::copy` does not write it.
 fn copy(body: &[u8], at: usize, n: usize, quoted: bool, area: &mut [u8], o: usize) -> usize
     requires { (n ≤ length (written quoted (drop at body.now))) × (o + n ≤ length area.old) }
     ensures { Wrote area.old area.new o (take n (written quoted (drop at body.now))) result }

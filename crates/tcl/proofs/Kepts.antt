@@ -1,8 +1,9 @@
 -- Bytes that are written as they are, up to the next backslash. Assumes nothing.
-use Rattle.std.specs.Prelude.{ℕ, zero, suc, ◌+◌, ◌-◌, ◌≤◌, ◌<◌, ◌≡◌, refl, Bool, true, false, List, [], ◌∷◌, ◌++◌, eqb, length, take, drop, get_or}
-use Rattle.std.proofs.Common.{ap, ◌∙◌, arith, rules, drop-drop, length-drop, length-take-le}
+use Rattle.std.specs.Prelude.{ℕ, zero, suc, ◌+◌, ◌-◌, ◌≤◌, ◌<◌, ◌≡◌, refl, Bool, true, false, not, ◌&&◌, List, [], ◌∷◌, ◌++◌, eqb, length, take, drop, get_or}
+use Rattle.std.proofs.Common.{sym, ap, ◌∙◌, arith, rules, drop-drop, length-drop, length-take-le}
 use Rattle.text.specs.Ascii.{Bytes, byte}
-use Rattle.text.specs.Lists.{head_is}
+use Rattle.text.specs.Lists.{head_is, here}
+use Rattle.text.specs.Sames.{no_true}
 use Rattle.text.specs.Scan.{before, up_to, Ends}
 use Rattle.spans.specs.Area.{Wrote}
 use Rattle.spans.specs.Writes.{Written, written_piece}
@@ -45,3 +46,13 @@ module _ (l₀ l s : Bytes) (at i o : ℕ) (w : Written l₀ at (join s) (join (
         written_piece l₀ at (join s) (take (e - i) (drop i s)) (join (drop e s)) l l' o o' (rw k at w) (omega (arith, run_up, d.within)) v
 
 pub ruleset runs = (rules, run_room)
+
+-- ---- a run has a byte
+
+pub run_on : (s : Bytes) (i e : ℕ) (t : Bool) (b : Bool) → i < length s → Ends (i + up_to (byte "\\") (drop i s)) (length s) e → t ≡ (not (eqb (get_or s i 0) (byte "\\")) && b) → t ≡ true → i < e
+unfolding before
+run_on s i e t b h d g k = go (eqb (get_or s i 0) (byte "\\")) refl (sym g ∙ k)
+  where
+    go : (x : Bool) → eqb (get_or s i 0) (byte "\\") ≡ x → (not x && b) ≡ true → i < e
+    go true q z = absurd (no_true z)
+    go false q z = let u : up_to (byte "\\") (drop i s) ≡ suc (up_to (byte "\\") (drop (i + 1) s)) = rw (here s i h, q) in omega (arith, u, d.is_at)

@@ -1,5 +1,6 @@
 // A file's text with its continuations joined: `\` LF and `\` CR LF become a space.
-ghost use Rattle.std.specs.Prelude.{◌≡◌, ◌+◌, ◌≤◌, ◌<◌, length, drop};
+ghost use Rattle.std.specs.Prelude.{◌≡◌, ◌+◌, ◌≤◌, ◌<◌, ◌&&◌, not, eqb, get_or, length, drop};
+ghost use Rattle.text.specs.Ascii.{byte};
 ghost use Rattle.spans.specs.Area.{Wrote};
 ghost use Rattle.tcl.specs.Join.{joint_by, joint as Join·joint, joined_by, join as Join·join};
 
@@ -41,6 +42,14 @@ pub fn joined_by(n: usize, b: u8) -> u8
     b' '
 }
 
+// Whether no backslash stands at i or behind it: then it is worth while to look how far the next one is.
+fn is_far(body: &[u8], i: usize) -> bool
+    requires { i < length body.now }
+    ensures { result ≡ not (eqb (get_or body.now i 0) (byte "\\")) && not (eqb (get_or body.now (i + 1) 0) (byte "\\")) }
+{
+    body[i] != b'\\' && peek(body, i + 1) != b'\\'
+}
+
 // Writes body to the area from `at` on, with a space for each continuation, and returns where it ends.
 pub fn join(body: &[u8], area: &mut [u8], at: usize) -> usize
     requires { at + length body.now ≤ length area.old }
@@ -48,17 +57,18 @@ pub fn join(body: &[u8], area: &mut [u8], at: usize) -> usize
 {
     let mut i = 0;
     let mut o = at;
-    // Counted by hand: the place moves on behind the next backslash, so an iterator is no plainer.
+    // Counted by hand: the place moves on by a run or a piece, so an iterator is no plainer.
     while i < body.len() {
-        let e = find_far(body, i, b'\\');
-        o = append(&body[i..e], area, o);
-        if e == body.len() {
-            return o;
+        if is_far(body, i) {
+            let e = find_far(body, i, b'\\');
+            o = append(&body[i..e], area, o);
+            i = e;
+            continue;
         }
-        let n = joint(body, e);
-        area[o] = joined_by(n, body[e]);
+        let n = joint(body, i);
+        area[o] = joined_by(n, body[i]);
         o += 1;
-        i = e + 1 + n;
+        i = i + 1 + n;
     }
     o
 }

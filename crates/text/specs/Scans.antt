@@ -5,7 +5,7 @@ use Rattle.std.specs.Prelude.{◌≡◌, refl, Bool, true, false, cond, not, ◌
 use Rattle.std.proofs.Math.Path.{sym}
 use Rattle.std.proofs.Common.{ap, ◌∙◌, add-zero, drop_of_length-le, rules, eq-eqb, ne_eqb}
 use native.Mathlib.Omega.{arith}
-use Rattle.std.proofs.lemmas.Bool.{not-false}
+use Rattle.std.proofs.lemmas.Bool.{not-true, not-false}
 use Rattle.text.specs.Ascii.{Bytes}
 use Rattle.text.specs.Scan.{before, is, up_to, Ends, Free}
 use Rattle.text.specs.Lists.{here}
@@ -63,3 +63,17 @@ module _ (p : ℕ → Bool) (s : Bytes) where
 
     pub free_on : (n : ℕ) (t : Bool) → Free p s i n t → not t ≡ false → a ≡ i + n + before p (drop (i + n) s)
     free_on n t c h = inv ∙ (ap (λ k. i + k) (c.passed (not-false t h)) ∙ omega arith)
+
+-- four bytes that are not b, and four times four
+module _ (b : ℕ) (s : Bytes) (i : ℕ) where
+  other_here : (j : ℕ) → j < length s → Free (is b) s j 1 (not (eqb (get_or s j 0) b))
+  other_here j h = free_one (is b) s j (not (eqb (get_or s j 0) b)) h (not-true (eqb (get_or s j 0) b))
+
+  -- four from i on
+  pub free_four : i + 4 ≤ length s → Free (is b) s i 4 (((not (eqb (get_or s i 0) b) && not (eqb (get_or s (i + 1) 0) b)) && not (eqb (get_or s (i + 2) 0) b)) && not (eqb (get_or s (i + 3) 0) b))
+  free_four h =
+      free_and (is b) s i 3 1 _ _ (free_and (is b) s i 2 1 _ _ (free_and (is b) s i 1 1 _ _ (other_here i (omega arith)) (other_here (i + 1) (omega arith))) (other_here (i + 2) (omega arith))) (other_here (i + 3) (omega arith))
+
+  -- sixteen from i on, four by four
+  pub free_sixteen : (v w x y : Bool) → Free (is b) s i 4 v → Free (is b) s (i + 4) 4 w → Free (is b) s (i + 8) 4 x → Free (is b) s (i + 12) 4 y → Free (is b) s i 16 (((v && w) && x) && y)
+  free_sixteen v w x y e f g h = free_and (is b) s i 12 4 _ y (free_and (is b) s i 8 4 _ x (free_and (is b) s i 4 4 v w e f) g) h

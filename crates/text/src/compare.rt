@@ -12,6 +12,7 @@ pub fn same(a: &[u8], b: &[u8]) -> bool
 }
 
 // Whether s begins with p.
+#[inline(always)]
 pub fn starts_with(s: &[u8], p: &[u8]) -> bool
     ensures { result ≡ starts_with p.now s.now }
 {

@@ -1,5 +1,5 @@
 // Parts of byte strings, and single elements: nothing, or 0, where there is none.
-ghost use Rattle.std.specs.Prelude.{◌≡◌, take, drop, get_or};
+ghost use Rattle.std.specs.Prelude.{◌≡◌, take, drop, get_or, length};
 
 // A table of n rows in lent numbers.
 #[derive(Clone, Copy)]
@@ -56,4 +56,15 @@ pub fn place(s: &[u32], i: usize) -> usize
     ensures { result ≡ get_or s.now i 0 }
 {
     wide(num(s, i))
+}
+
+// Writes `from` over `to`, which has as many bytes: a loop and no call of `memcpy`, so that what is exported from it asks nothing of its caller's program
+// (`tests/oracle/layer` looks).
+pub fn copy(to: &mut [u8], from: &[u8])
+    requires { length to.old ≡ length from.now }
+    ensures { to.new ≡ from.now }
+{
+    for i in 0..from.len() {
+        to[i] = from[i];
+    }
 }

@@ -18,7 +18,7 @@ pub mod c;
 
 // Checks 7 to 9, of records that were read.
 fn texts<'a>(
-    index: &Index<'a>,
+    index: &Index<'a, 'a>,
     mem: &Memory<'a>,
     head: Header,
     s: State,

@@ -6,11 +6,11 @@ use Rattle.domains.proofs.supplied_by.Goals as goal
 pub lost-requires : goal.lost-requires
 lost-requires c = (walk_asked _ _ _ _ _ _ _ _ _ _ _ _ _ _ _ c.requires.0.0 _ _ _ _ c.requires.0.1 c.requires.1.0, c.requires.1.1)
 
-pub returns-in_err-l : goal.returns-in_err-l
-returns-in_err-l c = supplied_over _ _ _ _ _ _ _ _ _ _ _ _ _ _ _ c.requires.0.0 _ [] [] [] _ _ _ _ _ _ _ _ c.in_err-l.ensures _ c.from_residual.ensures.1
+pub returns-in-Err : goal.returns-in-Err
+returns-in-Err c = supplied_over _ _ _ _ _ _ _ _ _ _ _ _ _ _ _ c.requires.0.0 _ _ [] [] _ _ _ _ _ _ _ _ c.in-Err.ensures
 
 pub texts-requires : goal.texts-requires
-texts-requires c = texts_asked _ _ _ _ _ _ _ _ _ _ _ _ _ _ _ c.requires.0.0 _ _ _ _ _ c.in_ok-l.ensures
+texts-requires c = texts_asked _ _ _ _ _ _ _ _ _ _ _ _ _ _ _ c.requires.0.0 _ _ _ _ _ c.in-Ok.ensures
 
-pub returns : goal.returns
-returns c = supplied_texts _ _ _ _ _ _ _ _ _ _ _ _ _ _ _ c.requires.0.0 _ _ _ _ _ _ _ _ _ _ _ _ c.in_ok-l.ensures _ c.texts.ensures
+pub returns-in-Ok : goal.returns-in-Ok
+returns-in-Ok c = supplied_texts _ _ _ _ _ _ _ _ _ _ _ _ _ _ _ c.requires.0.0 _ _ _ _ _ _ _ _ _ _ _ _ c.in-Ok.ensures _ c.texts.ensures

@@ -1,6 +1,6 @@
 use mathlib.Core.Path.{refl}
 use Rattle.format.proofs.Scopes.{slices}
-use Rattle.format.proofs.path.put_slice.Goals as goal
+use Rattle.format.proofs.path.put_each.Goals as goal
 
 pub loop-b-init : goal.loop-b-init
 loop-b-init c = (refl, record { keeps = refl })
