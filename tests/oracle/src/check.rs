@@ -61,8 +61,11 @@ pub enum Outcome {
 pub fn in_time<T: Send + 'static>(limit: Duration, work: impl FnOnce() -> T + Send + 'static) -> Option<T> {
     let (send, receive) = mpsc::channel();
     let builder = thread::Builder::new().stack_size(64 << 20);
-    builder.spawn(move || send.send(work())).expect("a thread");
-    receive.recv_timeout(limit).ok()
+    let thread = builder.spawn(move || send.send(work())).expect("a thread");
+    let answer = receive.recv_timeout(limit).ok()?;
+    // joined and not let go: the C library reads what a thread that was let go may have given back when it ended
+    let _ = thread.join();
+    Some(answer)
 }
 
 pub const TIME_LIMIT: Duration = Duration::from_secs(10);
